@@ -1,0 +1,10 @@
+-- Laws. In order: lists at a place that a loop has reached; runs of bytes and places; trimming; taking words; numbers; decimal
+-- digits; bytes put in front of a place; the document's examples.
+pub mod Lists
+pub mod Runs
+pub mod Trimming
+pub mod Taking
+pub mod Numbers
+pub mod Decimals
+pub mod Putting
+pub mod Examples

@@ -1,0 +1,45 @@
+-- Lists at a place that a loop has reached, and proofs by a test. In order: `by-test`, `both`; what is left at a place; what stands
+-- before it.
+-- Assumes nothing.
+use mathlib.Core.Path.{_≡_, refl, ap}
+use mathlib.Core.Bool.{Bool, true, false, _&&_, false≢true, and-false}
+use mathlib.Core.List.{List, [], _∷_, _++_}
+use Prim.Native.Nat.{ℕ, suc, _+_, _-_, _≤_, _<_}
+use native.Mathlib.Numerals.{add-one}
+use native.Mathlib.Omega.{arith}
+use lib.ListN.{length, getD, take, drop, length-drop}
+use Rattle.text.specs.Bytes.{sameLetters}
+use lib.Seq.{drop-cons, take-all, take-suc}
+
+-- by a test: each case may rewrite by what the test says there
+pub by-test : {A : Type 0} (t : Bool) → (t ≡ true → A) → (t ≡ false → A) → A
+by-test true f g = f refl
+by-test false f g = g refl
+
+-- what both halves of a test tell
+pub both : (a b : Bool) → (a && b) ≡ true → (a ≡ true) × (b ≡ true)
+both true b e = (refl, e)
+both false b e = absurd (false≢true e)
+
+-- what is left at i is the byte there, and what is left after it
+pub drop-cons-add-one : (s : List ℕ) (i : ℕ) → i < length s → drop i s ≡ getD s i 0 ∷ drop (i + 1) s
+drop-cons-add-one s i h = rw (add-one, drop-cons s i 0)
+
+-- the part from i to the end is all that is left at i
+pub take-length-sub-drop : (s : List ℕ) (i : ℕ) → take (length s - i) (drop i s) ≡ drop i s
+take-length-sub-drop s i = let h : length (drop i s) ≤ length s - i = omega (arith, length-drop i s) in take-all _ _ h
+
+-- the first e bytes are the first e - 1 and the one there
+pub take-snoc : (s : List ℕ) (e : ℕ) → 0 < e → e ≤ length s → take e s ≡ take (e - 1) s ++ (getD s (e - 1) 0 ∷ [])
+take-snoc s e p h =
+    let k : suc (e - 1) ≡ e = omega arith in
+    let l : e - 1 < length s = omega arith in
+    rw k at (take-suc s (e - 1) 0 l)
+
+-- texts of two lengths are not the same
+pub sameLetters-of-length : (s t : List ℕ) → (length s ≡ length t → ⊥) → sameLetters s t ≡ false
+unfolding sameLetters
+sameLetters-of-length [] [] h = absurd (h refl)
+sameLetters-of-length [] (y ∷ t) h = refl
+sameLetters-of-length (x ∷ s) [] h = refl
+sameLetters-of-length (x ∷ s) (y ∷ t) h = rw (sameLetters-of-length s t (λ e. h (ap suc e)), and-false)

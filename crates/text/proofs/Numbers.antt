@@ -1,0 +1,79 @@
+-- Digits and their value. In order: what a digit is; reading on from a value; what fits; the sign put on before or after the test;
+-- how large a short text's number can be.
+-- Assumes nothing.
+use mathlib.Core.Path.{_≡_, refl, sym, ap, _∙_}
+use mathlib.Core.Bool.{Bool, true, false, cond, _&&_}
+use mathlib.Core.List.{List, [], _∷_}
+use Prim.Native.Nat.{ℕ, zero, suc, _+_, _-_, _*_, _^_, _≤_, _<_}
+use native.Mathlib.Omega.{arith}
+use native.Mathlib.Nat.{zero-add, not-suc-le-zero, pow-suc}
+use borrow.Author.Tests.{lt-leb, le-leb, leb-true, lt-ltb, le-ltb, leb-false}
+use lib.Dec.{leb, ltb, leb·suc-suc}
+use lib.IntN.{ℤ, pos, negsuc, _-ℤ_, negℤ}
+use lib.ListN.{length}
+use lib.Signed.{leZ, ltZ}
+use Rattle.text.specs.Bytes.{isDigit}
+use Rattle.text.specs.Number.{readFrom, digitsOf, unsignedOf, signedOf, fit, fitSigned, plus, minus, AtMost}
+use Rattle.text.specs.declared.number.Number.{Number}
+use Rattle.text.specs.declared.number.Number.the-variants.{Value, Not}
+use Rattle.text.specs.declared.number.Integer.{Integer}
+use Rattle.text.specs.declared.number.Integer.the-variants.{Is, NotOne}
+use Rattle.text.proofs.Lists.{by-test, both}
+
+pub digit-range : (b : ℕ) → isDigit b ≡ true → (48 ≤ b) × (b ≤ 57)
+unfolding isDigit
+digit-range b e = let p = both (leb 48 b) (leb b 57) e in (leb-true _ _ (p .0), leb-true _ _ (p .1))
+
+pub isDigit-of-le : (b : ℕ) → 48 ≤ b → b ≤ 57 → isDigit b ≡ true
+unfolding isDigit
+isDigit-of-le b h k = rw (le-leb 48 b h, le-leb b 57 k)
+
+-- one digit more
+pub readFrom-cons : (s : List ℕ) (v b d : ℕ) → isDigit b ≡ true → d ≡ b - 48 → readFrom v (b ∷ s) ≡ readFrom (10 * v + d) s
+unfolding readFrom
+readFrom-cons s v b d h e = rw (h, e)
+
+-- ---- what fits
+-- a value past the limit stays past it
+pub fit-readFrom-of-lt : (s : List ℕ) (limit v : ℕ) → limit < v → fit limit (readFrom v s) ≡ Not
+unfolding fit readFrom
+fit-readFrom-of-lt [] limit v h = rw (lt-leb v limit h)
+fit-readFrom-of-lt (b ∷ s) limit v h = by-test (isDigit b) (λ e. rw e (fit-readFrom-of-lt s limit (10 * v + (b - 48)) (omega arith))) (λ e. rw e)
+
+-- an answer r that was fitted is at most the limit
+pub AtMost-of-fit : (limit k : ℕ) (x r : Number) → r ≡ fit limit x → limit ≤ k → AtMost k r
+unfolding fit
+AtMost-of-fit limit k (Value n) r e h = rw e (by-test (leb n limit) (λ y. rw y (omega (arith, leb-true n limit y))) (λ y. rw y tt))
+AtMost-of-fit limit k Not r e h = rw e tt
+
+-- ---- the sign
+-- at most one less is below
+leb-pred : (n half : ℕ) → 0 < half → leb n (half - 1) ≡ ltb n half
+leb-pred n half h =
+    by-test (leb n (half - 1)) (λ e. e ∙ sym (lt-ltb n half (omega (arith, leb-true n (half - 1) e)))) (λ e. e ∙ sym (le-ltb n half (omega (arith, leb-false n (half - 1) e))))
+
+pub negℤ-pos : (m : ℕ) → 0 < m → negℤ (pos m) ≡ negsuc (m - 1)
+negℤ-pos zero h = absurd (not-suc-le-zero h)
+negℤ-pos (suc m) h = let e : m ≡ suc m - 1 = omega arith in ap negsuc e
+
+-- -1 less k
+pub minus-one-sub : (k : ℕ) → negsuc 0 -ℤ pos k ≡ negsuc k
+minus-one-sub zero = refl
+minus-one-sub (suc k) = rw zero-add
+
+-- no number from 0 up is below the least
+least-le-pos : (half n : ℕ) → leZ (negℤ (pos half)) (pos n) ≡ true
+least-le-pos zero n = le-leb 0 n (omega arith)
+least-le-pos (suc h) n = refl
+
+pub fitSigned-plus : (half : ℕ) (x : Number) → 0 < half → fitSigned half (plus x) ≡ plus (fit (half - 1) x)
+unfolding fit fitSigned
+fitSigned-plus half (Value n) h = rw (least-le-pos half n, leb-pred n half h) (by-test (ltb n half) (λ e. rw e) (λ e. rw e))
+fitSigned-plus half Not h = refl
+
+pub fitSigned-minus : (half : ℕ) (x : Number) → 0 < half → fitSigned half (minus x) ≡ minus (fit half x)
+unfolding fit fitSigned
+fitSigned-minus zero x h = absurd (not-suc-le-zero h)
+fitSigned-minus (suc h) (Value zero) p = rw (lt-ltb 0 (suc h) p, le-leb 0 (suc h) (omega arith))
+fitSigned-minus (suc h) (Value (suc n)) p = rw (leb·suc-suc) (by-test (leb n h) (λ e. rw e) (λ e. rw e))
+fitSigned-minus (suc h) Not p = refl

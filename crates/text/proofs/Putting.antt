@@ -1,0 +1,66 @@
+-- Laws of bytes put in front of a place `e` of a room: what stands before it (`take-put`) and from it on (`drop-put`); digits put one by
+-- one from the last (`digits-put`). Assumes nothing.
+use mathlib.Core.Path.{_≡_, refl, sym, ap, _∙_}
+use mathlib.Core.List.{List, [], _∷_, _++_}
+use Prim.Native.Nat.{ℕ, zero, suc, _+_, _-_, _*_, _/_, _%_, _≤_, _<_}
+use native.Mathlib.Omega.{arith}
+use lib.ListN.{length, take, drop, set, length-set}
+use lib.Seq.{set-split, take-append-le, take-take, drop-at, length-take-le}
+use Rattle.text.specs.Decimal.{decimal, decimalBefore, twoBefore}
+use Rattle.text.proofs.Decimals.{decimalBefore-of-le, decimalBefore-of-lt, length-decimal-of-le, length-decimal-of-lt, length-decimal-pos}
+
+pub set-put : (l : List ℕ) (e b : ℕ) → 0 < e → e ≤ length l → set l (e - 1) b ≡ take (e - 1) l ++ b ∷ drop e l
+set-put l e b p h =
+    let k : suc (e - 1) ≡ e = omega arith in
+    let i : e - 1 < length l = omega arith in
+    set-split l (e - 1) b i ∙ ap (λ (n : ℕ). take (e - 1) l ++ b ∷ drop n l) k
+
+pub take-put : (j e : ℕ) (l t : List ℕ) → j ≤ e → e ≤ length l → take j (take e l ++ t) ≡ take j l
+take-put j e l t h k = let n : j ≤ length (take e l) = omega (arith, length-take-le e l k) in take-append-le j (take e l) t n ∙ take-take j e l h
+
+pub drop-put : (e : ℕ) (l t : List ℕ) → e ≤ length l → drop e (take e l ++ t) ≡ t
+drop-put e l t k = drop-at (take e l) t e (length-take-le e l k)
+
+-- the digits of n in front of e
+abbrev pub put : ℕ → ℕ → List ℕ → List ℕ
+put n e l = take (e - length (decimal n)) l ++ decimalBefore n (drop e l)
+
+-- the last digit first: what is left to put are the others, in front of it
+pub put-of-le : (n e : ℕ) (l : List ℕ) → 10 ≤ n → length (decimal n) ≤ e → e ≤ length l
+    → put n e l ≡ put (n / 10) (e - 1) (take (e - 1) l ++ (48 + n % 10) ∷ drop e l)
+put-of-le n e l h k i =
+    let d : length (decimal n) ≡ length (decimal (n / 10)) + 1 = length-decimal-of-le n h in
+    let j : e - 1 - length (decimal (n / 10)) ≡ e - length (decimal n) = omega arith in
+    let m : e - 1 ≤ length l = omega arith in
+    let o : e - length (decimal n) ≤ e - 1 = omega (arith, length-decimal-pos n) in
+    rw (j, take-put (e - length (decimal n)) (e - 1) l ((48 + n % 10) ∷ drop e l) o m, drop-put (e - 1) l ((48 + n % 10) ∷ drop e l) m, decimalBefore-of-le n (drop e l) h)
+
+pub put-of-lt : (n e : ℕ) (l : List ℕ) → n < 10 → put n e l ≡ take (e - 1) l ++ (48 + n) ∷ drop e l
+put-of-lt n e l h = rw (length-decimal-of-lt n h, decimalBefore-of-lt n (drop e l) h)
+
+pub length-put : (l : List ℕ) (e b : ℕ) → 0 < e → e ≤ length l → length (take (e - 1) l ++ b ∷ drop e l) ≡ length l
+length-put l e b p h = ap length (sym (set-put l e b p h)) ∙ length-set l (e - 1) b
+
+-- two bytes, one after the other
+pub two-put : (l : List ℕ) (e a b : ℕ) → 1 < e → e ≤ length l
+    → take (e - 1 - 1) (take (e - 1) l ++ b ∷ drop e l) ++ a ∷ drop (e - 1) (take (e - 1) l ++ b ∷ drop e l) ≡ take (e - 2) l ++ a ∷ b ∷ drop e l
+two-put l e a b p h =
+    let k : e - 1 - 1 ≡ e - 2 = omega arith in
+    let i : e - 2 ≤ e - 1 = omega arith in
+    let j : e - 1 ≤ length l = omega arith in
+    rw (k, take-put (e - 2) (e - 1) l (b ∷ drop e l) i j, drop-put (e - 1) l (b ∷ drop e l) j)
+
+-- a second put, in front of the first
+pub put-put : (f : List ℕ → List ℕ) (l t r r′ : List ℕ) (i j e : ℕ) → r ≡ take e l ++ t → r′ ≡ take i r ++ f (drop e r) → i ≡ j → j ≤ e → e ≤ length l → r′ ≡ take j l ++ f t
+put-put f l t r r′ i j e p q s h k = q ∙ (λ x. take (s x) (p x) ++ f (drop e (p x))) ∙ (λ x. take-put j e l t h k x ++ f (drop-put e l t k x))
+
+pub offset-put : (l r₁ r₂ r₃ r₄ : List ℕ) (e s h m : ℕ) → 5 < e → e ≤ length l
+    → r₁ ≡ take (e - 2) l ++ twoBefore m (drop e l)
+    → r₂ ≡ take (e - 2 - 2) r₁ ++ twoBefore h (drop (e - 2) r₁)
+    → r₃ ≡ take (e - 4 - 1) r₂ ++ s ∷ drop (e - 4) r₂
+    → r₄ ≡ take (e - 5 - 1) r₃ ++ 32 ∷ drop (e - 5) r₃
+    → r₄ ≡ take (e - 6) l ++ 32 ∷ s ∷ twoBefore h (twoBefore m (drop e l))
+offset-put l r₁ r₂ r₃ r₄ e s h m p k e₁ e₂ e₃ e₄ =
+    let s₂ = put-put (twoBefore h) l (twoBefore m (drop e l)) r₁ r₂ (e - 2 - 2) (e - 4) (e - 2) e₁ e₂ (omega arith) (omega arith) (omega arith) in
+    let s₃ = put-put (λ (t : List ℕ). s ∷ t) l (twoBefore h (twoBefore m (drop e l))) r₂ r₃ (e - 4 - 1) (e - 5) (e - 4) s₂ e₃ (omega arith) (omega arith) (omega arith) in
+    put-put (λ (t : List ℕ). 32 ∷ t) l (s ∷ twoBefore h (twoBefore m (drop e l))) r₃ r₄ (e - 5 - 1) (e - 6) (e - 5) s₃ e₄ (omega arith) (omega arith) (omega arith)

@@ -1,0 +1,61 @@
+-- Trimming. In order: the clause of `trimEnd` from the end; a text that opens with no white space still does without the white
+-- space that ends it; trimming what is trimmed changes nothing.
+-- Assumes nothing.
+use mathlib.Core.Path.{_≡_, refl, ap, _∙_}
+use mathlib.Core.Bool.{Bool, true, false, cond}
+use mathlib.Core.List.{List, [], _∷_, _++_, reverse, reverse-append, reverse-cons, reverse-reverse}
+use Prim.Native.Nat.{ℕ, _≤_}
+use native.Mathlib.Nat.{le-refl}
+use native.Mathlib.Omega.{arith}
+use lib.ListN.{length}
+use Rattle.text.specs.Bytes.{isSpace}
+use Rattle.text.specs.Trim.{trimStart, trimEnd, trim}
+use Rattle.text.proofs.Lists.{by-test}
+
+pub trimEnd-snoc : (s : List ℕ) (b : ℕ) → trimEnd (s ++ (b ∷ [])) ≡ cond (isSpace b) (trimEnd s) (s ++ (b ∷ []))
+unfolding trimEnd trimStart
+trimEnd-snoc s b = rw (reverse-append s (b ∷ [])) (go (isSpace b))
+  where
+    go : (t : Bool) → reverse (cond t (trimStart (reverse s)) (b ∷ reverse s)) ≡ cond t (reverse (trimStart (reverse s))) (s ++ (b ∷ []))
+    go true = refl
+    go false = reverse-cons b (reverse s) ∙ rw reverse-reverse
+
+pub length-trimStart-le : (s : List ℕ) → length (trimStart s) ≤ length s
+unfolding trimStart
+length-trimStart-le [] = le-refl 0
+length-trimStart-le (b ∷ s) = by-test (isSpace b) (λ e. rw e (omega (arith, length-trimStart-le s))) (λ e. rw e (le-refl _))
+
+trimStart-trimStart : (s : List ℕ) → trimStart (trimStart s) ≡ trimStart s
+unfolding trimStart
+trimStart-trimStart [] = refl
+trimStart-trimStart (b ∷ s) = by-test (isSpace b) (λ e. rw e (trimStart-trimStart s)) (λ e. rw (e, e))
+
+-- a text that opens with white space is not trimmed
+not-trimmed : (b : ℕ) (s : List ℕ) → trimStart s ≡ b ∷ s → ⊥
+not-trimmed b s h = omega (arith, length-trimStart-le s, ap length h)
+
+-- a trimmed start is trimmed without its last byte too
+trimStart-of-snoc : (s : List ℕ) (b : ℕ) → trimStart (s ++ (b ∷ [])) ≡ s ++ (b ∷ []) → trimStart s ≡ s
+unfolding trimStart
+trimStart-of-snoc [] b h = refl
+trimStart-of-snoc (c ∷ s) b h = by-test (isSpace c) (λ e. absurd (not-trimmed c (s ++ (b ∷ [])) (rw e at h))) (λ e. rw e)
+
+-- the same of every byte that ends it, the text taken from its end
+trimStart-reverse : (r : List ℕ) → trimStart (reverse r) ≡ reverse r → trimStart (reverse (trimStart r)) ≡ reverse (trimStart r)
+unfolding trimStart
+trimStart-reverse [] h = refl
+trimStart-reverse (b ∷ r) h =
+    by-test (isSpace b) (λ e. rw e (trimStart-reverse r (trimStart-of-snoc (reverse r) b (rw reverse-cons at h)))) (λ e. rw e h)
+
+trimStart-trimEnd : (s : List ℕ) → trimStart s ≡ s → trimStart (trimEnd s) ≡ trimEnd s
+unfolding trimEnd
+trimStart-trimEnd s h = trimStart-reverse (reverse s) (rw reverse-reverse h)
+
+trimEnd-trimEnd : (s : List ℕ) → trimEnd (trimEnd s) ≡ trimEnd s
+unfolding trimEnd
+trimEnd-trimEnd s = rw (reverse-reverse, trimStart-trimStart)
+
+-- trimming what is trimmed changes nothing
+pub trim-trim : (s : List ℕ) → trim (trim s) ≡ trim s
+unfolding trim
+trim-trim s = rw (trimStart-trimEnd (trimStart s) (trimStart-trimStart s), trimEnd-trimEnd)

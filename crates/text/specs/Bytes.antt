@@ -1,0 +1,42 @@
+-- What a byte is: white space, a digit, a sign, a letter; and what a text is made of. A text is a list of bytes, a byte a number
+-- from 0 to 255.
+-- Assumes nothing.
+use Prim.Native.Nat.{ℕ, _+_}
+use Prim.Native.Char.{code}
+use mathlib.Core.Bool.{Bool, true, false, cond, _&&_, _||_}
+use mathlib.Core.List.{List, [], _∷_}
+use lib.Dec.{leb, ltb, eqb}
+
+-- from lo to hi, both counted
+abbrev pub between : ℕ → ℕ → ℕ → Bool
+between lo hi b = leb lo b && leb b hi
+
+-- white space: bytes 9 to 13 and 32
+unfoldable pub isSpace : ℕ → Bool
+isSpace b = between 9 13 b || eqb b 32
+
+unfoldable pub isDigit : ℕ → Bool
+isDigit b = between (code "0") (code "9") b
+
+unfoldable pub isSign : ℕ → Bool
+isSign b = eqb b (code "+") || eqb b (code "-")
+
+-- ASCII letters and digits
+unfoldable pub isAlphanumeric : ℕ → Bool
+isAlphanumeric b = between (code "0") (code "9") b || (between (code "A") (code "Z") b || between (code "a") (code "z") b)
+
+-- the small letter of a capital one; other bytes are their own
+unfoldable pub lowerOf : ℕ → ℕ
+lowerOf b = cond (between (code "A") (code "Z") b) (b + 32) b
+
+-- no byte of 128 or more
+unfoldable pub ascii : List ℕ → Bool
+ascii [] = true
+ascii (b ∷ s) = ltb b 128 && ascii s
+
+-- the same in any letter case
+unfoldable pub sameLetters : List ℕ → List ℕ → Bool
+sameLetters [] [] = true
+sameLetters [] (y ∷ t) = false
+sameLetters (x ∷ s) [] = false
+sameLetters (x ∷ s) (y ∷ t) = eqb (lowerOf x) (lowerOf y) && sameLetters s t

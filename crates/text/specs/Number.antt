@@ -1,0 +1,58 @@
+-- Numbers: an optional sign, then digits only, at least one, and the result fits the width. Values are unbounded; `fit` and
+-- `fitSigned` alone know a width.
+-- Assumes nothing.
+use Prim.Native.Nat.{ℕ, _+_, _-_, _*_, _≤_}
+use Prim.Native.Char.{code}
+use mathlib.Core.Bool.{cond, _&&_}
+use mathlib.Core.List.{List, [], _∷_}
+use lib.Dec.{leb, eqb}
+use lib.IntN.{pos, negℤ}
+use lib.Signed.{leZ, ltZ}
+use Rattle.text.specs.Bytes.{isDigit}
+use Rattle.text.specs.declared.number.Number.{Number}
+use Rattle.text.specs.declared.number.Number.the-variants.{Value, Not}
+use Rattle.text.specs.declared.number.Integer.{Integer}
+use Rattle.text.specs.declared.number.Integer.the-variants.{Is, NotOne}
+
+-- digits only: their value, read on from v
+unfoldable pub readFrom : ℕ → List ℕ → Number
+readFrom v [] = Value v
+readFrom v (b ∷ s) = cond (isDigit b) (readFrom (10 * v + (b - code "0")) s) Not
+
+-- at least one
+unfoldable pub digitsOf : List ℕ → Number
+digitsOf [] = Not
+digitsOf (b ∷ s) = readFrom 0 (b ∷ s)
+
+-- unsigned: an optional `+` before them, so `-0` is not one
+unfoldable pub unsignedOf : List ℕ → Number
+unsignedOf [] = Not
+unsignedOf (b ∷ s) = cond (eqb b (code "+")) (digitsOf s) (digitsOf (b ∷ s))
+
+abbrev pub plus : Number → Integer
+plus (Value n) = Is (pos n)
+plus Not = NotOne
+
+abbrev pub minus : Number → Integer
+minus (Value n) = Is (negℤ (pos n))
+minus Not = NotOne
+
+-- signed: an optional `+` or `-` before them
+unfoldable pub signedOf : List ℕ → Integer
+signedOf [] = NotOne
+signedOf (b ∷ s) = cond (eqb b (code "-")) (minus (digitsOf s)) (plus (unsignedOf (b ∷ s)))
+
+-- the result fits the width: at most the limit
+unfoldable pub fit : ℕ → Number → Number
+fit limit (Value n) = cond (leb n limit) (Value n) Not
+fit limit Not = Not
+
+-- from -half up to half - 1: 64 signed bits hold those of half 2 ^ 63
+unfoldable pub fitSigned : ℕ → Integer → Integer
+fitSigned half (Is z) = cond (leZ (negℤ (pos half)) z && ltZ z (pos half)) (Is z) NotOne
+fitSigned half NotOne = NotOne
+
+-- at most k, if it is a number
+abbrev pub AtMost : ℕ → Number → Type 0
+AtMost k (Value n) = n ≤ k
+AtMost k Not = Unit {0}

@@ -1,0 +1,73 @@
+// What a byte is, and what a text is made of. The tests are written with `&` and `|`: they have no branch, and compute as
+// their definitions do.
+ghost use mathlib.Core.Path.{_≡_};
+ghost use Rattle.text.specs.Bytes.{isSpace, isDigit, isSign, isAlphanumeric, lowerOf, ascii, sameLetters};
+
+// White space: bytes 9 to 13, byte 11 among them, and 32.
+pub fn is_space(b: u8) -> bool
+    ensures { λ r. ⌜ r ≡ isSpace b ⌝ }
+{
+    (9 <= b) & (b <= 13) | (b == 32)
+}
+
+pub fn is_digit(b: u8) -> bool
+    ensures { λ r. ⌜ r ≡ isDigit b ⌝ }
+{
+    (48 <= b) & (b <= 57)
+}
+
+pub fn is_sign(b: u8) -> bool
+    ensures { λ r. ⌜ r ≡ isSign b ⌝ }
+{
+    (b == 43) | (b == 45)
+}
+
+pub fn is_alphanumeric(b: u8) -> bool
+    ensures { λ r. ⌜ r ≡ isAlphanumeric b ⌝ }
+{
+    (48 <= b) & (b <= 57) | ((65 <= b) & (b <= 90) | (97 <= b) & (b <= 122))
+}
+
+// A capital letter becomes a small one; any other byte stays.
+pub fn lower(b: u8) -> u8
+    ensures { λ r. ⌜ r ≡ lowerOf b ⌝ }
+{
+    if b < 65 {
+        return b;
+    }
+    if 90 < b {
+        return b;
+    }
+    b + 32
+}
+
+// Whether no byte is 128 or more; so it is of the empty text.
+pub fn is_ascii(s: &[u8]) -> bool
+    ensures { λ r. ⌜ r ≡ ascii (now (s .entry)) ⌝ }
+{
+    let mut i = 0;
+    while i < s.len() {
+        if s[i] >= 128 {
+            return false;
+        }
+        i += 1;
+    }
+    true
+}
+
+// Whether two texts are the same but for the case of their letters.
+pub fn same_ignoring_case(s: &[u8], t: &[u8]) -> bool
+    ensures { λ r. ⌜ r ≡ sameLetters (now (s .entry)) (now (t .entry)) ⌝ }
+{
+    if s.len() != t.len() {
+        return false;
+    }
+    let mut i = 0;
+    while i < s.len() {
+        if lower(s[i]) != lower(t[i]) {
+            return false;
+        }
+        i += 1;
+    }
+    true
+}

@@ -1,0 +1,39 @@
+// Places of a byte in a text, counted from 0. Where it stands nowhere the place is the text's length, so that what stands before
+// it is the whole text.
+ghost use mathlib.Core.Path.{_≡_};
+ghost use Prim.Native.Nat.{_≤_};
+ghost use lib.ListN.{length};
+ghost use Rattle.text.specs.Places.{has as hasOf, firstPlace, lastPlace};
+
+pub fn has(s: &[u8], b: u8) -> bool
+    ensures { λ r. ⌜ r ≡ hasOf b (now (s .entry)) ⌝ }
+{
+    first_place(s, b) < s.len()
+}
+
+pub fn first_place(s: &[u8], b: u8) -> usize
+    ensures { λ r. ⌜ (r ≡ firstPlace b (now (s .entry))) × (r ≤ length (now (s .entry))) ⌝ }
+{
+    let mut i = 0;
+    while i < s.len() {
+        if s[i] == b {
+            return i;
+        }
+        i += 1;
+    }
+    i
+}
+
+// Looked for from the end.
+pub fn last_place(s: &[u8], b: u8) -> usize
+    ensures { λ r. ⌜ (r ≡ lastPlace b (now (s .entry))) × (r ≤ length (now (s .entry))) ⌝ }
+{
+    let mut e = s.len();
+    while 0 < e {
+        e -= 1;
+        if s[e] == b {
+            return e;
+        }
+    }
+    s.len()
+}

@@ -1,0 +1,38 @@
+// A text without the white space at its ends, as a part of it.
+ghost use mathlib.Core.Path.{_≡_};
+ghost use Rattle.text.specs.Trim.{trimStart, trimEnd, trim};
+use crate::bytes;
+
+pub fn trimmed(s: &[u8]) -> &[u8]
+    ensures { λ r. ⌜ now r ≡ trim (now (s .entry)) ⌝ }
+{
+    trimmed_end(trimmed_start(s))
+}
+
+fn trimmed_start(s: &[u8]) -> &[u8]
+    ensures { λ r. ⌜ now r ≡ trimStart (now (s .entry)) ⌝ }
+{
+    let mut i = 0;
+    while i < s.len() {
+        if bytes::is_space(s[i]) {
+            i += 1;
+        } else {
+            return &s[i..];
+        }
+    }
+    &s[..0]
+}
+
+fn trimmed_end(s: &[u8]) -> &[u8]
+    ensures { λ r. ⌜ now r ≡ trimEnd (now (s .entry)) ⌝ }
+{
+    let mut e = s.len();
+    while 0 < e {
+        if bytes::is_space(s[e - 1]) {
+            e -= 1;
+        } else {
+            return &s[..e];
+        }
+    }
+    &s[..0]
+}
