@@ -1,0 +1,43 @@
+-- Document 01, "Numbers returned": the number, time and length of each answer.
+-- Assumes nothing.
+use Prim.Native.Nat.{ℕ}
+use lib.IntN.{ℤ, pos}
+use Rattle.time.specs.declared.Time.{Time}
+use Rattle.time.specs.declared.Refusal.{Refusal}
+use Rattle.time.specs.declared.Refusal.the-variants.{NotAscii, Form, Missing, Current, Pairs, Range, Offset, Room}
+use Rattle.time.specs.declared.Answer.{Answer}
+use Rattle.time.specs.declared.Answer.the-variants.{Time as At, Refused}
+use Rattle.time.specs.declared.Written.{Written}
+use Rattle.time.specs.declared.Written.the-variants.{Length, Refused as NotWritten}
+
+abbrev pub timeAt : ℤ → ℤ → Time
+timeAt s o = record { seconds = s; offset = o }
+
+abbrev pub numberOf : Refusal → ℕ
+numberOf NotAscii = 1
+numberOf Form = 2
+numberOf Missing = 3
+numberOf Current = 4
+numberOf Pairs = 5
+numberOf Range = 6
+numberOf Offset = 7
+numberOf Room = 8
+
+-- success is 0
+abbrev pub answerNumber : Answer → ℕ
+answerNumber (At t) = 0
+answerNumber (Refused r) = numberOf r
+
+-- each refusal returns seconds 0, offset 0
+abbrev pub answerTime : Answer → Time
+answerTime (At t) = t
+answerTime (Refused r) = timeAt (pos 0) (pos 0)
+
+abbrev pub writtenNumber : Written → ℕ
+writtenNumber (Length n) = 0
+writtenNumber (NotWritten r) = numberOf r
+
+-- and length 0
+abbrev pub writtenLength : Written → ℕ
+writtenLength (Length n) = n
+writtenLength (NotWritten r) = 0

@@ -1,0 +1,60 @@
+-- Document 01, "Numbers returned": the range. Seconds and offsets are counted from 0 where the calendar works on them: second 0 is
+-- the first of 1 January of year -10000, so that 1 January 1970 begins at second 377,736,739,200; offset 0 is -93600, so that
+-- UTC is 93,600.
+-- Assumes nothing.
+use Prim.Native.Nat.{ℕ, _≤_}
+use mathlib.Core.Bool.{Bool, cond, _&&_}
+use lib.IntN.{ℤ, pos, negsuc, natAbs, _+ℤ_, _-ℤ_}
+use Rattle.ints.specs.Range.{isIn}
+use Rattle.time.specs.declared.Time.{Time}
+use Rattle.time.specs.declared.range.Instant.{Instant}
+use Rattle.time.specs.declared.range.Moved.{Moved}
+use Rattle.time.specs.declared.range.Moved.the-variants.{In, Out}
+
+-- seconds -377705023201 to 253402207200
+abbrev pub leastSeconds : ℤ
+leastSeconds = negsuc 377705023200
+
+abbrev pub mostSeconds : ℤ
+mostSeconds = pos 253402207200
+
+unfoldable pub secondsInRange : ℤ → Bool
+secondsInRange z = isIn leastSeconds mostSeconds z
+
+-- current offset -93599 to 93599
+abbrev pub leastOffset : ℤ
+leastOffset = negsuc 93598
+
+abbrev pub mostOffset : ℤ
+mostOffset = pos 93599
+
+unfoldable pub offsetInRange : ℤ → Bool
+offsetInRange z = isIn leastOffset mostOffset z
+
+unfoldable pub timeInRange : Time → Bool
+timeInRange t = secondsInRange (t .seconds) && offsetInRange (t .offset)
+
+-- seconds from 0, as seconds since 1970; and the time of an instant
+abbrev pub since1970 : ℕ → ℤ
+since1970 n = pos n -ℤ pos 377736739200
+
+abbrev pub timeOf : Instant → Time
+timeOf i = record { seconds = since1970 (i .seconds); offset = pos (i .offset) -ℤ pos 93600 }
+
+-- the other way, of a time in range: there neither sum is below 0
+abbrev pub instantOf : Time → Instant
+instantOf t = record { seconds = natAbs (t .seconds +ℤ pos 377736739200); offset = natAbs (t .offset +ℤ pos 93600) }
+
+unfoldable pub movedOf : Time → Moved
+movedOf t = cond (timeInRange t) (In (instantOf t)) Out
+
+-- the range in these numbers
+pub record InRange (i : Instant) : Type 0 where
+  pub early : 31715999 ≤ i .seconds
+  pub late : i .seconds ≤ 631138946400
+  pub west : 1 ≤ i .offset
+  pub east : i .offset ≤ 187199
+
+abbrev pub MovedInRange : Moved → Type 0
+MovedInRange (In i) = InRange i
+MovedInRange Out = Unit {0}

@@ -1,0 +1,79 @@
+// A time, what readers and writers answer, and the two writers. A time is seconds since 1970 and an offset in seconds, each of any
+// value that its width holds; only the calendar asks for less.
+pub mod range;
+
+ghost use mathlib.Core.Path.{_≡_};
+ghost use Prim.Native.Nat.{_≤_};
+ghost use lib.ListN.{length};
+ghost use Rattle.text.specs.Decimal.{decimal};
+ghost use Rattle.time.specs.Answers.{timeAt};
+
+pub struct Time {
+    pub seconds: i64,
+    pub offset: i32,
+}
+
+impl Time {
+    // The numerically largest time.
+    pub const MAX: Time = Time {
+        seconds: 9223372036854775807,
+        offset: 359999,
+    };
+
+    // The numerically smallest time.
+    pub const MIN: Time = Time {
+        seconds: -9223372036854775808,
+        offset: -359999,
+    };
+
+    pub fn new(seconds: i64, offset: i32) -> Time
+        ensures { λ r. ⌜ r ≡ timeAt seconds offset ⌝ }
+    {
+        Time { seconds, offset }
+    }
+
+    // How many decimal digits n has; zero has one.
+    pub fn count_positive_digits(n: u64) -> usize
+        ensures { λ r. ⌜ (r ≡ length (decimal n)) × (1 ≤ r) × (r ≤ 20) ⌝ }
+    {
+        text::decimal::count_digits(n)
+    }
+}
+
+// Why a text is not read, or a time not written. Document 01's number of each is `numberOf`.
+pub enum Refusal {
+    // 1: the text holds a byte of 128 or more.
+    NotAscii,
+    // 2: the text is not of the form asked.
+    Form,
+    // 3: the text is relative, the current time is missing.
+    Missing,
+    // 4: the current time's seconds or offset is out of range.
+    Current,
+    // 5: the text is relative with too many pairs.
+    Pairs,
+    // 6: a relative step leaves the range; or the ISO writer is given such seconds, or a local year outside 0 to 9999.
+    Range,
+    // 7: a writer's offset is too wide.
+    Offset,
+    // 8: the room lent is shorter than the bytes to be written.
+    Room,
+}
+
+// What a reader answers.
+pub enum Answer {
+    Time(Time),
+    Refused(Refusal),
+}
+
+// What a writer answers: how many bytes it wrote, or why it wrote none.
+pub enum Written {
+    Length(usize),
+    Refused(Refusal),
+}
+
+// The current time, which only relative texts ask for.
+pub enum Now {
+    Missing,
+    At(Time),
+}
