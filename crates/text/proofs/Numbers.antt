@@ -6,10 +6,10 @@ use mathlib.Core.Bool.{Bool, true, false, cond, _&&_}
 use mathlib.Core.List.{List, [], _∷_}
 use Prim.Native.Nat.{ℕ, zero, suc, _+_, _-_, _*_, _^_, _≤_, _<_}
 use native.Mathlib.Omega.{arith}
-use native.Mathlib.Nat.{zero-add, not-suc-le-zero, pow-suc}
+use native.Mathlib.Nat.{zero-add, mul-one, mul-assoc, mul-le-mul-right, not-suc-le-zero, pow-succ'}
 use borrow.Author.Tests.{lt-leb, le-leb, leb-true, lt-ltb, le-ltb, leb-false}
-use lib.Dec.{leb, ltb, leb·suc-suc}
-use lib.IntN.{ℤ, pos, negsuc, _-ℤ_, negℤ}
+use lib.Dec.{leb, ltb, eqb, leb·suc-suc}
+use lib.IntN.{ℤ, pos, negsuc, _-ℤ_, negℤ, natAbs}
 use lib.ListN.{length}
 use lib.Signed.{leZ, ltZ}
 use Rattle.text.specs.Bytes.{isDigit}
@@ -77,3 +77,77 @@ fitSigned-minus zero x h = absurd (not-suc-le-zero h)
 fitSigned-minus (suc h) (Value zero) p = rw (lt-ltb 0 (suc h) p, le-leb 0 (suc h) (omega arith))
 fitSigned-minus (suc h) (Value (suc n)) p = rw (leb·suc-suc) (by-test (leb n h) (λ e. rw e) (λ e. rw e))
 fitSigned-minus (suc h) Not p = refl
+
+-- ---- the number of a short text: of k bytes, below 10 to the k, with or without a sign
+abbrev pub Below : ℕ → Number → Type 0
+Below k (Value n) = n < k
+Below k Not = Unit {0}
+
+Below-le : {k l : ℕ} (x : Number) → k ≤ l → Below k x → Below l x
+Below-le (Value n) h b = omega arith
+Below-le Not h b = tt
+
+readFrom-below : (s : List ℕ) (v : ℕ) → Below ((v + 1) * 10 ^ length s) (readFrom v s)
+unfolding readFrom
+readFrom-below [] v = rw (mul-one) (omega arith)
+readFrom-below (b ∷ s) v =
+    by-test (isDigit b)
+    (λ e.
+    let p : 10 ^ suc (length s) ≡ 10 * 10 ^ length s = pow-succ' 10 (length s) in
+    let d = digit-range b e in
+    let h : 10 * v + (b - 48) + 1 ≤ (v + 1) * 10 = omega arith in
+    let m : (10 * v + (b - 48) + 1) * 10 ^ length s ≤ (v + 1) * 10 * 10 ^ length s = mul-le-mul-right (10 ^ length s) h in
+    let a : (v + 1) * 10 * 10 ^ length s ≡ (v + 1) * 10 ^ suc (length s) = mul-assoc (v + 1) 10 (10 ^ length s) ∙ ap (λ (x : ℕ). (v + 1) * x) (sym p) in
+    rw e (Below-le (readFrom (10 * v + (b - 48)) s) (omega arith) (readFrom-below s (10 * v + (b - 48)))))
+    (λ e. rw e tt)
+
+pub digitsOf-below : (s : List ℕ) → Below (10 ^ length s) (digitsOf s)
+unfolding digitsOf
+digitsOf-below [] = tt
+digitsOf-below (b ∷ s) = Below-le (readFrom 0 (b ∷ s)) (omega arith) (readFrom-below (b ∷ s) 0)
+
+pub unsignedOf-below : (s : List ℕ) → Below (10 ^ length s) (unsignedOf s)
+unfolding unsignedOf
+unsignedOf-below [] = tt
+unsignedOf-below (b ∷ s) =
+    by-test (eqb b 43) (λ e. rw e (Below-le (digitsOf s) (omega (arith, pow-succ' 10 (length s))) (digitsOf-below s))) (λ e. rw e (digitsOf-below (b ∷ s)))
+
+-- so it fits any width that holds as much
+pub fit-of-length : (limit : ℕ) (s : List ℕ) → 10 ^ length s ≤ limit + 1 → fit limit (unsignedOf s) ≡ unsignedOf s
+unfolding fit
+fit-of-length limit s h = go (unsignedOf s) (unsignedOf-below s)
+  where
+    go : (x : Number) → Below (10 ^ length s) x → fit limit x ≡ x
+    go (Value n) b = rw (le-leb n limit (omega arith))
+    go Not b = refl
+
+abbrev pub Short : ℕ → Integer → Type 0
+Short k (Is z) = natAbs z < k
+Short k NotOne = Unit {0}
+
+plus-short : (k : ℕ) (x : Number) → Below k x → Short k (plus x)
+plus-short k (Value n) b = b
+plus-short k Not b = tt
+
+minus-short : (k : ℕ) (x : Number) → Below k x → Short k (minus x)
+minus-short k (Value zero) b = b
+minus-short k (Value (suc n)) b = b
+minus-short k Not b = tt
+
+pub signedOf-short : (s : List ℕ) → Short (10 ^ length s) (signedOf s)
+unfolding signedOf
+signedOf-short [] = tt
+signedOf-short (b ∷ s) =
+    by-test (eqb b 45)
+    (λ e. rw e (minus-short _ (digitsOf s) (Below-le (digitsOf s) (omega (arith, pow-succ' 10 (length s))) (digitsOf-below s))))
+    (λ e. rw e (plus-short _ (unsignedOf (b ∷ s)) (unsignedOf-below (b ∷ s))))
+
+pub fitSigned-of-length : (half : ℕ) (s : List ℕ) → 10 ^ length s ≤ half → fitSigned half (signedOf s) ≡ signedOf s
+unfolding fitSigned
+fitSigned-of-length half s h = go half (signedOf s) h (signedOf-short s)
+  where
+    go : (half : ℕ) (x : Integer) → 10 ^ length s ≤ half → Short (10 ^ length s) x → fitSigned half x ≡ x
+    go zero (Is z) k b = absurd (omega arith)
+    go (suc m) (Is (pos n)) k b = rw (lt-ltb n (suc m) (omega arith))
+    go (suc m) (Is (negsuc n)) k b = rw (le-leb n m (omega arith))
+    go half NotOne k b = refl
