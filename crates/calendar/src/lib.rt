@@ -1,0 +1,129 @@
+// The calendar of ISO 8601: days, months and dates, by a table of the months of four hundred years.
+//
+// Everything is counted from 1 January of year -10000: it is day 0, of month 0, and 1 January 1970
+// is day 4,371,953, of month 143,640. Days end with year 9999, before day 7,304,850. No number here
+// is signed: who has a signed year adds 10000 to it, and to a signed day 4,371,953.
+//
+// `months` builds the table, some 19 KB. Each other function is lent it, and asks that it is the
+// months' (`IsMonths`). A day or a time that there may not be is a `Found`.
+mod table;
+
+pub use table::months;
+ghost use mathlib.Core.Path.{_≡_};
+ghost use Prim.Native.Nat.{_+_, _*_, _≤_, _<_};
+ghost use Rattle.calendar.specs.Calendar.{firstDay, monthLength};
+ghost use Rattle.calendar.specs.Table.{IsMonths};
+ghost use Rattle.calendar.specs.Dates.{dateOf, dayNumber, Below};
+ghost use Rattle.calendar.specs.Back.{backOf};
+
+// A month, and a day of it from 0.
+pub struct Date {
+    pub month: u64,
+    pub day: u64,
+}
+
+// A day, or a time in seconds, that may be missing.
+pub enum Found {
+    At(u64),
+    Nothing,
+}
+
+// The first day of month m: the whole cycles before it, and its entry of the table.
+pub fn first_day(t: &[u32; 4800], m: u64) -> u64
+    requires table { ⌜ IsMonths (now t) ⌝ }
+    requires month { ⌜ m ≤ 240000 ⌝ }
+    ensures is { λ r. ⌜ r ≡ firstDay m ⌝ }
+    ensures range { λ r. ⌜ r ≤ 7304850 ⌝ }
+{
+    let i = (m % 4800) as usize;
+    m / 4800 * 146097 + t[i] as u64
+}
+
+// The days of month m: from its first day to that of the next month.
+pub fn month_length(t: &[u32; 4800], m: u64) -> u64
+    requires table { ⌜ IsMonths (now t) ⌝ }
+    requires month { ⌜ m < 240000 ⌝ }
+    ensures is { λ r. ⌜ r ≡ monthLength m ⌝ }
+    ensures least { λ r. ⌜ 28 ≤ r ⌝ }
+    ensures most { λ r. ⌜ r ≤ 31 ⌝ }
+{
+    first_day(t, m + 1) - first_day(t, m)
+}
+
+// The date of day d. A month has 48699 / 1600 days on the mean, and no first day is more than three
+// days from what that gives; so the month of d + 3 by the mean is d's month, or the one after it.
+pub fn date_of(t: &[u32; 4800], d: u64) -> Date
+    requires table { ⌜ IsMonths (now t) ⌝ }
+    requires day { ⌜ d < 7304850 ⌝ }
+    ensures is { λ r. ⌜ r ≡ dateOf d ⌝ }
+    ensures months { λ r. ⌜ r .month < 240000 ⌝ }
+    ensures days { λ r. ⌜ r .day < 31 ⌝ }
+{
+    let e = (d + 3) * 1600 / 48699;
+    let f = first_day(t, e);
+    if d < f {
+        let p = first_day(t, e - 1);
+        Date {
+            month: e - 1,
+            day: d - p,
+        }
+    } else {
+        Date {
+            month: e,
+            day: d - f,
+        }
+    }
+}
+
+// The day of a date, which its month must have.
+pub fn day_of(t: &[u32; 4800], x: Date) -> u64
+    requires table { ⌜ IsMonths (now t) ⌝ }
+    requires month { ⌜ x .month < 240000 ⌝ }
+    requires day { ⌜ x .day < monthLength (x .month) ⌝ }
+    ensures is { λ r. ⌜ r ≡ firstDay (x .month) + x .day ⌝ }
+    ensures range { λ r. ⌜ r < 7304850 ⌝ }
+{
+    first_day(t, x.month) + x.day
+}
+
+// The day of year y (from -10000), month m from 1 and day k from 1; Nothing if there is no such
+// date, as 29 February 1900, or none to the end of year 9999.
+pub fn day_number(t: &[u32; 4800], y: u64, m: u64, k: u64) -> Found
+    requires { ⌜ IsMonths (now t) ⌝ }
+    ensures is { λ r. ⌜ r ≡ dayNumber y m k ⌝ }
+    ensures range { λ r. ⌜ Below 7304850 r ⌝ }
+{
+    if 20000 <= y {
+        return Found::Nothing;
+    }
+    if m < 1 {
+        return Found::Nothing;
+    }
+    if 12 < m {
+        return Found::Nothing;
+    }
+    if k < 1 {
+        return Found::Nothing;
+    }
+    let n = y * 12 + (m - 1);
+    if month_length(t, n) < k {
+        return Found::Nothing;
+    }
+    Found::At(first_day(t, n) + (k - 1))
+}
+
+// A local time, in seconds from day 0, n months earlier: on the same day of the month by the same
+// clock. Not 30 April for 31 May: surplus days run on into the next month, to 1 May. Nothing if
+// that is before month 0. It is never later than the time it starts from.
+pub fn months_back(t: &[u32; 4800], local: u64, n: u64) -> Found
+    requires table { ⌜ IsMonths (now t) ⌝ }
+    requires time { ⌜ local < 7304850 * 86400 ⌝ }
+    ensures is { λ r. ⌜ r ≡ backOf local n ⌝ }
+    ensures range { λ r. ⌜ Below (local + 1) r ⌝ }
+{
+    let x = date_of(t, local / 86400);
+    if x.month < n {
+        return Found::Nothing;
+    }
+    Found::At((first_day(t, x.month - n) + x.day) * 86400 + local % 86400)
+}
