@@ -1,12 +1,13 @@
--- Laws of bytes put in front of a place `e` of a room: what stands before it (`take-put`) and from it on (`drop-put`); digits put one by
--- one from the last (`digits-put`). Assumes nothing.
+-- Bytes put in front of a place e of a room. In order: one byte; what stands before the place and from it on; digits put one by one
+-- from the last; two bytes; a second put in front of the first.
+-- Assumes nothing.
 use mathlib.Core.Path.{_≡_, refl, sym, ap, _∙_}
 use mathlib.Core.List.{List, [], _∷_, _++_}
 use Prim.Native.Nat.{ℕ, zero, suc, _+_, _-_, _*_, _/_, _%_, _≤_, _<_}
 use native.Mathlib.Omega.{arith}
 use lib.ListN.{length, take, drop, set, length-set}
 use lib.Seq.{set-split, take-append-le, take-take, drop-at, length-take-le}
-use Rattle.text.specs.Decimal.{decimal, decimalBefore, twoBefore}
+use Rattle.text.specs.Decimal.{decimal, decimalBefore}
 use Rattle.text.proofs.Decimals.{decimalBefore-of-le, decimalBefore-of-lt, length-decimal-of-le, length-decimal-of-lt, length-decimal-pos}
 
 pub set-put : (l : List ℕ) (e b : ℕ) → 0 < e → e ≤ length l → set l (e - 1) b ≡ take (e - 1) l ++ b ∷ drop e l
@@ -53,14 +54,3 @@ two-put l e a b p h =
 -- a second put, in front of the first
 pub put-put : (f : List ℕ → List ℕ) (l t r r′ : List ℕ) (i j e : ℕ) → r ≡ take e l ++ t → r′ ≡ take i r ++ f (drop e r) → i ≡ j → j ≤ e → e ≤ length l → r′ ≡ take j l ++ f t
 put-put f l t r r′ i j e p q s h k = q ∙ (λ x. take (s x) (p x) ++ f (drop e (p x))) ∙ (λ x. take-put j e l t h k x ++ f (drop-put e l t k x))
-
-pub offset-put : (l r₁ r₂ r₃ r₄ : List ℕ) (e s h m : ℕ) → 5 < e → e ≤ length l
-    → r₁ ≡ take (e - 2) l ++ twoBefore m (drop e l)
-    → r₂ ≡ take (e - 2 - 2) r₁ ++ twoBefore h (drop (e - 2) r₁)
-    → r₃ ≡ take (e - 4 - 1) r₂ ++ s ∷ drop (e - 4) r₂
-    → r₄ ≡ take (e - 5 - 1) r₃ ++ 32 ∷ drop (e - 5) r₃
-    → r₄ ≡ take (e - 6) l ++ 32 ∷ s ∷ twoBefore h (twoBefore m (drop e l))
-offset-put l r₁ r₂ r₃ r₄ e s h m p k e₁ e₂ e₃ e₄ =
-    let s₂ = put-put (twoBefore h) l (twoBefore m (drop e l)) r₁ r₂ (e - 2 - 2) (e - 4) (e - 2) e₁ e₂ (omega arith) (omega arith) (omega arith) in
-    let s₃ = put-put (λ (t : List ℕ). s ∷ t) l (twoBefore h (twoBefore m (drop e l))) r₂ r₃ (e - 4 - 1) (e - 5) (e - 4) s₂ e₃ (omega arith) (omega arith) (omega arith) in
-    put-put (λ (t : List ℕ). 32 ∷ t) l (s ∷ twoBefore h (twoBefore m (drop e l))) r₃ r₄ (e - 5 - 1) (e - 6) (e - 5) s₃ e₄ (omega arith) (omega arith) (omega arith)

@@ -1,12 +1,14 @@
 // A time, what readers and writers answer, and the two writers. A time is seconds since 1970 and an offset in seconds, each of any
 // value that its width holds; only the calendar asks for less.
 pub mod range;
+mod write;
 
 ghost use mathlib.Core.Path.{_≡_};
-ghost use Prim.Native.Nat.{_≤_};
+ghost use Prim.Native.Nat.{_≤_, _<_};
 ghost use lib.ListN.{length};
 ghost use Rattle.text.specs.Decimal.{decimal};
 ghost use Rattle.time.specs.Answers.{timeAt};
+ghost use Rattle.time.specs.Header.{sizeOf, headerBytes, headerWritten, roomAfter};
 
 pub struct Time {
     pub seconds: i64,
@@ -37,6 +39,33 @@ impl Time {
         ensures { λ r. ⌜ (r ≡ length (decimal n)) × (1 ≤ r) × (r ≤ 20) ⌝ }
     {
         text::decimal::count_digits(n)
+    }
+
+    // The bytes that its header takes, also of an offset too wide to write: `MIN` takes the most, 26.
+    pub fn size(self) -> usize
+        ensures { λ r. ⌜ (r ≡ sizeOf (self .seconds)) × (r ≤ 26) × (6 < r) ⌝ }
+    {
+        write::size(self.seconds)
+    }
+
+    // Writes its header to the front of `room`, and hands back how many bytes that took: `size`. Those beyond stay. An offset of
+    // 100 hours or more is refused by 7, a room too short by 8, and the room then holds what it held.
+    pub fn write_to(self, room: &mut [u8]) -> Written
+        ensures { λ r. ⌜ r ≡ headerWritten self (now (room .entry)) ⌝ }
+        ensures { λ _. ⌜ now (room .exit) ≡ roomAfter (headerWritten self (now (room .entry))) (headerBytes self) (now (room .entry)) ⌝ }
+    {
+        let seconds = self.seconds;
+        let offset = self.offset;
+        let wide = write::magnitude(offset as i64);
+        if 360000 <= wide {
+            return Written::Refused(Refusal::Offset);
+        }
+        let n = write::size(seconds);
+        if room.len() < n {
+            return Written::Refused(Refusal::Room);
+        }
+        write::put_header(seconds, write::sign_byte(offset), wide / 60, n, room);
+        Written::Length(n)
     }
 }
 
