@@ -1,3 +1,4 @@
--- Laws. In order: the range and the move to numbers from 0; the header as it is written.
+-- Laws. In order: the range and the move to numbers from 0; the header as it is written; a buffer for it.
 pub mod Ranges
 pub mod Headers
+pub mod Bufs

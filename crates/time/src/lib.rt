@@ -1,5 +1,8 @@
 // A time, what readers and writers answer, and the two writers. A time is seconds since 1970 and an offset in seconds, each of any
 // value that its width holds; only the calendar asks for less.
+pub mod buf;
+pub mod clock;
+mod format;
 pub mod range;
 mod write;
 

@@ -1,0 +1,25 @@
+-- `time::clock::local_clock` meets its contract: at every offset in range the local day is one of the calendar's.
+-- Assumes nothing.
+use Prim.Native.Nat.{_%_}
+use Rattle.time.specs.Clock.{localOf, clockOf}
+use borrow.Author.Needs.{needs}
+use Rattle.time.proofs.clock.local_clock.Statement.{statement}
+use Rattle.time.proofs.clock.local_clock.Tie as tie
+
+add-local : tie.Need-add-local
+add-local c = search needs
+
+sub-local : tie.Need-sub-local
+sub-local c = search needs
+
+date-of-requires : tie.Need-date-of-requires
+date-of-requires c κs = search needs
+
+returns : tie.Need-returns
+unfolding clockOf
+returns c = let i = c .before .before .args .i in
+    let e = c .date-of .ensures in
+    ((λ j. record { date = e .0 j; second = localOf i % 86400 }), (e .1 .0, (e .1 .1, search needs)))
+
+pub local-clock-spec : {M : Type 1} → statement M
+local-clock-spec = tie.close (tie.spec add-local sub-local date-of-requires returns)

@@ -1,0 +1,66 @@
+-- Document 01, "Writing", ISO (RFC 3339's shape): `YYYY-MM-DDTHH:MM:SS+HH:MM`, 25 bytes. The fields show the clock at the full
+-- offset, the offset is printed cut to minutes, with `-` if it is negative.
+-- Assumes nothing.
+use Prim.Native.Nat.{ℕ, _+_, _-_, _/_, _%_}
+use Prim.Native.Char.{code}
+use mathlib.Core.Bool.{Bool, cond, _&&_}
+use mathlib.Core.List.{List, [], _∷_}
+use lib.Dec.{leb, ltb}
+use lib.IntN.{ℤ, natAbs}
+use lib.ListN.{length}
+use Rattle.text.specs.Decimal.{twoBefore}
+use Rattle.time.specs.Answers.{timeAt}
+use Rattle.time.specs.Clock.{clockOf}
+use Rattle.time.specs.Header.{signByte, wholeMinutes}
+use Rattle.time.specs.Range.{secondsInRange, instantOf}
+use Rattle.time.specs.declared.Time.{Time}
+use Rattle.time.specs.declared.Refusal.the-variants.{Offset, Range, Room}
+use Rattle.time.specs.declared.Written.{Written}
+use Rattle.time.specs.declared.Written.the-variants.{Length, Refused}
+use Rattle.time.specs.declared.clock.Clock.{Clock}
+
+-- the offset that is shown: the fields are its clock's, and it is what is printed, cut to minutes
+abbrev pub shownOffset : ℤ → ℤ
+shownOffset o = o
+
+abbrev pub shownClock : Time → Clock
+shownClock t = clockOf (instantOf (timeAt (t .seconds) (shownOffset (t .offset))))
+
+-- the year of a clock, from year -10000
+abbrev pub yearOf : Clock → ℕ
+yearOf c = c .date .month / 12
+
+-- `b` and two digits of n, in front of t
+abbrev pub fieldBefore : ℕ → ℕ → List ℕ → List ℕ
+fieldBefore b n t = b ∷ twoBefore n t
+
+-- `YYYY-MM-DD`, in front of t
+abbrev pub dateBefore : Clock → List ℕ → List ℕ
+dateBefore c t =
+    twoBefore ((yearOf c - 10000) / 100) (twoBefore ((yearOf c - 10000) % 100)
+    (fieldBefore (code "-") (c .date .month % 12 + 1) (fieldBefore (code "-") (c .date .day + 1) t)))
+
+-- `THH:MM:SS`
+abbrev pub clockBefore : Clock → List ℕ → List ℕ
+clockBefore c t =
+    fieldBefore (code "T") (c .second / 3600)
+    (fieldBefore (code ":") (c .second / 60 % 60) (fieldBefore (code ":") (c .second % 60) t))
+
+-- `+HH:MM`
+abbrev pub offsetBefore : ℤ → List ℕ → List ℕ
+offsetBefore o t = fieldBefore (signByte o) (wholeMinutes o / 60) (fieldBefore (code ":") (wholeMinutes o % 60) t)
+
+unfoldable pub isoBytes : Time → List ℕ
+isoBytes t = dateBefore (shownClock t) (clockBefore (shownClock t) (offsetBefore (shownOffset (t .offset)) []))
+
+-- the local year is 0 to 9999
+abbrev pub yearShown : Clock → Bool
+yearShown c = leb 10000 (yearOf c) && ltb (yearOf c) 20000
+
+-- 7 if the size of the offset is 86400 or more; 6 if the seconds are out of range or the local year is outside 0 to 9999; then 8
+unfoldable pub isoWritten : Time → List ℕ → Written
+isoWritten t room =
+    cond (leb 86400 (natAbs (t .offset))) (Refused Offset)
+    (cond (secondsInRange (t .seconds) && yearShown (shownClock t))
+    (cond (ltb (length room) 25) (Refused Room) (Length 25))
+    (Refused Range))
