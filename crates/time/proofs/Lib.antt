@@ -1,4 +1,5 @@
--- Laws. In order: the range and the move to numbers from 0; the header as it is written; a buffer for it.
+-- Laws. In order: the range and the move to numbers from 0; the header as it is written; a buffer for it; the ISO line.
 pub mod Ranges
 pub mod Headers
 pub mod Bufs
+pub mod Isos

@@ -12,12 +12,14 @@ use Rattle.text.specs.Decimal.{twoBefore}
 use Rattle.time.specs.Answers.{timeAt}
 use Rattle.time.specs.Clock.{clockOf}
 use Rattle.time.specs.Header.{signByte, wholeMinutes}
-use Rattle.time.specs.Range.{secondsInRange, instantOf}
+use Rattle.time.specs.Range.{secondsInRange, instantOf, InRange}
 use Rattle.time.specs.declared.Time.{Time}
 use Rattle.time.specs.declared.Refusal.the-variants.{Offset, Range, Room}
 use Rattle.time.specs.declared.Written.{Written}
 use Rattle.time.specs.declared.Written.the-variants.{Length, Refused}
 use Rattle.time.specs.declared.clock.Clock.{Clock}
+use Rattle.time.specs.declared.format.Shown.{Shown}
+use Rattle.time.specs.declared.format.Shown.the-variants.{At, Not}
 
 -- the offset that is shown: the fields are its clock's, and it is what is printed, cut to minutes
 abbrev pub shownOffset : ℤ → ℤ
@@ -53,14 +55,24 @@ offsetBefore o t = fieldBefore (signByte o) (wholeMinutes o / 60) (fieldBefore (
 unfoldable pub isoBytes : Time → List ℕ
 isoBytes t = dateBefore (shownClock t) (clockBefore (shownClock t) (offsetBefore (shownOffset (t .offset)) []))
 
--- the local year is 0 to 9999
-abbrev pub yearShown : Clock → Bool
-yearShown c = leb 10000 (yearOf c) && ltb (yearOf c) 20000
+-- 7 if the size of the offset is 86400 or more, then 6 if the seconds are out of range; else the instant shown
+unfoldable pub shownOf : Time → Shown
+shownOf t =
+    cond (leb 86400 (natAbs (t .offset))) (Not Offset)
+    (cond (secondsInRange (t .seconds)) (At (instantOf (timeAt (t .seconds) (shownOffset (t .offset))))) (Not Range))
 
--- 7 if the size of the offset is 86400 or more; 6 if the seconds are out of range or the local year is outside 0 to 9999; then 8
+-- 6 too if the local year is outside 0 to 9999, then 8
+abbrev pub writtenAt : Clock → List ℕ → Written
+writtenAt c room =
+    cond (leb 10000 (yearOf c) && ltb (yearOf c) 20000) (cond (ltb (length room) 25) (Refused Room) (Length 25)) (Refused Range)
+
+abbrev pub written : Shown → List ℕ → Written
+written (At i) room = writtenAt (clockOf i) room
+written (Not r) room = Refused r
+
 unfoldable pub isoWritten : Time → List ℕ → Written
-isoWritten t room =
-    cond (leb 86400 (natAbs (t .offset))) (Refused Offset)
-    (cond (secondsInRange (t .seconds) && yearShown (shownClock t))
-    (cond (ltb (length room) 25) (Refused Room) (Length 25))
-    (Refused Range))
+isoWritten t room = written (shownOf t) room
+
+abbrev pub ShownInRange : Shown → Type 0
+ShownInRange (At i) = InRange i
+ShownInRange (Not r) = Unit {0}

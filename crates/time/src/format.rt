@@ -1,15 +1,70 @@
 // The ISO writer's parts: `2008-02-14T20:30:45-05:00`, from its end to its front.
 ghost use mathlib.Core.Path.{_≡_};
-ghost use mathlib.Core.Bool.{cond};
 ghost use mathlib.Core.List.{_∷_, _++_};
 ghost use Prim.Native.Nat.{_+_, _-_, _≤_, _<_, _/_, _%_};
 ghost use lib.ListN.{length, take, drop};
 ghost use Rattle.calendar.specs.Table.{IsMonths};
-ghost use Rattle.time.specs.Clock.{clockOf};
-ghost use Rattle.time.specs.Iso.{fieldBefore, dateBefore, clockBefore};
+ghost use Rattle.time.specs.Header.{roomAfter};
+ghost use Rattle.time.specs.Iso.{fieldBefore, dateBefore, clockBefore, isoBytes, isoWritten, shownOf, ShownInRange};
+ghost use Rattle.time.specs.declared.format.Shown.the-variants.{At};
 ghost use Rattle.time.specs.Range.{InRange};
+use crate::Refusal;
+use crate::Time;
+use crate::Written;
+use crate::clock;
 use crate::clock::Clock;
+use crate::range;
+use crate::range::Instant;
+use crate::range::Moved;
+use crate::write;
 use text::decimal;
+
+// The instant whose clock an ISO line shows, or why there is none.
+pub enum Shown {
+    At(Instant),
+    Not(Refusal),
+}
+
+pub fn shown_of(t: Time) -> Shown
+    ensures is { λ r. ⌜ r ≡ shownOf t ⌝ }
+    ensures range { λ r. ⌜ ShownInRange r ⌝ }
+{
+    let offset = t.offset;
+    if 86400 <= write::offset_size(offset) {
+        return Shown::Not(Refusal::Offset);
+    }
+    let moved = range::instant_of(t);
+    let Moved::In(i) = moved else {
+        return Shown::Not(Refusal::Range);
+    };
+    Shown::At(i)
+}
+
+// Writes the line of a time whose instant is i.
+pub fn write_shown(months: &[u32; 4800], t: Time, i: Instant, room: &mut [u8]) -> Written
+    requires table { ⌜ IsMonths (now months) ⌝ }
+    requires instant { ⌜ (shownOf t ≡ At i) × InRange i ⌝ }
+    ensures { λ r. ⌜ r ≡ isoWritten t (now (room .entry)) ⌝ }
+    ensures { λ _. ⌜ now (room .exit) ≡ roomAfter (isoWritten t (now (room .entry))) (isoBytes t) (now (room .entry)) ⌝ }
+{
+    let c = clock::local_clock(months, i);
+    let month = c.date.month;
+    if month < 120000 {
+        return Written::Refused(Refusal::Range);
+    }
+    if room.len() < 25 {
+        return Written::Refused(Refusal::Room);
+    }
+    let offset = t.offset;
+    put_offset(
+        write::sign_byte(offset),
+        write::offset_size(offset) / 60,
+        room,
+    );
+    put_clock(c, room);
+    put_date(c, room);
+    Written::Length(25)
+}
 
 // `b` and two digits of n, in front of `end`.
 fn put_field(b: u8, n: u64, end: usize, room: &mut [u8])

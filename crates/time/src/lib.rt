@@ -11,7 +11,10 @@ ghost use Prim.Native.Nat.{_≤_, _<_};
 ghost use lib.ListN.{length};
 ghost use Rattle.text.specs.Decimal.{decimal};
 ghost use Rattle.time.specs.Answers.{timeAt};
+ghost use Rattle.calendar.specs.Table.{IsMonths};
 ghost use Rattle.time.specs.Header.{sizeOf, headerBytes, headerWritten, roomAfter};
+ghost use Rattle.time.specs.Iso.{isoBytes, isoWritten};
+use crate::format::Shown;
 
 pub struct Time {
     pub seconds: i64,
@@ -59,7 +62,7 @@ impl Time {
     {
         let seconds = self.seconds;
         let offset = self.offset;
-        let wide = write::magnitude(offset as i64);
+        let wide = write::offset_size(offset);
         if 360000 <= wide {
             return Written::Refused(Refusal::Offset);
         }
@@ -69,6 +72,36 @@ impl Time {
         }
         write::put_header(seconds, write::sign_byte(offset), wide / 60, n, room);
         Written::Length(n)
+    }
+
+    // Writes it as an ISO line, `2008-02-14T20:30:45-05:00`, to the front of `room`: 25 bytes, and those beyond stay. An offset of
+    // 24 hours or more is refused by 7, seconds out of range or a local year outside 0 to 9999 by 6, a room too short by 8, and
+    // the room then holds what it held.
+    pub fn write_iso(self, room: &mut [u8]) -> Written
+        ensures { λ r. ⌜ r ≡ isoWritten self (now (room .entry)) ⌝ }
+        ensures { λ _. ⌜ now (room .exit) ≡ roomAfter (isoWritten self (now (room .entry))) (isoBytes self) (now (room .entry)) ⌝ }
+    {
+        let shown = format::shown_of(self);
+        match shown {
+            Shown::At(i) => {
+                let months = calendar::months();
+                format::write_shown(&months, self, i, room)
+            }
+            Shown::Not(r) => Written::Refused(r),
+        }
+    }
+
+    // The same with the table of months lent, for callers that write many lines.
+    pub fn write_iso_with(self, months: &[u32; 4800], room: &mut [u8]) -> Written
+        requires { ⌜ IsMonths (now months) ⌝ }
+        ensures { λ r. ⌜ r ≡ isoWritten self (now (room .entry)) ⌝ }
+        ensures { λ _. ⌜ now (room .exit) ≡ roomAfter (isoWritten self (now (room .entry))) (isoBytes self) (now (room .entry)) ⌝ }
+    {
+        let shown = format::shown_of(self);
+        match shown {
+            Shown::At(i) => format::write_shown(months, self, i, room),
+            Shown::Not(r) => Written::Refused(r),
+        }
     }
 }
 

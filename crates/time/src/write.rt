@@ -19,6 +19,12 @@ pub fn magnitude(z: i64) -> u64
     }
 }
 
+pub fn offset_size(offset: i32) -> u64
+    ensures { λ r. ⌜ r ≡ natAbs offset ⌝ }
+{
+    magnitude(offset as i64)
+}
+
 // The bytes that the header of such seconds takes, whatever its offset.
 pub fn size(seconds: i64) -> usize
     ensures { λ r. ⌜ (r ≡ sizeOf seconds) × (r ≤ 26) × (6 < r) ⌝ }

@@ -16,18 +16,15 @@ use Rattle.time.proofs.Time.write_to.Statement.{statement}
 use Rattle.time.proofs.Time.write_to.Tie as tie
 
 -- the size of the offset, as it was measured
-wide-is : (c : tie.After-magnitude) → c .magnitude .result ≡ natAbs (c .before .before .before .before .args .self .offset)
-wide-is c = c .magnitude .ensures ∙ ap natAbs (read w64 tt (held w32 (c .before .before .before .before .args .self .offset) (c .before .struct-told2 .given .1 .0 .1)) .is)
+wide-is : (c : tie.After-offset-size) → c .offset-size .result ≡ natAbs (c .before .before .before .before .args .self .offset)
+wide-is c = c .offset-size .ensures ∙ ap natAbs (back w32 (c .before .before .before .before .args .self .offset) (c .before .struct-told2 .given .1 .0 .1))
 
 -- and the bytes that are asked for
 size-is : (c : tie.After-size) → c .size .result ≡ sizeOf (c .before .before .before .before .before .before .args .self .seconds)
 size-is c = c .size .ensures .0 ∙ ap sizeOf (back w64 (c .before .before .before .before .before .before .args .self .seconds) (c .before .before .before .before .struct-told .given .0 .1))
 
-cast-magnitude : tie.Need-cast-magnitude
-cast-magnitude c = fits w64 tt (held w32 (c .before .before .before .args .self .offset) (c .struct-told2 .given .1 .0 .1))
-
-magnitude-requires : tie.Need-magnitude-requires
-magnitude-requires c κs = search needs
+offset-size-requires : tie.Need-offset-size-requires
+offset-size-requires c κs = search needs
 
 returns : tie.Need-returns
 returns c = let start = c .before .before .before .before .before in
@@ -58,16 +55,15 @@ returns-3 c = let at-put = c .before .before in
     let start = at-wide .before .before .before .before in
     let o = back w32 (start .args .self .offset) (at-wide .before .struct-told2 .given .1 .0 .1) in
     let s = back w64 (start .args .self .seconds) (at-wide .before .before .struct-told .given .0 .1) in
-    wrote-whole (start .args .self) (start .args .room .now) _ (at-size .size .result) (at-sign .sign-byte .result) (at-wide .magnitude .result)
+    wrote-whole (start .args .self) (start .args .room .now) _ (at-size .size .result) (at-sign .sign-byte .result) (at-wide .offset-size .result)
     (omega (arith, wide-is at-wide, at-size .before .if1 .left)) (size-is at-size) (at-sign .before .if2 .left) (at-sign .sign-byte .ensures ∙ ap signByte o) (wide-is at-wide)
-    (at-put .put-header .ensures ∙ ap (λ (z : ℤ). secondsBefore z (32 ∷ at-sign .sign-byte .result ∷ twoBefore (at-wide .magnitude .result / 60 / 60) (twoBefore (at-wide .magnitude .result / 60 % 60) (drop (at-size .size .result) (start .args .room .now))))) s)
+    (at-put .put-header .ensures ∙ ap (λ (z : ℤ). secondsBefore z (32 ∷ at-sign .sign-byte .result ∷ twoBefore (at-wide .offset-size .result / 60 / 60) (twoBefore (at-wide .offset-size .result / 60 % 60) (drop (at-size .size .result) (start .args .room .now))))) s)
 
 pub write-to-spec : {M : Type 1} → statement M
 write-to-spec =
     tie.close
     (tie.spec
-    cast-magnitude
-    magnitude-requires
+    offset-size-requires
     returns
     size-requires
     returns-2
