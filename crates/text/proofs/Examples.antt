@@ -1,3 +1,111 @@
--- The document's words, computed. Each line stands under the words that it shows.
+-- Document 01's words on bytes, words and numbers, computed: each line stands under the words that it shows.
 -- Assumes nothing.
 use mathlib.Core.Path.{_≡_, refl}
+use mathlib.Core.Bool.{true, false}
+use mathlib.Core.List.{[], _∷_, _++_}
+use Prim.Native.Nat.{_^_, _-_}
+use lib.IntN.{pos, negsuc}
+use Rattle.text.specs.Bytes.{isSpace, isDigit, isAlphanumeric, lowerOf, ascii, sameLetters}
+use Rattle.text.specs.Quote.{bytes}
+use Rattle.text.specs.Places.{run, firstPlace, lastWhere, lastPlace, leading}
+use Rattle.text.specs.Trim.{trim, trimEnd, trimStart}
+use Rattle.text.specs.Words.{separator, words, pieces, full}
+use Rattle.text.specs.Number.{readFrom, digitsOf, unsignedOf, signedOf, fit, fitSigned}
+use Rattle.text.specs.Decimal.{decimalBy, decimalBefore, decimal}
+use Rattle.text.specs.declared.words.Separator.the-variants.{Space, Mark}
+use Rattle.text.specs.declared.number.Number.the-variants.{Value, Not}
+use Rattle.text.specs.declared.number.Integer.the-variants.{Is, NotOne}
+
+-- "White space: bytes 9 to 13 and 32": 11 is, 8, 14 and 31 are not
+byte-11-is-space : isSpace 11 ≡ true
+unfolding isSpace
+byte-11-is-space = refl
+
+bytes-8-14-31-are-not : (isSpace 8 ≡ false) × (isSpace 14 ≡ false) × (isSpace 31 ≡ false)
+unfolding isSpace
+bytes-8-14-31-are-not = (refl, refl, refl)
+
+-- "the text holds a byte of 128 or more"
+byte-128 : ascii (127 ∷ []) ≡ true × ascii (128 ∷ []) ≡ false
+unfolding ascii
+byte-128 = (refl, refl)
+
+-- "Trim"
+trimmed : trim (9 ∷ 11 ∷ bytes " 5 x " ++ 13 ∷ []) ≡ bytes "5 x"
+unfolding trim trimEnd trimStart isSpace
+trimmed = refl
+
+trimmed-to-nothing : trim (bytes "  ") ≡ []
+unfolding trim trimEnd trimStart isSpace
+trimmed-to-nothing = refl
+
+-- words parted by white space, and runs of ASCII letters and digits
+words-of-a-header : words (separator Space) (bytes " 1745582210 +0200 ") ≡ bytes "1745582210" ∷ bytes "+0200" ∷ []
+unfolding words pieces full isSpace
+words-of-a-header = refl
+
+words-of-a-relative-date : words (separator Mark) (bytes "-5.days, ago") ≡ bytes "5" ∷ bytes "days" ∷ bytes "ago" ∷ []
+unfolding words pieces full isAlphanumeric
+words-of-a-relative-date = refl
+
+-- "in any letter case"
+any-letter-case : sameLetters (bytes "YesTerDay") (bytes "yesterday") ≡ true
+unfolding sameLetters lowerOf
+any-letter-case = refl
+
+-- bytes 64 and 96 differ by 32 too, and are no letters
+no-letters : sameLetters (bytes "@") (bytes "`") ≡ false
+unfolding sameLetters lowerOf
+no-letters = refl
+
+-- "digits only, at least one"
+no-digit : unsignedOf (bytes "+") ≡ Not × unsignedOf [] ≡ Not × unsignedOf (bytes "1 ") ≡ Not
+unfolding unsignedOf digitsOf readFrom isDigit
+no-digit = (refl, refl, refl)
+
+-- "so `-0` is not one", though it is a signed number
+minus-zero : unsignedOf (bytes "-0") ≡ Not × signedOf (bytes "-0") ≡ Is (pos 0)
+unfolding signedOf unsignedOf digitsOf readFrom isDigit
+minus-zero = (refl, refl)
+
+-- any number of leading zeros
+leading-zeros : unsignedOf (bytes "+0000000000000000000000000000000000000005") ≡ Value 5
+unfolding unsignedOf digitsOf readFrom isDigit
+leading-zeros = refl
+
+-- "the result fits the width": 255 is an unsigned number of 8 bits, 256 is none
+eight-bits : fit 255 (unsignedOf (bytes "255")) ≡ Value 255 × fit 255 (unsignedOf (bytes "256")) ≡ Not
+unfolding fit unsignedOf digitsOf readFrom isDigit
+eight-bits = (refl, refl)
+
+-- of 64 signed bits the least is one, one less is none, and above it ends one earlier
+least : fitSigned (2 ^ 63) (signedOf (bytes "-9223372036854775808")) ≡ Is (negsuc (2 ^ 63 - 1))
+unfolding fitSigned signedOf digitsOf readFrom isDigit
+least = refl
+
+below-least : fitSigned (2 ^ 63) (signedOf (bytes "-9223372036854775809")) ≡ NotOne
+unfolding fitSigned signedOf digitsOf readFrom isDigit
+below-least = refl
+
+most : fitSigned (2 ^ 63) (signedOf (bytes "9223372036854775807")) ≡ Is (pos (2 ^ 63 - 1))
+unfolding fitSigned signedOf unsignedOf digitsOf readFrom isDigit
+most = refl
+
+above-most : fitSigned (2 ^ 63) (signedOf (bytes "9223372036854775808")) ≡ NotOne
+unfolding fitSigned signedOf unsignedOf digitsOf readFrom isDigit
+above-most = refl
+
+-- "its leading digits"
+leading-digits : leading isDigit (bytes "12abc3") ≡ bytes "12"
+unfolding run isDigit
+leading-digits = refl
+
+-- places: the first and the last of a byte; of one that is not there, the length
+first-and-last : firstPlace 58 (bytes "20:30:45") ≡ 2 × lastPlace 58 (bytes "20:30:45") ≡ 5 × firstPlace 46 (bytes "20:30:45") ≡ 8 × lastPlace 46 (bytes "20:30:45") ≡ 8
+unfolding firstPlace lastPlace lastWhere run
+first-and-last = (refl, refl, refl, refl)
+
+-- "plain decimal"
+plain-decimal : decimal 1745582210 ≡ bytes "1745582210" × decimal 0 ≡ bytes "0"
+unfolding decimal decimalBefore decimalBy
+plain-decimal = (refl, refl)

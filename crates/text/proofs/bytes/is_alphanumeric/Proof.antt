@@ -1,4 +1,4 @@
--- `text::bytes::is_alphanumeric` computes to its definition.
+-- `text::bytes::is_alphanumeric` meets its contract: it computes to its definition.
 -- Assumes nothing.
 use mathlib.Core.Path.{refl}
 use Rattle.text.specs.Bytes.{isAlphanumeric}

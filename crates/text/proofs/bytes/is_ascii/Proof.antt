@@ -1,4 +1,5 @@
--- `text::ascii` meets its contract: at each turn the answer for what is left is the answer for the whole. Assumes nothing.
+-- `text::bytes::is_ascii` meets its contract. The invariant: the answer for what is left is the answer for the whole.
+-- Assumes nothing.
 use Rattle.text.proofs.Lists.{drop-cons-add-one}
 use Rattle.text.specs.Bytes.{ascii}
 use mathlib.Core.Path.{_≡_, refl}

@@ -1,4 +1,5 @@
--- `text::is_digit` computes to its definition. Assumes nothing.
+-- `text::bytes::is_digit` meets its contract: it computes to its definition.
+-- Assumes nothing.
 use mathlib.Core.Path.{refl}
 use Rattle.text.specs.Bytes.{isDigit}
 use Rattle.text.proofs.bytes.is_digit.Statement.{statement}

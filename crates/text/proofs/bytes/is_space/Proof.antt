@@ -1,4 +1,5 @@
--- `text::is_space` computes to its definition. Assumes nothing.
+-- `text::bytes::is_space` meets its contract: it computes to its definition.
+-- Assumes nothing.
 use mathlib.Core.Path.{refl}
 use Rattle.text.specs.Bytes.{isSpace}
 use Rattle.text.proofs.bytes.is_space.Statement.{statement}

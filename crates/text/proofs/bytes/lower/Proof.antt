@@ -1,3 +1,5 @@
+-- `text::bytes::lower` meets its contract.
+-- Assumes nothing.
 use borrow.Author.Tests.{le-leb, lt-leb}
 use Rattle.text.specs.Bytes.{lowerOf}
 use borrow.Author.Needs.{needs}

@@ -1,4 +1,5 @@
--- `text::bytes::same_ignoring_case` meets its contract. The invariant: the answer for what is left of both is the answer for the whole.
+-- `text::bytes::same_ignoring_case` meets its contract. The invariant: the answer for what is left of both is the answer for
+-- the whole.
 -- Assumes nothing.
 use mathlib.Core.Path.{_≡_, refl, sym}
 use Prim.Native.Nat.{_-_, _<_, _≤_}

@@ -1,3 +1,6 @@
+-- `text::decimal::count_digits` meets its contract. The invariant: the power is 10 to the digits counted less one, and n has at
+-- least so many digits. The measure: how far n is from the power.
+-- Assumes nothing.
 use mathlib.Core.Path.{_≡_, refl, sym, ap, _∙_}
 use Prim.Native.Nat.{ℕ, suc, _+_, _-_, _*_, _^_, _≤_, _<_}
 use native.Mathlib.Nat.{pow-succ'}

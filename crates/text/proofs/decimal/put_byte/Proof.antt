@@ -1,3 +1,5 @@
+-- `text::decimal::put_byte` meets its contract.
+-- Assumes nothing.
 use borrow.Author.Needs.{needs}
 use Rattle.text.proofs.Putting.{set-put}
 use Rattle.text.proofs.decimal.put_byte.Statement.{statement}

@@ -1,3 +1,6 @@
+-- `text::decimal::put_decimal` meets its contract. The invariant: putting the digits of what is left in front of the place
+-- reached gives what putting those of n gives. The measure: what is left.
+-- Assumes nothing.
 use mathlib.Core.Path.{_≡_, refl, sym, ap, _∙_}
 use Prim.Native.Nat.{ℕ, _+_, _-_, _/_, _≤_, _<_}
 use borrow.Author.Needs.{needs}

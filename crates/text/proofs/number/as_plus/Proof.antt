@@ -1,3 +1,5 @@
+-- `text::number::as_plus` meets its contract.
+-- Assumes nothing.
 use mathlib.Core.Path.{_∙_}
 use Prim.Native.Nat.{_<_, _^_}
 use native.Mathlib.Omega.{arith}

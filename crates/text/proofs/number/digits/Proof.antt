@@ -1,5 +1,6 @@
--- `text::digits` meets its contract. The invariant: the value so far fits, and reading on from it gives the answer. The test before each
--- digit says, without a sum that wraps, whether the value with that digit fits. Assumes nothing.
+-- `text::number::digits` meets its contract. The invariant: the value so far fits, and reading on from it gives the answer. The
+-- test before each digit says, without a sum that wraps, whether the value with that digit fits.
+-- Assumes nothing.
 use Rattle.text.proofs.Lists.{drop-cons-add-one}
 use mathlib.Core.Path.{_≡_, sym, _∙_}
 use Prim.Native.Nat.{_≤_, _-_, _+_, _*_}

@@ -1,3 +1,6 @@
+-- `text::number::leading_digits` meets its contract. The invariant: the digits that open the text are those passed and those
+-- that open what is left.
+-- Assumes nothing.
 use mathlib.Core.Path.{_≡_, sym, _∙_}
 use Prim.Native.Nat.{_+_, _-_, _≤_}
 use native.Mathlib.Omega.{arith}

@@ -1,3 +1,5 @@
+-- `text::number::unsigned_number` meets its contract.
+-- Assumes nothing.
 use Rattle.text.proofs.Lists.{drop-cons-add-one}
 use borrow.Author.Tests.{eq-eqb, ne-eqb}
 use native.Mathlib.Omega.{arith}

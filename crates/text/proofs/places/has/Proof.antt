@@ -1,3 +1,5 @@
+-- `text::places::has` meets its contract.
+-- Assumes nothing.
 use Rattle.text.specs.Places.{has}
 use borrow.Author.Needs.{needs}
 use Rattle.text.proofs.places.has.Statement.{statement}

@@ -1,3 +1,5 @@
+-- `text::places::last_place` meets its contract. The invariant: in what was passed, from the end on, the byte stands nowhere.
+-- Assumes nothing.
 use mathlib.Core.Path.{_≡_, _∙_, sym}
 use Prim.Native.Nat.{_+_, _-_, _≤_, _<_}
 use native.Mathlib.Nat.{le-refl}

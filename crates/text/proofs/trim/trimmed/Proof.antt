@@ -1,3 +1,5 @@
+-- `text::trim::trimmed` meets its contract.
+-- Assumes nothing.
 use Rattle.text.specs.Trim.{trim}
 use borrow.Author.Needs.{needs}
 use Rattle.text.proofs.trim.trimmed.Statement.{statement}

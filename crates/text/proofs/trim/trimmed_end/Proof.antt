@@ -1,3 +1,6 @@
+-- `text::trim::trimmed_end` meets its contract. The invariant: trimming what stands before e gives what trimming the whole
+-- gives. The measure: e.
+-- Assumes nothing.
 use Rattle.text.proofs.Trimming.{trimEnd-snoc}
 use Rattle.text.proofs.Lists.{take-snoc}
 use Rattle.text.specs.Trim.{trimEnd, trimStart}

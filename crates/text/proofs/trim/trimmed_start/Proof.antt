@@ -1,5 +1,4 @@
--- `text::trimmed_start` meets its contract. The invariant: trimming what is left at i gives what trimming the whole gives. The measure is
--- what is left.
+-- `text::trim::trimmed_start` meets its contract. The invariant: trimming what is left gives what trimming the whole gives.
 -- Assumes nothing.
 use Rattle.text.proofs.Lists.{drop-cons-add-one, take-length-sub-drop}
 use Rattle.text.specs.Trim.{trimStart}

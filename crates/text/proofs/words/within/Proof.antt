@@ -1,3 +1,5 @@
+-- `text::words::within` meets its contract: a span that ends before it starts, or starts past the text, bounds nothing.
+-- Assumes nothing.
 use Rattle.text.proofs.Lists.{take-length-sub-drop}
 use mathlib.Core.Path.{_≡_, sym, _∙_}
 use Prim.Native.Nat.{_≤_, _-_}

@@ -1,3 +1,5 @@
+-- `text::words::word_end` meets its contract. The invariant: the place past the word from i is that from `at`.
+-- Assumes nothing.
 use Rattle.text.proofs.Lists.{drop-cons-add-one}
 use Rattle.text.specs.Places.{past, no, run}
 use mathlib.Core.Path.{_≡_, refl}

@@ -1,3 +1,5 @@
+-- `text::words::Words::take` meets its contract.
+-- Assumes nothing.
 use Rattle.text.specs.Words.{takeWord}
 use borrow.Author.Tests.{lt-ltb, le-ltb}
 use borrow.Author.Needs.{needs}
