@@ -67,7 +67,7 @@ shownOf-of-out t h e =
     clash : Out ≡ Inside (instantOf t) → ⊥
     clash p = let z : _≡_ {A = ℕ} 0 1 = cc in omega arith
 
-instant-of-shown : (t : Time) (i : Instant) → shownOf t ≡ At i → i ≡ instantOf t
+pub instant-of-shown : (t : Time) (i : Instant) → shownOf t ≡ At i → i ≡ instantOf t
 unfolding shownOf
 instant-of-shown t i e =
     by-test (leb 86400 (natAbs (t .offset))) (λ y. absurd (clash Offset (sym (rw y at e))))

@@ -4,6 +4,13 @@ ghost use Rattle.time.specs.Buf.{storedOf};
 use crate::Time;
 use crate::Written;
 
+// The bytes of the widest header, that of `Time::MIN`; a buffer has as many.
+pub fn widest() -> usize
+    ensures { λ r. ⌜ r ≡ 26 ⌝ }
+{
+    Time::MIN.size()
+}
+
 pub struct TimeBuf {
     pub bytes: [u8; 26],
     pub end: usize,

@@ -1,3 +1,5 @@
+-- `time::write::offset_size` meets its contract.
+-- Assumes nothing.
 use mathlib.Core.Path.{ap, _∙_}
 use lib.IntN.{natAbs}
 use mir.Syntax.{w32, w64}

@@ -1,3 +1,5 @@
+-- `time::write::put_header` meets its contract: the offset, the digits in front of it, and the sign in front of those.
+-- Assumes nothing.
 use mathlib.Core.Path.{_≡_, ap, _∙_}
 use Prim.Native.Nat.{ℕ, _≤_}
 use native.Mathlib.Omega.{arith}

@@ -1,3 +1,5 @@
+-- `time::write::put_offset` meets its contract.
+-- Assumes nothing.
 use Prim.Native.Nat.{_/_, _%_}
 use Rattle.time.proofs.Headers.{offset-put}
 use borrow.Author.Needs.{needs}

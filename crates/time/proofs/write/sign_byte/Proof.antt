@@ -1,3 +1,5 @@
+-- `time::write::sign_byte` meets its contract.
+-- Assumes nothing.
 use lib.IntN.{pos}
 use mir.Syntax.{w32}
 use Rattle.ints.proofs.Machine.{lit, param, lt-yes, lt-no}

@@ -1,3 +1,5 @@
+-- `time::write::size` meets its contract.
+-- Assumes nothing.
 use mathlib.Core.Path.{ap, _∙_}
 use lib.IntN.{pos, natAbs}
 use mir.Syntax.{w64}

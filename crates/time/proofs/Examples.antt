@@ -1,0 +1,90 @@
+-- Document 01's words on the range and on writing, computed: each line stands under the words that it shows.
+-- Assumes nothing.
+use mathlib.Core.Path.{_≡_, refl}
+use mathlib.Core.Bool.{true, false}
+use mathlib.Core.List.{List, [], _∷_, _++_}
+use Prim.Native.Nat.{ℕ, _^_, _-_}
+use lib.IntN.{pos, negsuc}
+use lib.ListN.{replicate}
+use Rattle.text.specs.Decimal.{decimalBy, decimalBefore, decimal}
+use Rattle.text.specs.Quote.{bytes}
+use Rattle.calendar.specs.Calendar.{leap, lengths, monthLength, yearLength, yearStart, total, firstDay, spanOf, yearOf, monthOf}
+use Rattle.calendar.specs.Dates.{dateOf}
+use Rattle.time.specs.Answers.{timeAt}
+use Rattle.time.specs.Clock.{clockOf}
+use Rattle.time.specs.Range.{secondsInRange, offsetInRange}
+use Rattle.time.specs.Header.{secondsBefore, signByte, wholeMinutes, offsetBytes, headerBytes, sizeOf, headerWritten}
+use Rattle.time.specs.Iso.{isoBytes, shownOf, isoWritten}
+use Rattle.time.specs.declared.Refusal.the-variants.{Offset, Range, Room}
+use Rattle.time.specs.declared.Written.the-variants.{Length, Refused}
+
+-- "Range: seconds -377705023201 to 253402207200; current offset -93599 to 93599"
+range-ends : (secondsInRange (negsuc 377705023200) ≡ true) × (secondsInRange (negsuc 377705023201) ≡ false) × (secondsInRange (pos 253402207200) ≡ true) × (secondsInRange (pos 253402207201) ≡ false)
+unfolding secondsInRange
+range-ends = (refl, refl, refl, refl)
+
+offset-ends : (offsetInRange (negsuc 93598) ≡ true) × (offsetInRange (negsuc 93599) ≡ false) × (offsetInRange (pos 93599) ≡ true) × (offsetInRange (pos 93600) ≡ false)
+unfolding offsetInRange
+offset-ends = (refl, refl, refl, refl)
+
+-- "seconds in plain decimal, space, `-` for a negative offset and otherwise `+`, two digits of hours, two of minutes"
+header-line : headerBytes (timeAt (pos 1745582210) (pos 7200)) ≡ bytes "1745582210 +0200"
+unfolding headerBytes secondsBefore offsetBytes signByte wholeMinutes decimalBefore decimalBy
+header-line = refl
+
+-- "offset -30 writes `-0000`"
+minus-0000 : headerBytes (timeAt (pos 5) (negsuc 29)) ≡ bytes "5 -0000"
+unfolding headerBytes secondsBefore offsetBytes signByte wholeMinutes decimalBefore decimalBy
+minus-0000 = refl
+
+-- "360000, which writes as 7; 359999 writes `+9959`"
+widest-offset : headerBytes (timeAt (pos 5) (pos 359999)) ≡ bytes "5 +9959"
+unfolding headerBytes secondsBefore offsetBytes signByte wholeMinutes decimalBefore decimalBy
+widest-offset = refl
+
+too-wide : headerWritten (timeAt (pos 5) (pos 360000)) (replicate 26 0) ≡ Refused Offset
+unfolding headerWritten
+too-wide = refl
+
+-- the least offset of 32 bits has a size, and is too wide
+least-offset : headerWritten (timeAt (pos 5) (negsuc (2 ^ 31 - 1))) [] ≡ Refused Offset
+unfolding headerWritten
+least-offset = refl
+
+-- "the room lent is shorter than the bytes to be written": six bytes for `5 +0000`, which takes seven
+short-by-one : headerWritten (timeAt (pos 5) (pos 0)) (replicate 6 0) ≡ Refused Room
+unfolding headerWritten sizeOf decimal decimalBefore decimalBy
+short-by-one = refl
+
+-- "`size` is digits, plus 1 if negative, plus 6"; zero has one digit
+sizes : (sizeOf (pos 0) ≡ 7) × (sizeOf (negsuc 0) ≡ 8) × (sizeOf (pos 1745582210) ≡ 16)
+unfolding sizeOf decimal decimalBefore decimalBy
+sizes = (refl, refl, refl)
+
+-- "`YYYY-MM-DDTHH:MM:SS+HH:MM`"
+iso-line : isoBytes (timeAt (pos 1203039045) (negsuc 17999)) ≡ bytes "2008-02-14T20:30:45-05:00"
+unfolding isoBytes clockOf signByte wholeMinutes dateOf monthOf yearOf spanOf monthLength yearLength firstDay yearStart total lengths leap
+iso-line = refl
+
+-- "The fields show the clock at the full offset, the offset is printed cut to minutes, with `-` if it is negative"
+iso-of-odd-offset : isoBytes (timeAt (pos 0) (negsuc 89)) ≡ bytes "1969-12-31T23:58:30-00:01"
+unfolding isoBytes clockOf signByte wholeMinutes dateOf monthOf yearOf spanOf monthLength yearLength firstDay yearStart total lengths leap
+iso-of-odd-offset = refl
+
+-- "writers 7, 6, 8": the largest seconds at an offset of a day, with no room
+seven-first : isoWritten (timeAt (pos (2 ^ 63 - 1)) (pos 86400)) [] ≡ Refused Offset
+unfolding isoWritten shownOf
+seven-first = refl
+
+six-next : isoWritten (timeAt (pos 253402207201) (pos 0)) [] ≡ Refused Range
+unfolding isoWritten shownOf secondsInRange
+six-next = refl
+
+-- "a local year outside 0 to 9999": the second before 1 January 0000, and that midnight
+year-before-0 : isoWritten (timeAt (negsuc 62167219200) (pos 0)) (replicate 25 0) ≡ Refused Range
+unfolding isoWritten shownOf secondsInRange clockOf dateOf monthOf yearOf spanOf monthLength yearLength firstDay yearStart total lengths leap
+year-before-0 = refl
+
+year-0 : isoWritten (timeAt (negsuc 62167219199) (pos 0)) (replicate 25 0) ≡ Length 25
+unfolding isoWritten shownOf secondsInRange clockOf dateOf monthOf yearOf spanOf monthLength yearLength firstDay yearStart total lengths leap
+year-0 = refl
