@@ -1,0 +1,126 @@
+// Dates as Git writes them and people type them: the face that callers see. "Any" tries the forms one after the other; the entries
+// for C are in `entries`.
+pub mod entries;
+
+ghost use mathlib.Core.Path.{_≡_};
+ghost use Rattle.calendar.specs.Table.{IsMonths};
+ghost use Rattle.dates.specs.Any.{isOther, isSettled, numbered as numberedOf, atOf, plainOf, anyOf};
+use text::number::Integer;
+use time::Answer;
+use time::Now;
+use time::Refusal;
+use time::Time;
+
+// Reads a date in any form. A relative one is told from the current time, and only it looks at that.
+pub fn parse(s: &[u8], current: Now) -> Answer
+    ensures { λ r. ⌜ r ≡ anyOf (now (s .entry)) current ⌝ }
+{
+    if text::bytes::is_ascii(s) {
+        let plain = parse_plain(s);
+        if is_settled(plain) {
+            return plain;
+        }
+        let iso = iso::parse_git_date_format(s);
+        if is_settled(iso) {
+            return iso;
+        }
+        let relative = relative::parse(s, current);
+        if is_settled(relative) {
+            return relative;
+        }
+        return header::raw::parse_raw(s);
+    }
+    Answer::Refused(Refusal::NotAscii)
+}
+
+// The same with the table of months lent, for callers that read many texts.
+pub fn parse_with(months: &[u32; 4800], s: &[u8], current: Now) -> Answer
+    requires { ⌜ IsMonths (now months) ⌝ }
+    ensures { λ r. ⌜ r ≡ anyOf (now (s .entry)) current ⌝ }
+{
+    if text::bytes::is_ascii(s) {
+        let plain = parse_plain(s);
+        if is_settled(plain) {
+            return plain;
+        }
+        let iso = iso::parse_git_date_format_with(months, s);
+        if is_settled(iso) {
+            return iso;
+        }
+        let relative = relative::parse_with(months, s, current);
+        if is_settled(relative) {
+            return relative;
+        }
+        return header::raw::parse_raw(s);
+    }
+    Answer::Refused(Refusal::NotAscii)
+}
+
+// What looks at no calendar: `@` and raw or a number, or a number large enough to be no count.
+fn parse_plain(s: &[u8]) -> Answer
+    ensures { λ r. ⌜ r ≡ plainOf (now (s .entry)) ⌝ }
+{
+    let marked = parse_at(s);
+    if is_settled(marked) {
+        return marked;
+    }
+    numbered(100000000, text::number::signed_number(s, 9223372036854775808))
+}
+
+fn parse_at(s: &[u8]) -> Answer
+    ensures { λ r. ⌜ r ≡ atOf (now (s .entry)) ⌝ }
+{
+    if s.len() == 0 {
+        return Answer::Refused(Refusal::Form);
+    }
+    if s[0] == 64 {
+        let rest = &s[1..];
+        let raw = header::raw::parse_raw(rest);
+        if is_settled(raw) {
+            return raw;
+        }
+        return numbered(
+            -9223372036854775808,
+            text::number::signed_number(rest, 9223372036854775808),
+        );
+    }
+    Answer::Refused(Refusal::Form)
+}
+
+// A number from `least` on, as seconds at offset 0.
+fn numbered(least: i64, n: Integer) -> Answer
+    ensures { λ r. ⌜ r ≡ numberedOf least n ⌝ }
+{
+    let Integer::Is(z) = n else {
+        return Answer::Refused(Refusal::Form);
+    };
+    if z < least {
+        return Answer::Refused(Refusal::Form);
+    }
+    Answer::Time(Time::new(z, 0))
+}
+
+// Whether an answer stands: any but the refusal that the text is not of the form asked.
+fn is_settled(a: Answer) -> bool
+    ensures { λ r. ⌜ r ≡ isSettled a ⌝ }
+{
+    match a {
+        Answer::Time(_) => true,
+        Answer::Refused(r) => is_other(r),
+    }
+}
+
+fn is_other(r: Refusal) -> bool
+    ensures { λ b. ⌜ b ≡ isOther r ⌝ }
+{
+    match r {
+        Refusal::Form => false,
+        Refusal::NotAscii => true,
+        Refusal::Missing => true,
+        Refusal::Current => true,
+        Refusal::Pairs => true,
+        Refusal::Range => true,
+        Refusal::Offset => true,
+        Refusal::Room => true,
+    }
+}
