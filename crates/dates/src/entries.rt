@@ -58,7 +58,11 @@ pub extern "C" fn chowderbell_relative(
     ensures seconds { λ _. ⌜ now (seconds .exit) ≡ answerTime (relativeOf maxPairs (now (s .entry)) (nowOf has clock zone)) .seconds ⌝ }
     ensures offset { λ _. ⌜ now (offset .exit) ≡ answerTime (relativeOf maxPairs (now (s .entry)) (nowOf has clock zone)) .offset ⌝ }
 {
-    hand_out(relative::parse(s, now_of(has, clock, zone)), seconds, offset)
+    hand_out(
+        relative::parse(s, now_of(has, clock, zone)),
+        seconds,
+        offset,
+    )
 }
 
 #[no_mangle]

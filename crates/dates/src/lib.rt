@@ -64,7 +64,10 @@ fn parse_plain(s: &[u8]) -> Answer
     if is_settled(marked) {
         return marked;
     }
-    numbered(100000000, text::number::signed_number(s, 9223372036854775808))
+    numbered(
+        100000000,
+        text::number::signed_number(s, 9223372036854775808),
+    )
 }
 
 fn parse_at(s: &[u8]) -> Answer

@@ -1,9 +1,11 @@
--- Laws. In order: lists at a place that a loop has reached; runs of bytes and places; trimming; taking words; numbers; decimal
--- digits; bytes put in front of a place; the document's examples.
+-- Laws. In order: lists at a place that a loop has reached; runs of bytes and places; trimming; taking words; a walker's words, and
+-- what a walker owns; numbers; decimal digits; bytes put in front of a place; the document's examples.
 pub mod Lists
 pub mod Runs
 pub mod Trimming
 pub mod Taking
+pub mod Walking
+pub mod Held
 pub mod Numbers
 pub mod Decimals
 pub mod Putting

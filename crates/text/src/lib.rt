@@ -5,4 +5,5 @@ pub mod decimal;
 pub mod number;
 pub mod places;
 pub mod trim;
+pub mod walker;
 pub mod words;

@@ -1,0 +1,137 @@
+-- An offset's word. In order: its length; how large a field is, so that nothing is lost at any width and no sum wraps; which way
+-- its tests go; the same integer, in bits.
+-- Assumes nothing.
+use mathlib.Core.Path.{_≡_, refl, sym, ap, _∙_}
+use mathlib.Core.Bool.{Bool, true, false, false≢true}
+use mathlib.Core.List.{List}
+use Prim.Native.Nat.{ℕ, _^_, _≤_, _<_}
+use native.Mathlib.Omega.{arith}
+use native.Mathlib.Nat.{pow-le-pow-right}
+use borrow.Author.Tests.{eqb-true, eq-eqb}
+use lib.Dec.{eqb}
+use lib.IntN.{ℤ, pos, negsuc, natAbs}
+use lib.ListN.{length, take, drop, getD, length-take}
+use mir.Syntax.{Width}
+use mir.Val.{SFits, ofZ, toZ}
+use mir.ValLaws.{toZ-ofZ}
+use Rattle.ints.specs.Range.{In}
+use Rattle.ints.proofs.Parts.{parts-le, natAbs-parts}
+use Rattle.text.specs.Bytes.{isDigit, isSign}
+use Rattle.text.specs.Number.{signedOf, unsignedOf, fit, fitSigned, plus}
+use Rattle.text.specs.declared.number.Number.{Number}
+use Rattle.text.specs.declared.number.Number.the-variants.{Value, Not}
+use Rattle.text.specs.declared.number.Integer.{Integer}
+use Rattle.text.specs.declared.number.Integer.the-variants.{Is, NotOne}
+use Rattle.text.proofs.Lists.{by-test}
+use Rattle.text.proofs.Numbers.{Short, Below, signedOf-short, unsignedOf-below, fitSigned-of-length, fit-of-length}
+use Rattle.header.specs.Offset.{fiveOrSeven, fieldOf, lastField, together, fieldsOf, Small}
+use Rattle.header.specs.Header.{headerOffset}
+use Rattle.header.specs.Raw.{eqZ}
+use Rattle.header.specs.declared.offset.Field.{Field}
+use Rattle.header.specs.declared.offset.Field.the-variants.{Signed, Byte}
+use Rattle.header.specs.declared.offset.Fields.{Fields}
+use Rattle.header.specs.declared.offset.Parsed.{Parsed}
+use Rattle.header.specs.declared.offset.Parsed.the-variants.{Offset, NoOffset}
+
+pub le-of-fiveOrSeven : (n : ℕ) → fiveOrSeven n ≡ true → 5 ≤ n
+unfolding fiveOrSeven
+le-of-fiveOrSeven n e = by-test (eqb n 5) (λ a. omega (arith, eqb-true n 5 a)) (λ a. omega (arith, eqb-true n 7 (rw a at e)))
+
+-- ---- how large a field is
+-- two bytes' number is below 100 in size
+pow-length-take : (s : List ℕ) → 10 ^ length (take 2 s) ≤ 100
+pow-length-take s = let h : length (take 2 s) ≤ 2 = omega (arith, length-take 2 s) in pow-le-pow-right {n = 10} (omega arith) h
+
+-- so any width that holds 100 reads a field whole
+pub fitSigned-take : (half : ℕ) (s : List ℕ) → 100 ≤ half → fitSigned half (signedOf (take 2 s)) ≡ signedOf (take 2 s)
+fitSigned-take half s h = fitSigned-of-length half (take 2 s) (omega (arith, pow-length-take s))
+
+pub fit-take : (limit : ℕ) (s : List ℕ) → 99 ≤ limit → fit limit (unsignedOf (take 2 s)) ≡ unsignedOf (take 2 s)
+fit-take limit s h = fit-of-length limit (take 2 s) (omega (arith, pow-length-take s))
+
+abbrev TwoBytes : Integer → Type 0
+TwoBytes (Is z) = In (negsuc 98) (pos 99) z
+TwoBytes NotOne = Unit {0}
+
+two-bytes : (z : ℤ) → natAbs z < 100 → TwoBytes (Is z)
+two-bytes z h = record { low = parts-le _ _ (omega (arith, natAbs-parts z)); high = parts-le _ _ (omega (arith, natAbs-parts z)) }
+
+fieldOf-two-bytes : (by : Field) (w : List ℕ) (at : ℕ) → TwoBytes (fieldOf by w at)
+unfolding fieldOf
+fieldOf-two-bytes Signed w at = go (signedOf (take 2 (drop at w))) (signedOf-short (take 2 (drop at w)))
+  where
+    go : (x : Integer) → Short (10 ^ length (take 2 (drop at w))) x → TwoBytes x
+    go (Is z) b = two-bytes z (omega (arith, pow-length-take (drop at w)))
+    go NotOne b = tt
+fieldOf-two-bytes Byte w at = rw (fit-take 255 (drop at w) (omega arith)) (go (unsignedOf (take 2 (drop at w))) (unsignedOf-below (take 2 (drop at w))))
+  where
+    go : (x : Number) → Below (10 ^ length (take 2 (drop at w))) x → TwoBytes (plus x)
+    go (Value n) b = two-bytes (pos n) (omega (arith, pow-length-take (drop at w)))
+    go Not b = tt
+
+lastField-two-bytes : (by : Field) (w : List ℕ) → TwoBytes (lastField by w)
+unfolding lastField
+lastField-two-bytes by w = by-test (eqb (length w) 7) (λ e. rw e (fieldOf-two-bytes by w 5)) (λ e. rw e (two-bytes (pos 0) (omega arith)))
+
+abbrev AllSmall : Parsed → Type 0
+AllSmall (Offset f) = Small f
+AllSmall NoOffset = Unit {0}
+
+together-small : (minus : Bool) (h m x : Integer) → TwoBytes h → TwoBytes m → TwoBytes x → AllSmall (together minus h m x)
+together-small minus (Is h) (Is m) (Is x) p q r = record { hours-in = p; minutes-in = q; seconds-in = r }
+together-small minus NotOne m x p q r = tt
+together-small minus (Is h) NotOne x p q r = tt
+together-small minus (Is h) (Is m) NotOne p q r = tt
+
+-- ---- which way the tests go
+module _ (by : Field) (w : List ℕ) where
+  pub fieldsOf-of-tests : fiveOrSeven (length w) ≡ true → isSign (getD w 0 0) ≡ true
+      → fieldsOf by w ≡ together (eqb (getD w 0 0) 45) (fieldOf by w 1) (fieldOf by w 3) (lastField by w)
+  unfolding fieldsOf
+  fieldsOf-of-tests a b = rw (a, b)
+
+  pub fieldsOf-of-length : fiveOrSeven (length w) ≡ false → fieldsOf by w ≡ NoOffset
+  unfolding fieldsOf
+  fieldsOf-of-length a = rw a
+
+  pub fieldsOf-of-sign : isSign (getD w 0 0) ≡ false → fieldsOf by w ≡ NoOffset
+  unfolding fieldsOf
+  fieldsOf-of-sign b = by-test (fiveOrSeven (length w)) (λ a. rw (a, b)) (λ a. rw a)
+
+  fieldsOf-all-small : AllSmall (fieldsOf by w)
+  fieldsOf-all-small =
+      by-test (fiveOrSeven (length w))
+      (λ a.
+      by-test (isSign (getD w 0 0)) (λ b. rw (fieldsOf-of-tests a b) (together-small _ (fieldOf by w 1) (fieldOf by w 3) (lastField by w) (fieldOf-two-bytes by w 1) (fieldOf-two-bytes by w 3) (lastField-two-bytes by w))) (λ b. rw (fieldsOf-of-sign b) tt))
+      (λ a. rw (fieldsOf-of-length a) tt)
+
+  pub fieldsOf-small : (f : Fields) → fieldsOf by w ≡ Offset f → Small f
+  fieldsOf-small f e = rw e at fieldsOf-all-small
+
+pub headerOffset-small : (w : List ℕ) (f : Fields) → headerOffset w ≡ Offset f → Small f
+unfolding headerOffset
+headerOffset-small w f e =
+    by-test (isDigit (getD w 1 0)) (λ d. fieldsOf-small Signed w f (rw d at e))
+    (λ d. let k = rw d at e in let q : _≡_ {A = ℕ} 0 1 = cc in absurd (omega arith))
+
+-- ---- the same integer
+eqZ-refl : (z : ℤ) → eqZ z z ≡ true
+eqZ-refl (pos n) = eq-eqb n n refl
+eqZ-refl (negsuc n) = eq-eqb n n refl
+
+pub eqZ-true : (a b : ℤ) → eqZ a b ≡ true → a ≡ b
+eqZ-true (pos a) (pos b) e = ap pos (eqb-true a b e)
+eqZ-true (pos a) (negsuc b) e = absurd (false≢true e)
+eqZ-true (negsuc a) (pos b) e = absurd (false≢true e)
+eqZ-true (negsuc a) (negsuc b) e = ap negsuc (eqb-true a b e)
+
+-- the machine compares bits
+pub eqb-ofZ : (w : Width) (a b : ℤ) → SFits w a → SFits w b → eqb (ofZ w a) (ofZ w b) ≡ eqZ a b
+eqb-ofZ w a b f g =
+    by-test (eqZ a b) (λ e. rw (eqZ-true a b e, eqZ-refl b) (eq-eqb (ofZ w b) (ofZ w b) refl))
+    (λ e.
+    by-test (eqb (ofZ w a) (ofZ w b))
+    (λ d.
+    let same : a ≡ b = sym (toZ-ofZ w a f) ∙ ap (toZ w) (eqb-true _ _ d) ∙ toZ-ofZ w b g in
+    absurd (false≢true (sym e ∙ ap (λ (z : ℤ). eqZ z b) same ∙ eqZ-refl b)))
+    (λ d. d ∙ sym e))

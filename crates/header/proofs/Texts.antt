@@ -1,0 +1,166 @@
+-- Texts whose bytes are known. In order: a byte that stands nowhere in a text; in none of its words; in no number; a text whose
+-- bytes lie in a range; a number that is digits, or a minus and digits.
+-- Assumes nothing.
+use mathlib.Core.Path.{_≡_, refl, sym, ap, _∙_}
+use mathlib.Core.Bool.{Bool, true, false, not, _||_, false≢true}
+use mathlib.Core.List.{List, [], _∷_, _++_}
+use Prim.Native.Nat.{ℕ, suc, _≤_, _<_}
+use native.Mathlib.Omega.{arith}
+use native.Mathlib.Nat.{not-suc-le-zero}
+use borrow.Author.Tests.{lt-ltb, le-ltb, ltb-true, ltb-false, le-leb, lt-leb, ne-eqb, eqb-true}
+use lib.Dec.{ltb, eqb}
+use lib.IntN.{ℤ, pos, negℤ}
+use lib.ListN.{length, take, drop, take-append-drop}
+use Rattle.text.specs.Bytes.{isSpace, isDigit, ascii}
+use Rattle.text.specs.Places.{run, firstPlace, has}
+use Rattle.text.specs.Words.{onto, pieces, full, words}
+use Rattle.text.specs.Number.{readFrom, digitsOf, unsignedOf, signedOf, plus, minus}
+use Rattle.text.specs.declared.number.Number.{Number}
+use Rattle.text.specs.declared.number.Number.the-variants.{Value, Not}
+use Rattle.text.specs.declared.number.Integer.the-variants.{Is}
+use Rattle.text.proofs.Lists.{by-test}
+use Rattle.text.proofs.Numbers.{digit-range}
+use Rattle.text.proofs.Decimals.{Between}
+use Rattle.text.proofs.Taking.{Whole}
+
+module _ (c : ℕ) where
+  -- ---- a byte that stands nowhere in a text
+  pub has-cons : (b : ℕ) (s : List ℕ) → has c (b ∷ s) ≡ (eqb b c || has c s)
+  unfolding has firstPlace run
+  has-cons b s = by-test (eqb b c) (λ e. rw e (lt-ltb 0 (suc (length s)) (omega arith))) (λ e. rw e (ltb-suc (run (λ x. not (eqb x c)) s) (length s)))
+    where
+      ltb-suc : (m n : ℕ) → ltb (suc m) (suc n) ≡ ltb m n
+      ltb-suc m n = by-test (ltb m n) (λ e. rw e (lt-ltb (suc m) (suc n) (omega (arith, ltb-true m n e)))) (λ e. rw e (le-ltb (suc m) (suc n) (omega (arith, ltb-false m n e))))
+
+  pub has-nil : has c [] ≡ false
+  unfolding has firstPlace run
+  has-nil = refl
+
+  pub not-has-cons : (b : ℕ) (s : List ℕ) → eqb b c ≡ false → has c s ≡ false → has c (b ∷ s) ≡ false
+  not-has-cons b s e h = rw (has-cons b s, e, h)
+
+  neither : (a b : Bool) → (a || b) ≡ false → (a ≡ false) × (b ≡ false)
+  neither true b e = absurd (false≢true (sym e))
+  neither false b e = (refl, e)
+
+  not-has-of-cons : (b : ℕ) (s : List ℕ) → has c (b ∷ s) ≡ false → (eqb b c ≡ false) × (has c s ≡ false)
+  not-has-of-cons b s h = neither (eqb b c) (has c s) (sym (has-cons b s) ∙ h)
+
+  not-has-append : (s t : List ℕ) → has c s ≡ false → has c t ≡ false → has c (s ++ t) ≡ false
+  not-has-append [] t h k = k
+  not-has-append (b ∷ s) t h k = let p = not-has-of-cons b s h in not-has-cons b (s ++ t) (p .0) (not-has-append s t (p .1) k)
+
+  -- by a cut at any place
+  pub not-has-cut : (n : ℕ) (s : List ℕ) → has c (take n s) ≡ false → has c (drop n s) ≡ false → has c s ≡ false
+  not-has-cut n s h k = rw (take-append-drop n s) at (not-has-append (take n s) (drop n s) h k)
+
+  -- ---- in none of its words
+  abbrev pub Lacking : List (List ℕ) → Type 0
+  Lacking [] = Unit {0}
+  Lacking (w ∷ ws) = (has c w ≡ false) × Lacking ws
+
+  lacking-of-full : (ws : List (List ℕ)) → Lacking (full ws) → Lacking ws
+  unfolding full
+  lacking-of-full [] h = tt
+  lacking-of-full ([] ∷ ws) h = (has-nil, lacking-of-full ws h)
+  lacking-of-full ((b ∷ w) ∷ ws) h = (h .0, lacking-of-full ws (h .1))
+
+  lacking-of-onto : (b : ℕ) (ws : List (List ℕ)) → Lacking (onto b ws) → (eqb b c ≡ false) × Lacking ws
+  lacking-of-onto b [] h = (not-has-of-cons b [] (h .0) .0, tt)
+  lacking-of-onto b (w ∷ ws) h = let p = not-has-of-cons b w (h .0) in (p .0, (p .1, h .1))
+
+  module _ (p : ℕ → Bool) (inside : p c ≡ false) where
+    not-c : (b : ℕ) → p b ≡ true → eqb b c ≡ false
+    not-c b e = ne-eqb b c (λ q. false≢true (sym inside ∙ ap p (sym q) ∙ e))
+
+    not-has-of-pieces : (s : List ℕ) → Lacking (pieces p s) → has c s ≡ false
+    unfolding pieces
+    not-has-of-pieces [] h = has-nil
+    not-has-of-pieces (b ∷ s) h =
+        by-test (p b) (λ e. let k = rw e at h in not-has-cons b s (not-c b e) (not-has-of-pieces s (k .1)))
+        (λ e. let k = lacking-of-onto b (pieces p s) (rw e at h) in not-has-cons b s (k .0) (not-has-of-pieces s (k .1)))
+
+    -- a byte that separates no words, and stands in no word, stands nowhere
+    pub not-has-of-words : (s : List ℕ) → Lacking (words p s) → has c s ≡ false
+    unfolding words
+    not-has-of-words s h = not-has-of-pieces s (lacking-of-full (pieces p s) h)
+
+-- ---- in no number
+colon-lt : (b : ℕ) → b < 58 → eqb b 58 ≡ false
+colon-lt b h = ne-eqb b 58 (λ e. omega arith)
+
+module _ (n : ℕ) where
+  pub no-colon-of-readFrom : (s : List ℕ) (v : ℕ) → readFrom v s ≡ Value n → has 58 s ≡ false
+  unfolding readFrom
+  no-colon-of-readFrom [] v h = has-nil 58
+  no-colon-of-readFrom (b ∷ s) v h =
+      by-test (isDigit b) (λ e. not-has-cons 58 b s (colon-lt b (omega (arith, digit-range b e))) (no-colon-of-readFrom s _ (rw e at h)))
+      (λ e. let k = rw e at h in let z : _≡_ {A = ℕ} 0 1 = cc in absurd (omega arith))
+
+  no-colon-of-digitsOf : (s : List ℕ) → digitsOf s ≡ Value n → has 58 s ≡ false
+  unfolding digitsOf
+  no-colon-of-digitsOf [] h = has-nil 58
+  no-colon-of-digitsOf (b ∷ s) h = no-colon-of-readFrom (b ∷ s) 0 h
+
+  pub no-colon-of-unsignedOf : (s : List ℕ) → unsignedOf s ≡ Value n → has 58 s ≡ false
+  unfolding unsignedOf
+  no-colon-of-unsignedOf [] h = has-nil 58
+  no-colon-of-unsignedOf (b ∷ s) h =
+      by-test (eqb b 43) (λ e. not-has-cons 58 b s (colon-lt b (omega (arith, eqb-true b 43 e))) (no-colon-of-digitsOf s (rw e at h))) (λ e. no-colon-of-digitsOf (b ∷ s) (rw e at h))
+
+pub no-colon-of-signedOf : (s : List ℕ) (z : ℤ) → signedOf s ≡ Is z → has 58 s ≡ false
+unfolding signedOf
+no-colon-of-signedOf [] z h = has-nil 58
+no-colon-of-signedOf (b ∷ s) z h =
+    by-test (eqb b 45) (λ e. not-has-cons 58 b s (colon-lt b (omega (arith, eqb-true b 45 e))) (minused (digitsOf s) refl (rw e at h))) (λ e. plussed (unsignedOf (b ∷ s)) refl (rw e at h))
+  where
+    minused : (x : Number) → digitsOf s ≡ x → minus x ≡ Is z → has 58 s ≡ false
+    minused (Value n) e k = no-colon-of-digitsOf n s e
+    minused Not e k = let q : _≡_ {A = ℕ} 0 1 = cc in absurd (omega arith)
+
+    plussed : (x : Number) → unsignedOf (b ∷ s) ≡ x → plus x ≡ Is z → has 58 (b ∷ s) ≡ false
+    plussed (Value n) e k = no-colon-of-unsignedOf n (b ∷ s) e
+    plussed Not e k = let q : _≡_ {A = ℕ} 0 1 = cc in absurd (omega arith)
+
+-- an unsigned number is the same signed: it does not open with `-`
+unsignedOf-minus : (s : List ℕ) → unsignedOf (45 ∷ s) ≡ Not
+unfolding unsignedOf digitsOf readFrom isDigit
+unsignedOf-minus s = refl
+
+unsignedOf-nil : unsignedOf [] ≡ Not
+unfolding unsignedOf
+unsignedOf-nil = refl
+
+pub signedOf-of-unsignedOf : (s : List ℕ) (n : ℕ) → unsignedOf s ≡ Value n → signedOf s ≡ Is (pos n)
+unfolding signedOf
+signedOf-of-unsignedOf [] n h = let k = rw unsignedOf-nil at h in let q : _≡_ {A = ℕ} 0 1 = cc in absurd (omega arith)
+signedOf-of-unsignedOf (b ∷ s) n h =
+    by-test (eqb b 45) (λ e. let k = rw (eqb-true b 45 e, unsignedOf-minus s) at h in let q : _≡_ {A = ℕ} 0 1 = cc in absurd (omega arith)) (λ e. rw (e, h))
+
+-- ---- bytes in a range
+pub ascii-of-between : (lo hi : ℕ) → hi < 128 → (s : List ℕ) → Between lo hi s → ascii s ≡ true
+unfolding ascii
+ascii-of-between lo hi h [] b = refl
+ascii-of-between lo hi h (x ∷ s) b = let k : x ≤ hi = b .1 in rw (lt-ltb x 128 (omega arith)) (ascii-of-between lo hi h s (b .2))
+
+pub no-colon-of-between : (lo : ℕ) (s : List ℕ) → Between lo 57 s → has 58 s ≡ false
+no-colon-of-between lo [] b = has-nil 58
+no-colon-of-between lo (x ∷ s) b = let k : x ≤ 57 = b .1 in not-has-cons 58 x s (colon-lt x (omega arith)) (no-colon-of-between lo s (b .2))
+
+pub whole-of-between : (hi : ℕ) (w : List ℕ) → Between 33 hi w → Whole isSpace w
+unfolding isSpace
+whole-of-between hi [] b = tt
+whole-of-between hi (x ∷ w) b =
+    let k : 33 ≤ x = b .0 in
+    (rw (le-leb 9 x (omega arith), lt-leb x 13 (omega arith), ne-eqb x 32 (λ e. omega arith)), whole-of-between hi w (b .2))
+
+-- ---- digits, and a minus and digits
+pub signedOf-of-digits : (s : List ℕ) (n : ℕ) → 0 < length s → Between 48 57 s → readFrom 0 s ≡ Value n → signedOf s ≡ Is (pos n)
+unfolding signedOf unsignedOf digitsOf
+signedOf-of-digits [] n h b e = absurd (not-suc-le-zero h)
+signedOf-of-digits (x ∷ s) n h b e = let k : 48 ≤ x = b .0 in rw (ne-eqb x 45 (λ q. omega arith), ne-eqb x 43 (λ q. omega arith), e)
+
+pub signedOf-of-minus : (s : List ℕ) (n : ℕ) → 0 < length s → readFrom 0 s ≡ Value n → signedOf (45 ∷ s) ≡ Is (negℤ (pos n))
+unfolding signedOf digitsOf
+signedOf-of-minus [] n h e = absurd (not-suc-le-zero h)
+signedOf-of-minus (x ∷ s) n h e = rw e

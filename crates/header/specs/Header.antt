@@ -1,0 +1,59 @@
+-- Document 01, "Reading headers and raw dates": the header, `1745582210 +0200`, seconds since 1970 and an offset in seconds. Two
+-- anchors: `12abc` is 12 at offset 0, and `5 +00-5` is 5 at offset -300.
+-- Assumes nothing.
+use Prim.Native.Nat.{ℕ, _^_}
+use Prim.Native.Char.{code}
+use mathlib.Core.Bool.{cond}
+use mathlib.Core.List.{List, [], _∷_}
+use lib.IntN.{ℤ, pos}
+use lib.ListN.{getD}
+use Rattle.text.specs.Bytes.{isSpace, isDigit, ascii}
+use Rattle.text.specs.Places.{has, leading}
+use Rattle.text.specs.Words.{words}
+use Rattle.text.specs.Number.{signedOf, fitSigned}
+use Rattle.text.specs.declared.number.Integer.{Integer}
+use Rattle.text.specs.declared.number.Integer.the-variants.{Is, NotOne}
+use Rattle.time.specs.Answers.{timeAt}
+use Rattle.time.specs.declared.Answer.{Answer}
+use Rattle.time.specs.declared.Answer.the-variants.{Time, Refused}
+use Rattle.time.specs.declared.Refusal.the-variants.{NotAscii, Form}
+use Rattle.header.specs.Offset.{onlyWord, fieldsOf, offsetOf}
+use Rattle.header.specs.declared.offset.Field.the-variants.{Signed}
+use Rattle.header.specs.declared.offset.Parsed.{Parsed}
+use Rattle.header.specs.declared.offset.Parsed.the-variants.{Offset, NoOffset}
+
+-- a 64-bit number
+abbrev pub number64 : List ℕ → Integer
+number64 w = fitSigned (2 ^ 63) (signedOf w)
+
+-- the first, or the other where it is no number
+abbrev pub orElse : Integer → Integer → Integer
+orElse (Is z) other = Is z
+orElse NotOne other = other
+
+-- first word: a 64-bit number, else its leading digits as one
+unfoldable pub secondsOf : List ℕ → Integer
+secondsOf w = orElse (number64 w) (number64 (leading isDigit w))
+
+-- a second word is an offset if it has 5 or 7 bytes, a sign, then a digit, and its two-byte fields are signed numbers
+unfoldable pub headerOffset : List ℕ → Parsed
+headerOffset w = cond (isDigit (getD w 1 0)) (fieldsOf Signed w) NoOffset
+
+-- otherwise the offset is 0, not a refusal
+abbrev pub offsetOrZero : Parsed → ℤ
+offsetOrZero (Offset f) = offsetOf f
+offsetOrZero NoOffset = pos 0
+
+-- no number: 2
+abbrev pub headerTime : Integer → Parsed → Answer
+headerTime (Is s) p = Time (timeAt s (offsetOrZero p))
+headerTime NotOne p = Refused Form
+
+-- no word is 2; no second word, or a third word, gives offset 0
+unfoldable pub headerOfWords : List (List ℕ) → Answer
+headerOfWords [] = Refused Form
+headerOfWords (w ∷ ws) = headerTime (secondsOf w) (headerOffset (onlyWord ws))
+
+-- a byte of 128 or more is 1; then a `:` anywhere is 2
+unfoldable pub headerOf : List ℕ → Answer
+headerOf s = cond (ascii s) (cond (has (code ":") s) (Refused Form) (headerOfWords (words isSpace s))) (Refused NotAscii)

@@ -1,0 +1,68 @@
+-- Document 01, "Reading headers and raw dates": what an offset's word holds, where the two readers say the same: 5 or 7 bytes, a
+-- sign, then two-byte fields: hours, minutes, perhaps seconds. They differ in the numbers that a field may be. Two anchors:
+-- `+0130` is 5400, and `-01-5`, whose minutes are -5, is -3300.
+-- Assumes nothing.
+use Prim.Native.Nat.{ℕ}
+use Prim.Native.Char.{code}
+use mathlib.Core.Bool.{Bool, cond, _&&_, _||_}
+use mathlib.Core.List.{List, [], _∷_}
+use lib.Dec.{eqb}
+use lib.IntN.{ℤ, pos, negsuc, negℤ, _+ℤ_, _*ℤ_}
+use lib.ListN.{length, take, drop, getD}
+use Rattle.ints.specs.Range.{In}
+use Rattle.text.specs.Bytes.{isSign}
+use Rattle.text.specs.Number.{signedOf, unsignedOf, fit, plus}
+use Rattle.text.specs.declared.number.Integer.{Integer}
+use Rattle.text.specs.declared.number.Integer.the-variants.{Is, NotOne}
+use Rattle.header.specs.declared.offset.Field.{Field}
+use Rattle.header.specs.declared.offset.Field.the-variants.{Signed, Byte}
+use Rattle.header.specs.declared.offset.Fields.{Fields}
+use Rattle.header.specs.declared.offset.Parsed.{Parsed}
+use Rattle.header.specs.declared.offset.Parsed.the-variants.{Offset, NoOffset}
+
+-- of the words past the first: the second word, if there is no third. The empty text stands for none, and is no offset
+abbrev pub onlyWord : List (List ℕ) → List ℕ
+onlyWord [] = []
+onlyWord (w ∷ []) = w
+onlyWord (w ∷ v ∷ ws) = []
+
+-- 5 or 7 bytes
+unfoldable pub fiveOrSeven : ℕ → Bool
+fiveOrSeven n = eqb n 5 || eqb n 7
+
+-- the two-byte field at a place: a signed number, or an unsigned 8-bit one
+unfoldable pub fieldOf : Field → List ℕ → ℕ → Integer
+fieldOf Signed w at = signedOf (take 2 (drop at w))
+fieldOf Byte w at = plus (fit 255 (unsignedOf (take 2 (drop at w))))
+
+-- perhaps seconds: with 7 bytes
+unfoldable pub lastField : Field → List ℕ → Integer
+lastField by w = cond (eqb (length w) 7) (fieldOf by w 5) (Is (pos 0))
+
+-- hours, minutes, seconds behind a sign, if all are numbers
+abbrev pub together : Bool → Integer → Integer → Integer → Parsed
+together minus (Is h) (Is m) (Is x) = Offset (record { minus = minus; hours = h; minutes = m; seconds = x })
+together minus NotOne m x = NoOffset
+together minus (Is h) NotOne x = NoOffset
+together minus (Is h) (Is m) NotOne = NoOffset
+
+-- 5 or 7 bytes, a sign, and the fields
+unfoldable pub fieldsOf : Field → List ℕ → Parsed
+fieldsOf by w =
+    cond (fiveOrSeven (length w) && isSign (getD w 0 0))
+    (together (eqb (getD w 0 0) (code "-")) (fieldOf by w 1) (fieldOf by w 3) (lastField by w))
+    NoOffset
+
+-- the fields in seconds
+abbrev pub sumOf : Fields → ℤ
+sumOf f = f .hours *ℤ pos 3600 +ℤ f .minutes *ℤ pos 60 +ℤ f .seconds
+
+-- what they mean: a sign before the fields is a sign of the offset, and turns the whole sum
+unfoldable pub offsetOf : Fields → ℤ
+offsetOf f = cond (f .minus) (negℤ (sumOf f)) (sumOf f)
+
+-- numbers of two bytes, which is all that `seconds_of` has to add up
+pub record Small (f : Fields) : Type 0 where
+  pub hours-in : In (negsuc 98) (pos 99) (f .hours)
+  pub minutes-in : In (negsuc 98) (pos 99) (f .minutes)
+  pub seconds-in : In (negsuc 98) (pos 99) (f .seconds)

@@ -1,0 +1,68 @@
+-- Document 01, "Reading headers and raw dates": raw dates. The limits on hours and minutes are a parameter, fixed by rule 1. Two
+-- anchors: `5 +1445` is 5 at offset 53100, and `5 ++5+0` is 5 at offset 18000.
+-- Assumes nothing.
+use Prim.Native.Nat.{ℕ}
+use mathlib.Core.Bool.{Bool, false, cond, _&&_, _||_}
+use mathlib.Core.List.{List, [], _∷_}
+use lib.Dec.{eqb}
+use lib.IntN.{ℤ, pos, negsuc}
+use lib.Signed.{leZ}
+use Rattle.text.specs.Bytes.{isSpace, ascii}
+use Rattle.text.specs.Words.{words}
+use Rattle.text.specs.declared.number.Integer.{Integer}
+use Rattle.text.specs.declared.number.Integer.the-variants.{Is, NotOne}
+use Rattle.time.specs.Answers.{timeAt}
+use Rattle.time.specs.declared.Answer.{Answer}
+use Rattle.time.specs.declared.Answer.the-variants.{Time, Refused}
+use Rattle.time.specs.declared.Refusal.the-variants.{NotAscii, Form}
+use Rattle.header.specs.Offset.{onlyWord, fieldsOf, offsetOf}
+use Rattle.header.specs.Header.{number64}
+use Rattle.header.specs.declared.offset.Field.the-variants.{Byte}
+use Rattle.header.specs.declared.offset.Fields.{Fields}
+use Rattle.header.specs.declared.offset.Parsed.{Parsed}
+use Rattle.header.specs.declared.offset.Parsed.the-variants.{Offset, NoOffset}
+use Rattle.header.specs.declared.raw.Rule.{Rule}
+use Rattle.header.specs.declared.raw.Rule.the-variants.{One}
+
+-- the same integer
+abbrev pub eqZ : ℤ → ℤ → Bool
+eqZ (pos a) (pos b) = eqb a b
+eqZ (pos a) (negsuc b) = false
+eqZ (negsuc a) (pos b) = false
+eqZ (negsuc a) (negsuc b) = eqb a b
+
+-- which hours and which minutes are let through
+pub record Limits : Type 0 where
+  pub hours : ℤ → Bool
+  pub minutes : ℤ → Bool
+
+-- hours at most 14; minutes 0, 15, 30 or 45
+abbrev pub rule1 : Limits
+rule1 =
+    record {
+      hours = λ h. leZ h (pos 14);
+      minutes = λ m. eqZ m (pos 0) || eqZ m (pos 15) || eqZ m (pos 30) || eqZ m (pos 45);
+    }
+
+-- the limits of a rule
+abbrev pub limitsOf : Rule → Limits
+limitsOf One = rule1
+
+-- within the limits; seconds 0
+unfoldable pub allows : Limits → Fields → Bool
+allows l f = l .hours (f .hours) && l .minutes (f .minutes) && eqZ (f .seconds) (pos 0)
+
+-- 2 unless both are read, and the limits let the fields through
+abbrev pub rawTime : Limits → Integer → Parsed → Answer
+rawTime l (Is s) (Offset f) = cond (allows l f) (Time (timeAt s (offsetOf f))) (Refused Form)
+rawTime l (Is s) NoOffset = Refused Form
+rawTime l NotOne p = Refused Form
+
+-- exactly two words, the first a 64-bit number, the second 5 or 7 bytes opening with a sign; fields are unsigned 8-bit
+unfoldable pub rawOfWords : Limits → List (List ℕ) → Answer
+rawOfWords l [] = Refused Form
+rawOfWords l (w ∷ ws) = rawTime l (number64 w) (fieldsOf Byte (onlyWord ws))
+
+-- a byte of 128 or more is 1
+unfoldable pub rawOf : Limits → List ℕ → Answer
+rawOf l s = cond (ascii s) (rawOfWords l (words isSpace s)) (Refused NotAscii)

@@ -1,0 +1,112 @@
+// What an offset's word holds, for both readers: 5 or 7 bytes, a sign, and behind it two-byte
+// fields: hours, minutes, perhaps seconds. The readers differ in the numbers that a field may be.
+ghost use mathlib.Core.Path.{_≡_};
+ghost use Prim.Native.Nat.{_+_, _≤_};
+ghost use lib.ListN.{length};
+ghost use Rattle.text.specs.Number.{plus, AtMost};
+ghost use Rattle.header.specs.Offset.{fiveOrSeven, fieldOf, lastField, fieldsOf, offsetOf, Small};
+use text::bytes;
+use text::number;
+use text::number::Integer;
+use text::number::Number;
+
+// What a field may be: a signed number, so `-5` is one; or an unsigned one of 8 bits, which `+5` is
+// and `-5` is not.
+pub enum Field {
+    Signed,
+    Byte,
+}
+
+// The sign in front, and the numbers behind it.
+pub struct Fields {
+    pub minus: bool,
+    pub hours: i64,
+    pub minutes: i64,
+    pub seconds: i64,
+}
+
+pub enum Parsed {
+    Offset(Fields),
+    NoOffset,
+}
+
+pub fn parse_fields(w: &[u8], by: Field) -> Parsed
+    ensures { λ r. ⌜ r ≡ fieldsOf by (now (w .entry)) ⌝ }
+{
+    if five_or_seven(w.len()) {
+        if bytes::is_sign(w[0]) {
+            let hours = parse_field(w, 1, by);
+            let Integer::Is(h) = hours else {
+                return Parsed::NoOffset;
+            };
+            let minutes = parse_field(w, 3, by);
+            let Integer::Is(m) = minutes else {
+                return Parsed::NoOffset;
+            };
+            let seconds = last_field(w, by);
+            let Integer::Is(x) = seconds else {
+                return Parsed::NoOffset;
+            };
+            return Parsed::Offset(Fields {
+                minus: w[0] == 45,
+                hours: h,
+                minutes: m,
+                seconds: x,
+            });
+        }
+        return Parsed::NoOffset;
+    }
+    Parsed::NoOffset
+}
+
+fn five_or_seven(n: usize) -> bool
+    ensures { λ r. ⌜ r ≡ fiveOrSeven n ⌝ }
+{
+    (n == 5) | (n == 7)
+}
+
+// The two bytes from `at`.
+fn parse_field(w: &[u8], at: usize, by: Field) -> Integer
+    requires { ⌜ at + 2 ≤ length (now w) ⌝ }
+    ensures { λ r. ⌜ r ≡ fieldOf by (now (w .entry)) at ⌝ }
+{
+    match by {
+        Field::Signed => number::signed_number(&w[at..at + 2], 2147483648),
+        Field::Byte => widened(number::unsigned_number(&w[at..at + 2], 255)),
+    }
+}
+
+// Seconds stand only in a word of 7 bytes, and are 0 in one of 5.
+fn last_field(w: &[u8], by: Field) -> Integer
+    ensures { λ r. ⌜ r ≡ lastField by (now (w .entry)) ⌝ }
+{
+    if w.len() == 7 {
+        return parse_field(w, 5, by);
+    }
+    Integer::Is(0)
+}
+
+fn widened(n: Number) -> Integer
+    requires { ⌜ AtMost 255 n ⌝ }
+    ensures { λ r. ⌜ r ≡ plus n ⌝ }
+{
+    match n {
+        Number::Value(v) => Integer::Is(v as i64),
+        Number::Not => Integer::NotOne,
+    }
+}
+
+// The sign turns the whole sum, not the hours alone.
+pub fn seconds_of(f: Fields) -> i32
+    requires { ⌜ Small f ⌝ }
+    ensures { λ r. ⌜ r ≡ offsetOf f ⌝ }
+{
+    let h = f.hours;
+    let m = f.minutes;
+    let x = f.seconds;
+    let sum = h * 3600 + m * 60 + x;
+    if f.minus {
+        return (0 - sum) as i32;
+    }
+    sum as i32
+}

@@ -1,0 +1,71 @@
+// The raw reader: two words, the header's form with nothing forgiven. Its limits on hours and
+// minutes are those of a rule.
+ghost use mathlib.Core.Path.{_≡_};
+ghost use Rattle.header.specs.Raw.{rule1, limitsOf, allows as allowsOf, rawOf};
+use crate::offset;
+use crate::offset::Field;
+use crate::offset::Fields;
+use crate::offset::Parsed;
+use text::bytes;
+use text::number;
+use text::number::Integer;
+use text::words::Separator;
+use text::words::Taken;
+use text::words::Words;
+use time::Answer;
+use time::Refusal;
+use time::Time;
+
+// Which hours and which minutes are let through: `limitsOf` has the limits of each.
+enum Rule {
+    One,
+}
+
+// A raw date, by rule 1. 1 for a byte of 128 or more, then 2 for anything but a number and an
+// offset within the limits.
+pub fn parse_raw(s: &[u8]) -> Answer
+    ensures { λ r. ⌜ r ≡ rawOf rule1 (now (s .entry)) ⌝ }
+{
+    parse_raw_by(s, Rule::One)
+}
+
+// The first word is judged before the others are looked at.
+fn parse_raw_by(s: &[u8], rule: Rule) -> Answer
+    ensures { λ r. ⌜ r ≡ rawOf (limitsOf rule) (now (s .entry)) ⌝ }
+{
+    if bytes::is_ascii(s) {
+        let first = Words::new().take(s, Separator::Space);
+        let Taken::Word(a, rest) = first else {
+            return Answer::Refused(Refusal::Form);
+        };
+        let seconds = number::signed_number(text::words::within(s, a), 9223372036854775808);
+        let Integer::Is(z) = seconds else {
+            return Answer::Refused(Refusal::Form);
+        };
+        let parsed = offset::parse_fields(crate::only_word(s, rest), Field::Byte);
+        let Parsed::Offset(f) = parsed else {
+            return Answer::Refused(Refusal::Form);
+        };
+        if allows(rule, f) {
+            let o = offset::seconds_of(f);
+            return Answer::Time(Time {
+                seconds: z,
+                offset: o,
+            });
+        }
+        return Answer::Refused(Refusal::Form);
+    }
+    Answer::Refused(Refusal::NotAscii)
+}
+
+// Rule 1: hours at most 14; minutes 0, 15, 30 or 45. By any rule seconds are 0.
+fn allows(rule: Rule, f: Fields) -> bool
+    ensures { λ r. ⌜ r ≡ allowsOf (limitsOf rule) f ⌝ }
+{
+    let h = f.hours;
+    let m = f.minutes;
+    let x = f.seconds;
+    match rule {
+        Rule::One => (h <= 14) & ((m == 0) | (m == 15) | (m == 30) | (m == 45)) & (x == 0),
+    }
+}

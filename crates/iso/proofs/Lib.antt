@@ -1,0 +1,13 @@
+-- Laws, and the document's words computed. In order: parts of a text; the cut; the time; the offset; the fields and the forms; the
+-- instant; what a caller can say of the whole; examples.
+pub mod Places
+pub mod Cuts
+pub mod Times
+pub mod Offsets
+pub mod Said
+pub mod Instants
+pub mod Digits
+pub mod Lines
+pub mod Theorems
+pub mod ReadBack
+pub mod Examples

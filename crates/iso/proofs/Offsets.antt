@@ -1,0 +1,123 @@
+-- The offset. In order: a field, and how large it can be; hours and minutes; the whole offset, by its first byte.
+-- Assumes nothing.
+use mathlib.Core.Path.{_≡_, refl, sym, subst}
+use mathlib.Core.List.{List, [], _∷_}
+use Prim.Native.Nat.{ℕ, _+_, _-_, _^_, _≤_, _<_}
+use native.Mathlib.Omega.{arith}
+use borrow.Author.Tests.{ne-eqb}
+use lib.IntN.{ℤ, pos, negsuc, negℤ, natAbs, _+ℤ_, _*ℤ_}
+use lib.ListN.{length, getD, take, drop}
+use lib.Signed.{_≤ℤ_, _<ℤ_}
+use Rattle.ints.specs.Range.{In}
+use Rattle.ints.proofs.Parts.{parts-le}
+use Rattle.ints.proofs.Machine.{At, leZ-true, leZ-false}
+use Rattle.text.specs.Number.{signedOf, fitSigned}
+use Rattle.text.specs.declared.number.Integer.{Integer}
+use Rattle.text.specs.declared.number.Integer.the-variants.{Is, NotOne}
+use Rattle.text.proofs.Lists.{take-length-sub-drop}
+use Rattle.text.proofs.Numbers.{Short, signedOf-short, fitSigned-of-length}
+use Rattle.iso.specs.Parts.{without, int32}
+use Rattle.iso.specs.Offset.{upTo, secondsOf, hoursMinutes, turned, offsetOf, Within}
+use Rattle.iso.proofs.Places.{two-getD}
+
+-- ---- a field of two bytes is from -99 to 99
+In-of-natAbs : (z : ℤ) → natAbs z < 100 → In (negsuc 98) (pos 99) z
+In-of-natAbs (pos n) h = record { low = record { le = tt }; high = parts-le _ _ (omega arith) }
+In-of-natAbs (negsuc n) h = record { low = parts-le _ _ (omega arith); high = record { le = tt } }
+
+Within-of-Short : (x : Integer) → Short 100 x → Within 99 x
+Within-of-Short (Is z) h = In-of-natAbs z h
+Within-of-Short NotOne h = tt
+
+pub int32-two-within : (x y : ℕ) → Within 99 (int32 (x ∷ y ∷ []))
+unfolding int32
+int32-two-within x y = rw (fitSigned-of-length (2 ^ 31) (x ∷ y ∷ []) (omega arith)) (Within-of-Short (signedOf (x ∷ y ∷ [])) (signedOf-short (x ∷ y ∷ [])))
+
+-- ---- hours and minutes
+pub hoursMinutes-two : (l : List ℕ) → length l ≡ 2 → secondsOf (upTo (pos 23) (int32 (getD l 0 0 ∷ getD l 1 0 ∷ []))) (Is (pos 0)) ≡ hoursMinutes l
+unfolding hoursMinutes
+hoursMinutes-two l e = let h : 0 + 2 ≤ length l = omega arith in rw (e, two-getD 0 l h)
+
+pub hoursMinutes-four : (l : List ℕ) → length l ≡ 4
+    → secondsOf (upTo (pos 23) (int32 (getD l 0 0 ∷ getD l 1 0 ∷ []))) (upTo (pos 59) (int32 (getD l 2 0 ∷ getD l 3 0 ∷ []))) ≡ hoursMinutes l
+unfolding hoursMinutes
+hoursMinutes-four l e =
+    let h : 0 + 2 ≤ length l = omega arith in
+    let k : 2 + 2 ≤ length l = omega arith in
+    rw (e, two-getD 0 l h, two-getD 2 l k)
+
+pub hoursMinutes-not : (l : List ℕ) → (length l ≡ 2 → ⊥) → (length l ≡ 4 → ⊥) → NotOne ≡ hoursMinutes l
+unfolding hoursMinutes
+hoursMinutes-not l a b = rw (ne-eqb (length l) 2 a, ne-eqb (length l) 4 b)
+
+-- ---- the whole offset
+pub offsetOf-nil : (s : List ℕ) → length s ≡ 0 → Is (pos 0) ≡ offsetOf s
+unfolding offsetOf
+offsetOf-nil [] h = refl
+offsetOf-nil (b ∷ s) h = absurd (omega arith)
+
+pub offsetOf-east : (s : List ℕ) → getD s 0 0 ≡ 43 → hoursMinutes (without 58 (take (length s - 1) (drop 1 s))) ≡ offsetOf s
+unfolding offsetOf
+offsetOf-east [] e = absurd (omega arith)
+offsetOf-east (b ∷ s) e = rw (take-length-sub-drop (b ∷ s) 1, e)
+
+pub offsetOf-west : (s : List ℕ) → getD s 0 0 ≡ 45 → turned (hoursMinutes (without 58 (take (length s - 1) (drop 1 s)))) ≡ offsetOf s
+unfolding offsetOf
+offsetOf-west [] e = absurd (omega arith)
+offsetOf-west (b ∷ s) e = rw (take-length-sub-drop (b ∷ s) 1, e)
+
+pub offsetOf-zed : (s : List ℕ) → getD s 0 0 ≡ 90 → length s ≡ 1 → Is (pos 0) ≡ offsetOf s
+unfolding offsetOf
+offsetOf-zed [] e h = absurd (omega arith)
+offsetOf-zed (b ∷ s) e h = let z : length s ≡ 0 = omega arith in rw (e, z)
+
+pub offsetOf-zed-not : (s : List ℕ) → getD s 0 0 ≡ 90 → (length s ≡ 1 → ⊥) → NotOne ≡ offsetOf s
+unfolding offsetOf
+offsetOf-zed-not [] e h = absurd (omega arith)
+offsetOf-zed-not (b ∷ s) e h = rw (e, ne-eqb (length s) 0 (λ z. h (omega (arith, z))))
+
+pub offsetOf-not : (s : List ℕ) → (length s ≡ 0 → ⊥) → (getD s 0 0 ≡ 43 → ⊥) → (getD s 0 0 ≡ 45 → ⊥) → (getD s 0 0 ≡ 90 → ⊥) → NotOne ≡ offsetOf s
+unfolding offsetOf
+offsetOf-not [] h p m z = absurd (h refl)
+offsetOf-not (b ∷ s) h p m z = rw (ne-eqb b 90 z, ne-eqb b 43 p, ne-eqb b 45 m)
+
+-- ---- the answers of the code, by what it met
+pub In-of-At : {lo hi z m : ℤ} → At lo hi z m → In lo hi m
+In-of-At {lo} {hi} a = subst (In lo hi) (sym (a .is)) (a .within)
+
+-- a number that is met within k is within k
+pub In-of-Within : {k : ℕ} {x : Integer} {z : ℤ} → x ≡ Is z → Within k x → In (negℤ (pos k)) (pos k) z
+In-of-Within {k} e w = subst (Within k) e w
+
+module _ (limit : ℤ) (s : List ℕ) where
+  pub upTo-not : fitSigned (2 ^ 31) (signedOf s) ≡ NotOne → NotOne ≡ upTo limit (int32 s)
+  unfolding upTo int32
+  upTo-not e = rw e
+
+  pub upTo-value : {z : ℤ} → fitSigned (2 ^ 31) (signedOf s) ≡ Is z → z ≤ℤ limit → Is z ≡ upTo limit (int32 s)
+  unfolding upTo int32
+  upTo-value e h = rw (e, leZ-true h)
+
+  pub upTo-over : {z : ℤ} → fitSigned (2 ^ 31) (signedOf s) ≡ Is z → limit <ℤ z → NotOne ≡ upTo limit (int32 s)
+  unfolding upTo int32
+  upTo-over e h = rw (e, leZ-false h)
+
+pub secondsOf-not-hours : {h : Integer} (m : Integer) → h ≡ NotOne → NotOne ≡ secondsOf h m
+unfolding secondsOf
+secondsOf-not-hours m e = rw e
+
+pub secondsOf-not-minutes : {h m : Integer} {x : ℤ} → h ≡ Is x → m ≡ NotOne → NotOne ≡ secondsOf h m
+unfolding secondsOf
+secondsOf-not-minutes e f = rw (e, f)
+
+pub secondsOf-value : {h m : Integer} {x y : ℤ} → h ≡ Is x → m ≡ Is y → Is (x *ℤ pos 3600 +ℤ y *ℤ pos 60) ≡ secondsOf h m
+unfolding secondsOf
+secondsOf-value e f = rw (e, f)
+
+pub turned-not : {o : Integer} → o ≡ NotOne → NotOne ≡ turned o
+unfolding turned
+turned-not e = rw e
+
+pub turned-value : {o : Integer} {z : ℤ} → o ≡ Is z → Is (negℤ z) ≡ turned o
+unfolding turned
+turned-value e = rw e

@@ -1,0 +1,89 @@
+-- Parts of a text. In order: two bytes from a place; a text cut at each b, as its first b cuts it; bytes that are no b, read one by
+-- one from a place on; a byte beyond the end.
+-- Assumes nothing.
+use mathlib.Core.Path.{_≡_, refl, sym, ap, _∙_}
+use mathlib.Core.Bool.{Bool, true, false}
+use mathlib.Core.List.{List, [], _∷_}
+use Prim.Native.Nat.{ℕ, zero, suc, _+_, _-_, _≤_, _<_}
+use native.Mathlib.Omega.{arith}
+use native.Mathlib.Nat.{not-suc-le-zero}
+use native.Mathlib.Numerals.{add-one}
+use borrow.Author.Tests.{eqb-true}
+use lib.Dec.{eqb}
+use lib.ListN.{length, getD, take, drop, drop-of-length-le}
+use Rattle.text.specs.Places.{run, firstPlace}
+use Rattle.text.specs.Words.{pieces}
+use Rattle.text.proofs.Lists.{by-test, drop-cons-add-one}
+use Rattle.iso.specs.Parts.{two, without}
+
+pub two-getD : (i : ℕ) (l : List ℕ) → i + 2 ≤ length l → two i l ≡ getD l i 0 ∷ getD l (i + 1) 0 ∷ []
+two-getD i l h =
+    let a : i < length l = omega arith in
+    let b : i + 1 < length l = omega arith in
+    rw (drop-cons-add-one l i a, drop-cons-add-one l (i + 1) b)
+
+pub getD-of-length-le : (s : List ℕ) (i : ℕ) → length s ≤ i → getD s i 0 ≡ 0
+getD-of-length-le [] i h = refl
+getD-of-length-le (b ∷ s) zero h = absurd (omega arith)
+getD-of-length-le (b ∷ s) (suc i) h = getD-of-length-le s i (omega arith)
+
+-- ---- the first b
+-- where it is, b stands
+pub getD-firstPlace : (b : ℕ) (s : List ℕ) → firstPlace b s < length s → getD s (firstPlace b s) 0 ≡ b
+unfolding firstPlace run
+getD-firstPlace b [] h = absurd (not-suc-le-zero h)
+getD-firstPlace b (x ∷ s) h = by-test (eqb x b) (λ e. rw e (eqb-true x b e)) (λ e. rw e (getD-firstPlace b s (omega (arith, rw e at h))))
+
+abbrev pub at : ℕ → ℕ → Bool
+at b x = eqb x b
+
+-- cut at each b: what stands before the first, and what follows it, cut on
+pieces-cons : (b : ℕ) (s : List ℕ) → firstPlace b s < length s → pieces (at b) s ≡ take (firstPlace b s) s ∷ pieces (at b) (drop (suc (firstPlace b s)) s)
+unfolding pieces firstPlace run
+pieces-cons b [] h = absurd (not-suc-le-zero h)
+pieces-cons b (x ∷ s) h = by-test (eqb x b) (λ e. rw e) (λ e. rw (e, pieces-cons b s (omega (arith, rw e at h))))
+
+pub pieces-of-lt : (b : ℕ) (s : List ℕ) → firstPlace b s < length s → pieces (at b) s ≡ take (firstPlace b s) s ∷ pieces (at b) (drop (firstPlace b s + 1) s)
+pieces-of-lt b s h = rw add-one (pieces-cons b s h)
+
+-- with no b it is one piece
+pub pieces-of-le : (b : ℕ) (s : List ℕ) → length s ≤ firstPlace b s → pieces (at b) s ≡ s ∷ []
+unfolding pieces firstPlace run
+pieces-of-le b [] h = refl
+pieces-of-le b (x ∷ s) h = by-test (eqb x b) (λ e. absurd (omega (arith, rw e at h))) (λ e. rw (e, pieces-of-le b s (omega (arith, rw e at h))))
+
+-- ---- a text without b
+without-drop-eq : (b : ℕ) (s : List ℕ) (i : ℕ) → i < length s → eqb (getD s i 0) b ≡ true → without b (drop i s) ≡ without b (drop (i + 1) s)
+unfolding without
+without-drop-eq b s i h e = rw (drop-cons-add-one s i h, e)
+
+without-drop-ne : (b : ℕ) (s : List ℕ) (i : ℕ) → i < length s → eqb (getD s i 0) b ≡ false → without b (drop i s) ≡ getD s i 0 ∷ without b (drop (i + 1) s)
+unfolding without
+without-drop-ne b s i h e = rw (drop-cons-add-one s i h, e)
+
+-- its byte n, and how many it has, read on from i
+module _ (b : ℕ) (s : List ℕ) (i : ℕ) (h : i < length s) where
+  pub kept-skip : (n : ℕ) {x : ℕ} → x ≡ getD (without b (drop i s)) n 0 → eqb (getD s i 0) b ≡ true → x ≡ getD (without b (drop (i + 1) s)) n 0
+  kept-skip n r e = rw (without-drop-eq b s i h e) at r
+
+  pub kept-here : (n : ℕ) {x : ℕ} → x ≡ getD (without b (drop i s)) n 0 → eqb (getD s i 0) b ≡ false → n ≡ 0 → getD s i 0 ≡ x
+  kept-here n r e z = sym (rw (without-drop-ne b s i h e, z) at r)
+
+  pub kept-on : (n : ℕ) {x : ℕ} → x ≡ getD (without b (drop i s)) n 0 → eqb (getD s i 0) b ≡ false → 1 ≤ n → x ≡ getD (without b (drop (i + 1) s)) (n - 1) 0
+  kept-on n r e p =
+      let k : n ≡ suc (n - 1) = omega arith in
+      r ∙ ap (λ (l : List ℕ). getD l n 0) (without-drop-ne b s i h e) ∙ ap (λ (j : ℕ). getD (getD s i 0 ∷ without b (drop (i + 1) s)) j 0) k
+
+  pub count-skip : (n : ℕ) {x : ℕ} → x ≡ n + length (without b (drop i s)) → eqb (getD s i 0) b ≡ true → x ≡ n + length (without b (drop (i + 1) s))
+  count-skip n r e = rw (without-drop-eq b s i h e) at r
+
+  pub count-on : (n : ℕ) {x : ℕ} → x ≡ n + length (without b (drop i s)) → eqb (getD s i 0) b ≡ false → x ≡ (n + 1) + length (without b (drop (i + 1) s))
+  count-on n {x} r e = omega (arith, rw (without-drop-ne b s i h e) at r)
+
+pub kept-end : (b : ℕ) (s : List ℕ) (i n : ℕ) {x : ℕ} → length s ≤ i → x ≡ getD (without b (drop i s)) n 0 → 0 ≡ x
+unfolding without
+kept-end b s i n h r = sym (rw (drop-of-length-le s h) at r)
+
+pub count-end : (b : ℕ) (s : List ℕ) (i n : ℕ) {x : ℕ} → length s ≤ i → x ≡ n + length (without b (drop i s)) → n ≡ x
+unfolding without
+count-end b s i n {x} h r = omega (arith, rw (drop-of-length-le s h) at r)

@@ -1,0 +1,153 @@
+-- What a caller can say of ISO dates. In order: `one-iso-form`, at most one of the three forms accepts a text; the answer is that of
+-- the form that accepts (`iso-of-dotted`, `iso-of-compact`, `iso-of-flexible`); `dotted-is-flexible-with-dashes`.
+-- Assumes nothing.
+use mathlib.Core.Path.{_≡_, refl, sym, ap, _∙_}
+use mathlib.Core.Bool.{Bool, true, false, cond, _&&_, false≢true, and-false}
+use mathlib.Core.List.{List, [], _∷_, _++_}
+use Prim.Native.Nat.{ℕ, _+_, _≤_, _<_}
+use native.Mathlib.Omega.{arith}
+use borrow.Author.Tests.{eq-eqb, eqb-true, ltb-true, ltb-false}
+use lib.Dec.{eqb, ltb}
+use lib.ListN.{length, getD, take, drop}
+use Rattle.text.specs.Bytes.{isDigit, ascii}
+use Rattle.text.specs.Number.{readFrom, digitsOf, unsignedOf, signedOf, fitSigned}
+use Rattle.text.specs.Places.{firstPlace}
+use Rattle.text.specs.Trim.{trim}
+use Rattle.text.specs.declared.number.Integer.the-variants.{NotOne}
+use Rattle.text.proofs.Lists.{by-test, both}
+use Rattle.time.specs.Answers.{answerNumber}
+use Rattle.time.specs.declared.Time.{Time}
+use Rattle.time.specs.declared.Answer.{Answer}
+use Rattle.time.specs.declared.Answer.the-variants.{Time as At, Refused}
+use Rattle.iso.specs.Parts.{two, int32}
+use Rattle.iso.specs.Forms.{fieldsOf, isSeparator, flexible, firstAt, compact, dashes, isDotted, dotted, orElse, formOf}
+use Rattle.iso.specs.Iso.{zoned, isoOf}
+use Rattle.iso.specs.declared.forms.Fields.{Fields}
+use Rattle.iso.specs.declared.forms.Fields.the-variants.{Are, Missing}
+use Rattle.iso.proofs.Places.{two-getD, getD-firstPlace}
+use Rattle.iso.proofs.Said.{saidOf-of-month, saidOf-of-day, flexible-short, flexible-four, dotted-four}
+
+-- ---- at most one form
+-- a field that opens with a dot or a `T` is no number
+int32-dot : (x : ℕ) → int32 (46 ∷ x ∷ []) ≡ NotOne
+unfolding int32 signedOf unsignedOf digitsOf readFrom isDigit fitSigned
+int32-dot x = refl
+
+int32-T : (x : ℕ) → int32 (84 ∷ x ∷ []) ≡ NotOne
+unfolding int32 signedOf unsignedOf digitsOf readFrom isDigit fitSigned
+int32-T x = refl
+
+-- so a text with a dot at place 4 is not compact: it would open the month
+compact-of-dot : (s : List ℕ) → getD s 4 0 ≡ 46 → compact s ≡ Missing
+unfolding compact firstAt fieldsOf
+compact-of-dot s p =
+    by-test (eqb (firstPlace 84 s) 8)
+    (λ e. by-test (ltb 8 (length s))
+    (λ f.
+    let h : 4 + 2 ≤ length s = omega (arith, ltb-true 8 (length s) f) in
+    let m : int32 (two 4 s) ≡ NotOne = ap int32 (two-getD 4 s h) ∙ ap (λ (b : ℕ). int32 (b ∷ getD s 5 0 ∷ [])) p ∙ int32-dot (getD s 5 0) in
+    rw (e, f, m) (saidOf-of-month _ _ _ _))
+    (λ f. rw (e, f)))
+    (λ e. rw e)
+
+-- and one with its first `T` at place 8 is not flexible: it would open the day
+flexible-of-T : (s : List ℕ) → firstAt 84 8 s ≡ true → flexible s ≡ Missing
+unfolding firstAt flexible fieldsOf
+flexible-of-T s e =
+    let q = both (eqb (firstPlace 84 s) 8) (ltb 8 (length s)) e in
+    let i : firstPlace 84 s ≡ 8 = eqb-true _ _ (q .0) in
+    let l : firstPlace 84 s < length s = omega (arith, ltb-true 8 (length s) (q .1)) in
+    let b : getD s 8 0 ≡ 84 = sym (ap (λ (k : ℕ). getD s k 0) i) ∙ getD-firstPlace 84 s l in
+    by-test (ltb (length s) 11) (λ f. sym (flexible-short s (ltb-true _ _ f)))
+    (λ f.
+    let h : 8 + 2 ≤ length s = omega (arith, ltb-false (length s) 11 f) in
+    let d : int32 (two 8 s) ≡ NotOne = ap int32 (two-getD 8 s h) ∙ ap (λ (x : ℕ). int32 (x ∷ getD s 9 0 ∷ [])) b ∙ int32-T (getD s 9 0) in
+    rw (d, saidOf-of-day) (same (eqb (getD s 4 0) 45 && (eqb (getD s 7 0) 45 && isSeparator (getD s 10 0)))))
+  where
+    same : (t : Bool) → cond t Missing Missing ≡ Missing
+    same true = refl
+    same false = refl
+
+ne-of-eqb : (a b : ℕ) → eqb a b ≡ false → a ≡ b → ⊥
+ne-of-eqb a b h e = false≢true (sym h ∙ eq-eqb a b e)
+
+-- of any two forms one is missing
+module _ (s : List ℕ) {A : Type 0} where
+  dotted-or-compact : (dotted s ≡ Missing → A) → (compact s ≡ Missing → A) → A
+  dotted-or-compact f g =
+      by-test (eqb (getD s 4 0) 46) (λ e. g (compact-of-dot s (eqb-true (getD s 4 0) 46 e)))
+      (λ e. f (sym (dotted-four s (ne-of-eqb (getD s 4 0) 46 e))))
+
+  dotted-or-flexible : (dotted s ≡ Missing → A) → (flexible s ≡ Missing → A) → A
+  dotted-or-flexible f g =
+      by-test (eqb (getD s 4 0) 46) (λ e. g (sym (flexible-four s (λ x. absurd (omega (arith, x, eqb-true (getD s 4 0) 46 e))))))
+      (λ e. f (sym (dotted-four s (ne-of-eqb (getD s 4 0) 46 e))))
+
+  compact-or-flexible : (compact s ≡ Missing → A) → (flexible s ≡ Missing → A) → A
+  unfolding compact
+  compact-or-flexible f g = by-test (firstAt 84 8 s) (λ e. g (flexible-of-T s e)) (λ e. f (rw e))
+
+abbrev pub accepts : Answer → Bool
+accepts (At t) = true
+accepts (Refused r) = false
+
+zoned-missing : {f : Fields} → f ≡ Missing → accepts (zoned f) ≡ false
+unfolding zoned
+zoned-missing e = rw e
+
+-- no text is accepted by two of the three forms
+pub one-iso-form : (s : List ℕ)
+    → ((accepts (zoned (dotted s)) && accepts (zoned (compact s))) ≡ false)
+    × (((accepts (zoned (dotted s)) && accepts (zoned (flexible s))) ≡ false)
+    × ((accepts (zoned (compact s)) && accepts (zoned (flexible s))) ≡ false))
+one-iso-form s =
+    let a = accepts (zoned (dotted s)) in
+    let b = accepts (zoned (compact s)) in
+    let d = accepts (zoned (flexible s)) in (
+      dotted-or-compact s (λ e. first a b (zoned-missing e)) (λ e. second a b (zoned-missing e)),
+      (
+        dotted-or-flexible s (λ e. first a d (zoned-missing e)) (λ e. second a d (zoned-missing e)),
+        compact-or-flexible s (λ e. first b d (zoned-missing e)) (λ e. second b d (zoned-missing e)),
+      ),
+    )
+  where
+    first : (x y : Bool) → x ≡ false → (x && y) ≡ false
+    first x y e = rw e
+
+    second : (x y : Bool) → y ≡ false → (x && y) ≡ false
+    second x y e = rw e (and-false x)
+
+-- ---- the form that accepts gives the answer
+not-missing : {f : Fields} {t : Time} → zoned f ≡ At t → f ≡ Missing → ⊥
+unfolding zoned
+not-missing e m = omega (arith, ap answerNumber (rw m at e))
+
+module _ (s : List ℕ) (a : ascii s ≡ true) {t : Time} where
+  pub iso-of-dotted : zoned (dotted (trim s)) ≡ At t → isoOf s ≡ At t
+  unfolding isoOf formOf orElse
+  iso-of-dotted h = rw a (go (dotted (trim s)) h)
+    where
+      go : (f : Fields) → zoned f ≡ At t → zoned (orElse f (orElse (compact (trim s)) (flexible (trim s)))) ≡ At t
+      go (Are f) e = e
+      go Missing e = absurd (not-missing e refl)
+
+  pub iso-of-compact : zoned (compact (trim s)) ≡ At t → isoOf s ≡ At t
+  unfolding isoOf formOf orElse
+  iso-of-compact h =
+      dotted-or-compact (trim s) (λ m. rw (a, m) (go (compact (trim s)) h)) (λ m. absurd (not-missing h m))
+    where
+      go : (f : Fields) → zoned f ≡ At t → zoned (orElse f (flexible (trim s))) ≡ At t
+      go (Are f) e = e
+      go Missing e = absurd (not-missing e refl)
+
+  pub iso-of-flexible : zoned (flexible (trim s)) ≡ At t → isoOf s ≡ At t
+  unfolding isoOf formOf orElse
+  iso-of-flexible h =
+      dotted-or-flexible (trim s)
+      (λ m. compact-or-flexible (trim s) (λ n. rw (a, m, n) h) (λ n. absurd (not-missing h n)))
+      (λ m. absurd (not-missing h m))
+
+-- ---- a dotted text is read as the flexible one that has dashes for the dots of its date
+pub dotted-is-flexible-with-dashes : (s : List ℕ) → isDotted s ≡ true → dotted s ≡ flexible (dashes (take 10 s) ++ drop 10 s)
+unfolding dotted
+dotted-is-flexible-with-dashes s e = rw e

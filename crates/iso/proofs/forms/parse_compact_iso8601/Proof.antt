@@ -1,0 +1,39 @@
+-- `iso::forms::parse_compact_iso8601` meets its contract.
+-- Assumes nothing.
+use mathlib.Core.Path.{_≡_, sym, _∙_}
+use Prim.Native.Nat.{_≤_}
+use native.Mathlib.Omega.{arith}
+use lib.ListN.{length}
+use lib.Seq.{length-take-le}
+use Rattle.iso.proofs.Said.{compact-short, compact-no, compact-yes}
+use borrow.Author.Needs.{needs}
+use Rattle.iso.proofs.forms.parse_compact_iso8601.Statement.{statement}
+use Rattle.iso.proofs.forms.parse_compact_iso8601.Tie as tie
+
+returns : tie.Need-returns
+returns c = (compact-short _ (c .if1 .taken), tt)
+
+returns-2 : tie.Need-returns-2
+returns-2 c = (compact-no _ _ (c .before .first-place .ensures .0) (c .if2 .taken), tt)
+
+slice-aggregate-read-fields : tie.Need-slice-aggregate-read-fields
+slice-aggregate-read-fields c = let s = c .before .before .before .before .before .args .s .now in let h : 4 ≤ length s = omega arith in sym (length-take-le 4 s h)
+
+returns-3 : tie.Need-returns-3
+returns-3 c = (c .read-fields .ensures .0 ∙ compact-yes _ _ _ _ (c .before .before .before .before .before .before .first-place .ensures .0) (c .before .before .before .before .before .if2 .left) (c .before .before .before .before .before .before .before .if1 .left) (c .before .before .before .two .ensures) (c .before .before .two2 .ensures), c .read-fields .ensures .1)
+
+pub parse-compact-iso8601-spec : {M : Type 1} → statement M
+parse-compact-iso8601-spec =
+    tie.close
+    (tie.spec
+    returns
+    (λ c κs. search needs)
+    returns-2
+    slice-aggregate-read-fields
+    (λ c κs. search needs)
+    (λ c κs. search needs)
+    (λ c. search needs)
+    (λ c. search needs)
+    (λ c. search needs)
+    (λ c κs. search needs)
+    returns-3)

@@ -1,0 +1,50 @@
+-- `iso::forms::parse_flexible_iso8601` meets its contract.
+-- Assumes nothing.
+use mathlib.Core.Path.{_≡_, sym, _∙_}
+use Prim.Native.Nat.{_≤_}
+use native.Mathlib.Omega.{arith}
+use lib.ListN.{length}
+use lib.Seq.{length-take-le}
+use Rattle.iso.proofs.Said.{flexible-short, flexible-four, flexible-seven, flexible-ten, flexible-yes}
+use borrow.Author.Needs.{needs}
+use Rattle.iso.proofs.forms.parse_flexible_iso8601.Statement.{statement}
+use Rattle.iso.proofs.forms.parse_flexible_iso8601.Tie as tie
+
+returns : tie.Need-returns
+returns c = (flexible-short _ (c .if1 .taken), tt)
+
+returns-2 : tie.Need-returns-2
+returns-2 c = (flexible-four _ (c .if2 .taken), tt)
+
+returns-3 : tie.Need-returns-3
+returns-3 c = (flexible-seven _ (c .before .before .if2 .left) (c .if3 .taken), tt)
+
+slice-aggregate-read-fields : tie.Need-slice-aggregate-read-fields
+slice-aggregate-read-fields c = let s = c .before .before .before .before .before .before .before .before .before .before .args .s .now in let h : 4 ≤ length s = omega arith in sym (length-take-le 4 s h)
+
+returns-4 : tie.Need-returns-4
+returns-4 c = (c .read-fields .ensures .0 ∙ flexible-yes _ (c .before .before .before .before .before .before .before .before .before .before .if2 .left) (c .before .before .before .before .before .before .before .before .if3 .left) _ _ (sym (c .before .before .before .before .before .before .is-separator .ensures) ∙ c .before .before .before .before .before .if4 .taken) (c .before .before .before .two .ensures) (c .before .before .two2 .ensures), c .read-fields .ensures .1)
+
+returns-5 : tie.Need-returns-5
+returns-5 c = (flexible-ten _ (c .before .before .before .before .before .if2 .left) (c .before .before .before .if3 .left) (sym (c .before .is-separator .ensures) ∙ c .if4 .left), tt)
+
+pub parse-flexible-iso8601-spec : {M : Type 1} → statement M
+parse-flexible-iso8601-spec =
+    tie.close
+    (tie.spec
+    returns
+    (λ c. search needs)
+    returns-2
+    (λ c. search needs)
+    returns-3
+    (λ c. search needs)
+    (λ c κs. search needs)
+    slice-aggregate-read-fields
+    (λ c κs. search needs)
+    (λ c κs. search needs)
+    (λ c. search needs)
+    (λ c. search needs)
+    (λ c. search needs)
+    (λ c κs. search needs)
+    returns-4
+    returns-5)

@@ -1,0 +1,64 @@
+-- `iso::forms::said` meets its contract.
+-- Assumes nothing.
+use mathlib.Core.Path.{_≡_, _∙_, subst}
+use mir.Syntax.{w64}
+use Rattle.ints.proofs.Machine.{known, back}
+use Rattle.text.specs.Number.{AtMost}
+use Rattle.iso.specs.declared.forms.Fields.the-variants.{Are}
+use Rattle.iso.proofs.Offsets.{In-of-At, In-of-Within}
+use Rattle.iso.proofs.Said.{saidOf-not-year, saidOf-not-month, saidOf-not-day, saidOf-not-time, saidOf-not-offset, saidOf-value}
+use mathlib.Core.Path.{_≡_, _∙_, subst}
+use mir.Syntax.{w64}
+use Rattle.ints.proofs.Machine.{known, back}
+use Rattle.text.specs.Number.{AtMost}
+use Rattle.iso.specs.declared.forms.Fields.the-variants.{Are}
+use Rattle.iso.proofs.Offsets.{In-of-At, In-of-Within}
+use Rattle.iso.proofs.Said.{saidOf-not-year, saidOf-not-month, saidOf-not-day, saidOf-not-time, saidOf-not-offset, saidOf-value}
+use borrow.Author.Needs.{needs}
+use Rattle.iso.proofs.forms.said.Statement.{statement}
+use Rattle.iso.proofs.forms.said.Tie as tie
+
+returns : tie.Need-returns
+returns c = (saidOf-not-year _ _ _ _ _ (c .enum-told .given .1), tt)
+
+returns-2 : tie.Need-returns-2
+returns-2 c = (saidOf-not-month _ _ _ _ _ (c .before .before .before .y .given .1) (c .enum-told2 .given .1), tt)
+
+returns-3 : tie.Need-returns-3
+returns-3 c = (saidOf-not-day _ _ _ _ _ (c .before .before .before .before .before .before .y .given .1) (c .before .before .before .m .given .1) (c .enum-told3 .given .1), tt)
+
+returns-4 : tie.Need-returns-4
+returns-4 c = (saidOf-not-time _ _ _ _ _ (c .before .before .before .before .before .before .before .before .before .y .given .1) (c .before .before .before .before .before .before .m .given .1) (c .before .before .before .d .given .1) (c .enum-told4 .given .1), tt)
+
+returns-5 : tie.Need-returns-5
+returns-5 c = (saidOf-not-offset _ _ _ _ _ (c .before .before .before .before .before .before .before .before .before .before .before .before .y .given .1) (c .before .before .before .before .before .before .before .before .before .m .given .1) (c .before .before .before .before .before .before .d .given .1) (c .before .before .before .t .given .1) (c .enum-told5 .given .1), tt)
+
+returns-6 : tie.Need-returns-6
+returns-6 c = let y = back w64 _ (c .before .before .before .before .before .before .before .before .before .before .before .before .known-told .given .0 .1) in
+    let m = back w64 _ (c .before .before .before .before .before .before .before .before .before .known-told2 .given .0 .1) in
+    let d = back w64 _ (c .before .before .before .before .before .before .known-told3 .given .0 .1) in
+    let o = known w64 tt (In-of-Within {k = 362340} (c .before .o .given .1) (c .before .before .before .before .before .before .before .before .before .before .before .before .before .before .before .pre .1)) in (
+      (λ i. Are (record { year = y i; month = m i; day = d i; second = c .before .before .before .before .t .given .0 .0; offset = o .is i })) ∙ saidOf-value _ _ _ _ _ (c .before .before .before .before .before .before .before .before .before .before .before .before .before .y .given .1) (c .before .before .before .before .before .before .before .before .before .before .m .given .1) (c .before .before .before .before .before .before .before .d .given .1) (c .before .before .before .before .t .given .1) (c .before .o .given .1),
+      (subst (AtMost 86399) (c .before .before .before .before .t .given .1) (c .before .before .before .before .before .before .before .before .before .before .before .before .before .before .before .pre .0), In-of-At o),
+    )
+
+pub said-spec : {M : Type 1} → statement M
+said-spec =
+    tie.close
+    (tie.spec
+    (λ c. search needs)
+    (λ c. search needs)
+    returns
+    (λ c. search needs)
+    (λ c. search needs)
+    returns-2
+    (λ c. search needs)
+    (λ c. search needs)
+    returns-3
+    (λ c. search needs)
+    (λ c. search needs)
+    returns-4
+    (λ c. search needs)
+    (λ c. search needs)
+    returns-5
+    returns-6)

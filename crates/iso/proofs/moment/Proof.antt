@@ -1,0 +1,93 @@
+-- `iso::moment` meets its contract: the instant is far within 64 bits, and the two tests are the range.
+-- Assumes nothing.
+use mathlib.Core.Path.{_≡_, _∙_}
+use Prim.Native.Nat.{_+_, _*_, _≤_, _<_}
+use native.Mathlib.Omega.{arith}
+use lib.IntN.{pos, negsuc, _-ℤ_}
+use mir.Syntax.{w32, w64}
+use mir.Val.{toZ, ofZ}
+use Rattle.ints.proofs.Machine.{At, cast, lit, known, sub, fits, read, lt-yes, lt-no, isIn-of-lt, isIn-of-gt}
+use Rattle.calendar.proofs.Dates.{lt-of-Below}
+use Rattle.time.specs.Answers.{timeAt}
+use Rattle.time.specs.Range.{leastSeconds, mostSeconds, since1970}
+use Rattle.time.specs.declared.Answer.the-variants.{Time}
+use Rattle.iso.proofs.Instants.{momentOf-no-day, momentOf-out, momentOf-in}
+use mathlib.Core.Path.{_≡_, _∙_}
+use Prim.Native.Nat.{_+_, _*_, _≤_, _<_}
+use native.Mathlib.Omega.{arith}
+use lib.IntN.{pos, negsuc, _-ℤ_}
+use mir.Syntax.{w32, w64}
+use mir.Val.{toZ, ofZ}
+use Rattle.ints.proofs.Machine.{At, cast, lit, known, sub, fits, read, lt-yes, lt-no, isIn-of-lt, isIn-of-gt}
+use Rattle.calendar.proofs.Dates.{lt-of-Below}
+use Rattle.time.specs.Range.{leastSeconds, mostSeconds, since1970}
+use Rattle.time.specs.declared.Answer.the-variants.{Time}
+use Rattle.iso.proofs.Instants.{momentOf-no-day, momentOf-out, momentOf-in}
+use borrow.Author.Needs.{needs}
+use Rattle.iso.proofs.moment.Statement.{statement}
+use Rattle.iso.proofs.moment.Tie as tie
+
+second-le : (c : tie.After-known-told) → c .before .d .given .0 .0 * 86400 + c .before .before .before .args .second ≤ 631139039999
+second-le c =
+    let d : c .before .d .given .0 .0 < 7304850 = lt-of-Below (c .before .d .given .1) (c .before .before .before .pre .0) in
+    let s = c .before .before .before .pre .1 .0 in
+    omega arith
+
+-- since 1970, by the clock of UTC
+since-at : (c : tie.After-known-told) → At (negsuc 377736739199) (pos 253402300799) (since1970 (c .before .d .given .0 .0 * 86400 + c .before .before .before .args .second)) (toZ w64 (c .before .d .given .0 .0 * 86400 + c .before .before .before .args .second) -ℤ pos 377736739200)
+since-at c = sub (cast w64 _ tt (second-le c)) (lit (pos 377736739200))
+
+-- and by that of the offset
+z-at : (c : tie.After-known-told) → At (negsuc 377737101539) (pos 253402663139) (since1970 (c .before .d .given .0 .0 * 86400 + c .before .before .before .args .second) -ℤ c .before .before .before .args .offset) (toZ w64 (ofZ w64 (toZ w64 (c .before .d .given .0 .0 * 86400 + c .before .before .before .args .second) -ℤ pos 377736739200)) -ℤ toZ w64 (ofZ w64 (c .before .before .before .args .offset)))
+z-at c = sub (read w64 tt (since-at c)) (known w64 tt (c .before .before .before .pre .1 .1))
+
+returns : tie.Need-returns
+returns c = momentOf-no-day _ _ (c .enum-told .given .1)
+
+mul-z : tie.Need-mul-z
+mul-z c = let s = second-le c in record { fits = omega arith }
+
+add-z : tie.Need-add-z
+add-z c = let s = second-le c in record { fits = omega arith }
+
+cast-z : tie.Need-cast-z
+cast-z c = let s = second-le c in record { sfits = omega arith }
+
+sub-z : tie.Need-sub-z
+sub-z c = fits w64 tt (since-at c)
+
+sub-z-2 : tie.Need-sub-z-2
+sub-z-2 c = fits w64 tt (z-at c)
+
+returns-2 : tie.Need-returns-2
+returns-2 c = momentOf-out _ _ (c .before .before .d .given .1) (isIn-of-lt leastSeconds mostSeconds (lt-yes (read w64 tt (z-at (c .before))) (lit leastSeconds) (c .if1 .taken)))
+
+returns-3 : tie.Need-returns-3
+returns-3 c = let z = read w64 tt (z-at (c .before .before)) in
+    momentOf-out _ _ (c .before .before .before .d .given .1) (isIn-of-gt leastSeconds mostSeconds (lt-no z (lit leastSeconds) (c .before .if1 .left)) (lt-yes (lit mostSeconds) z (c .if2 .taken)))
+
+cast-new : tie.Need-cast-new
+cast-new c = fits w32 tt (known w64 tt (c .before .before .before .before .before .pre .1 .1))
+
+returns-4 : tie.Need-returns-4
+returns-4 c = let z = read w64 tt (z-at (c .before .before .before)) in
+    let o = read w32 tt (known w64 tt (c .before .before .before .before .before .before .pre .1 .1)) in
+    (λ i. Time (c .new .ensures i)) ∙ (λ i. Time (timeAt (z .is i) (o .is i))) ∙ momentOf-in _ _ (c .before .before .before .before .d .given .1) (record { low = lt-no z (lit leastSeconds) (c .before .before .if1 .left); high = lt-no (lit mostSeconds) z (c .before .if2 .left) })
+
+pub moment-spec : {M : Type 1} → statement M
+moment-spec =
+    tie.close
+    (tie.spec
+    (λ c. search needs)
+    (λ c. search needs)
+    returns
+    mul-z
+    add-z
+    cast-z
+    sub-z
+    sub-z-2
+    returns-2
+    returns-3
+    cast-new
+    (λ c κs. search needs)
+    returns-4)

@@ -1,0 +1,39 @@
+-- `iso::offset::field` meets its contract: two bytes are a number from -99 to 99, if they are one.
+-- Assumes nothing.
+use mathlib.Core.Path.{_≡_, sym, ap, _∙_}
+use lib.IntN.{pos, negsuc}
+use mir.Syntax.{w64}
+use Rattle.ints.specs.Range.{In}
+use Rattle.ints.proofs.Machine.{known, param, le-yes, le-no}
+use Rattle.text.specs.declared.number.Integer.the-variants.{Is}
+use Rattle.iso.specs.Parts.{int32}
+use Rattle.iso.proofs.Offsets.{int32-two-within, In-of-At, In-of-Within, upTo-not, upTo-value, upTo-over}
+use borrow.Author.Needs.{needs}
+use Rattle.iso.proofs.offset.field.Statement.{statement}
+use Rattle.iso.proofs.offset.field.Tie as tie
+
+z-in : (c : tie.After-known-told) → In (negsuc 98) (pos 99) (c .before .z .given .0 .0)
+unfolding int32
+z-in c = In-of-Within {k = 99} (sym (c .before .before .before .signed-number .ensures) ∙ c .before .z .given .1) (int32-two-within _ _)
+
+returns : tie.Need-returns
+returns c = (upTo-not _ _ (sym (c .before .before .signed-number .ensures) ∙ c .enum-told .given .1), tt)
+
+returns-2 : tie.Need-returns-2
+returns-2 c = let z = known w64 tt (z-in (c .before)) in
+    (ap Is (z .is) ∙ upTo-value _ _ (sym (c .before .before .before .before .signed-number .ensures) ∙ c .before .before .z .given .1) (le-yes z (param w64 (c .before .before .before .before .before .before .fits .limit)) (c .if1 .taken)), In-of-At z)
+
+returns-3 : tie.Need-returns-3
+returns-3 c = (upTo-over _ _ (sym (c .before .before .before .before .signed-number .ensures) ∙ c .before .before .z .given .1) (le-no (known w64 tt (z-in (c .before))) (param w64 (c .before .before .before .before .before .before .fits .limit)) (c .if1 .left)), tt)
+
+pub field-spec : {M : Type 1} → statement M
+field-spec =
+    tie.close
+    (tie.spec
+    (λ c. search needs)
+    (λ c κs. search needs)
+    (λ c. search needs)
+    (λ c. search needs)
+    returns
+    returns-2
+    returns-3)

@@ -1,0 +1,54 @@
+-- `iso::offset::parse_flexible_offset` meets its contract, by the first byte.
+-- Assumes nothing.
+use mathlib.Core.Path.{_≡_, ap, _∙_}
+use lib.IntN.{pos, negsuc}
+use Rattle.ints.specs.Range.{In}
+use Rattle.iso.specs.Offset.{turned}
+use Rattle.iso.proofs.Offsets.{offsetOf-nil, offsetOf-east, offsetOf-west, offsetOf-zed, offsetOf-zed-not, offsetOf-not}
+use borrow.Author.Needs.{needs}
+use Rattle.iso.proofs.offset.parse_flexible_offset.Statement.{statement}
+use Rattle.iso.proofs.offset.parse_flexible_offset.Tie as tie
+
+zero-in : In (negsuc 362339) (pos 362340) (pos 0)
+zero-in = record { low = record { le = tt }; high = record { le = tt } }
+
+returns : tie.Need-returns
+returns c = (offsetOf-nil _ (c .if1 .taken), zero-in)
+
+returns-2 : tie.Need-returns-2
+returns-2 c = (c .hours-minutes .ensures .0 ∙ offsetOf-east _ (c .before .before .if2 .taken), c .hours-minutes .ensures .1)
+
+returns-3 : tie.Need-returns-3
+returns-3 c = (c .turned .ensures .0 ∙ ap turned (c .before .hours-minutes2 .ensures .0) ∙ offsetOf-west _ (c .before .before .before .if3 .taken), c .turned .ensures .1)
+
+returns-4 : tie.Need-returns-4
+returns-4 c = (offsetOf-zed _ (c .before .if4 .taken) (c .if5 .taken), zero-in)
+
+returns-5 : tie.Need-returns-5
+returns-5 c = (offsetOf-zed-not _ (c .before .if4 .taken) (c .if5 .left), tt)
+
+returns-6 : tie.Need-returns-6
+returns-6 c = (offsetOf-not _ (c .before .before .before .before .before .before .if1 .left) (c .before .before .before .before .if2 .left) (c .before .before .if3 .left) (c .if4 .left), tt)
+
+pub parse-flexible-offset-spec : {M : Type 1} → statement M
+parse-flexible-offset-spec =
+    tie.close
+    (tie.spec
+    returns
+    (λ c. search needs)
+    (λ c. search needs)
+    (λ c. search needs)
+    (λ c. search needs)
+    (λ c κs. search needs)
+    returns-2
+    (λ c. search needs)
+    (λ c. search needs)
+    (λ c. search needs)
+    (λ c. search needs)
+    (λ c κs. search needs)
+    (λ c κs. search needs)
+    returns-3
+    (λ c. search needs)
+    returns-4
+    returns-5
+    returns-6)

@@ -1,0 +1,83 @@
+-- Document 01, "Reading ISO dates": the three forms of a trimmed text, and what each says: a year, a month, a day, a second of the
+-- day, an offset. The date may not exist. Places count from 0.
+-- Assumes nothing.
+use Prim.Native.Nat.{ℕ, _≤_}
+use Prim.Native.Char.{code}
+use mathlib.Core.Bool.{Bool, cond, _&&_, _||_}
+use mathlib.Core.List.{List, [], _∷_, _++_}
+use lib.Dec.{eqb, ltb}
+use lib.IntN.{pos, negℤ}
+use lib.ListN.{length, getD, take, drop}
+use Rattle.ints.specs.Range.{In}
+use Rattle.text.specs.Places.{firstPlace}
+use Rattle.text.specs.Trim.{trim}
+use Rattle.text.specs.declared.number.Number.{Number}
+use Rattle.text.specs.declared.number.Number.the-variants.{Value, Not}
+use Rattle.text.specs.declared.number.Integer.{Integer}
+use Rattle.text.specs.declared.number.Integer.the-variants.{Is, NotOne}
+use Rattle.iso.specs.Parts.{two, int32}
+use Rattle.iso.specs.Cut.{timeText, offsetText}
+use Rattle.iso.specs.Clock.{timeOf}
+use Rattle.iso.specs.Offset.{offsetOf}
+use Rattle.iso.specs.declared.forms.Fields.{Fields}
+use Rattle.iso.specs.declared.forms.Fields.the-variants.{Are, Missing}
+
+-- all five, or none
+unfoldable pub saidOf : Integer → Integer → Integer → Number → Integer → Fields
+saidOf (Is y) (Is m) (Is d) (Value c) (Is o) = Are (record { year = y; month = m; day = d; second = c; offset = o })
+saidOf (Is y) (Is m) (Is d) (Value c) NotOne = Missing
+saidOf (Is y) (Is m) (Is d) Not o = Missing
+saidOf (Is y) (Is m) NotOne c o = Missing
+saidOf (Is y) NotOne d c o = Missing
+saidOf NotOne m d c o = Missing
+
+-- year, month, day: signed 32-bit fields; and what follows the `T` or space
+unfoldable pub fieldsOf : List ℕ → List ℕ → List ℕ → List ℕ → Fields
+fieldsOf y m d s = saidOf (int32 y) (int32 m) (int32 d) (timeOf (timeText (trim s))) (offsetOf (offsetText (trim s)))
+
+-- `T` or space
+unfoldable pub isSeparator : ℕ → Bool
+isSeparator b = eqb b (code "T") || eqb b (code " ")
+
+-- flexible: dashes at 4 and 7, `T` or space at 10
+unfoldable pub flexible : List ℕ → Fields
+flexible s =
+    cond (eqb (getD s 4 0) (code "-") && (eqb (getD s 7 0) (code "-") && isSeparator (getD s 10 0)))
+    (fieldsOf (take 4 s) (two 5 s) (two 8 s) (drop 11 s)) Missing
+
+-- the first b stands at place i
+unfoldable pub firstAt : ℕ → ℕ → List ℕ → Bool
+firstAt b i s = eqb (firstPlace b s) i && ltb i (length s)
+
+-- compact: the first `T` at place 8
+unfoldable pub compact : List ℕ → Fields
+compact s = cond (firstAt (code "T") 8 s) (fieldsOf (take 4 s) (two 4 s) (two 6 s) (drop 9 s)) Missing
+
+-- all dots become dashes
+unfoldable pub dashOf : ℕ → ℕ
+dashOf b = cond (eqb b (code ".")) (code "-") b
+
+unfoldable pub dashes : List ℕ → List ℕ
+dashes [] = []
+dashes (b ∷ s) = dashOf b ∷ dashes s
+
+-- ten bytes before the first space, dots at places 4 and 7
+unfoldable pub isDotted : List ℕ → Bool
+isDotted s = firstAt (code " ") 10 s && (eqb (getD s 4 0) (code ".") && eqb (getD s 7 0) (code "."))
+
+-- dotted: all dots in the ten bytes become dashes, then as flexible
+unfoldable pub dotted : List ℕ → Fields
+dotted s = cond (isDotted s) (flexible (dashes (take 10 s) ++ drop 10 s)) Missing
+
+-- the first form whose fields are there. At most one of the three is: `one-iso-form`
+unfoldable pub orElse : Fields → Fields → Fields
+orElse (Are f) g = Are f
+orElse Missing g = g
+
+unfoldable pub formOf : List ℕ → Fields
+formOf s = orElse (dotted s) (orElse (compact s) (flexible s))
+
+-- a second of the day, and an offset far within its width
+abbrev pub FieldsIn : Fields → Type 0
+FieldsIn (Are f) = (f .second ≤ 86399) × In (negℤ (pos 362340)) (pos 362340) (f .offset)
+FieldsIn Missing = Unit {0}

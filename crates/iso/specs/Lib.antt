@@ -1,0 +1,9 @@
+-- Document 01, "Reading ISO dates". In order: parts of a text; the cut into time and offset; the time; the offset; the three forms;
+-- the instant and the answer.
+-- Assumes nothing.
+pub mod Parts
+pub mod Cut
+pub mod Clock
+pub mod Offset
+pub mod Forms
+pub mod Iso

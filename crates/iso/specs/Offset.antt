@@ -1,0 +1,49 @@
+-- Document 01, "Reading ISO dates": the offset, in seconds: an hour east is 3600, an hour west -3600.
+-- Assumes nothing.
+use Prim.Native.Nat.{ℕ}
+use Prim.Native.Char.{code}
+use mathlib.Core.Bool.{cond, _&&_}
+use mathlib.Core.List.{List, [], _∷_}
+use lib.Dec.{eqb}
+use lib.IntN.{ℤ, pos, negℤ, _+ℤ_, _*ℤ_}
+use lib.ListN.{length}
+use lib.Signed.{leZ}
+use Rattle.ints.specs.Range.{In}
+use Rattle.text.specs.declared.number.Integer.{Integer}
+use Rattle.text.specs.declared.number.Integer.the-variants.{Is, NotOne}
+use Rattle.iso.specs.Parts.{two, without, int32}
+
+-- to the limit; two bytes are never below -9, and no lower limit is asked
+unfoldable pub upTo : ℤ → Integer → Integer
+upTo limit (Is z) = cond (leZ z limit) (Is z) NotOne
+upTo limit NotOne = NotOne
+
+-- the seconds of hours and minutes
+unfoldable pub secondsOf : Integer → Integer → Integer
+secondsOf (Is h) (Is m) = Is (h *ℤ pos 3600 +ℤ m *ℤ pos 60)
+secondsOf (Is h) NotOne = NotOne
+secondsOf NotOne m = NotOne
+
+-- 2 or 4 bytes in signed fields, hours to 23, minutes to 59
+unfoldable pub hoursMinutes : List ℕ → Integer
+hoursMinutes s =
+    cond (eqb (length s) 2) (secondsOf (upTo (pos 23) (int32 (two 0 s))) (Is (pos 0)))
+    (cond (eqb (length s) 4) (secondsOf (upTo (pos 23) (int32 (two 0 s))) (upTo (pos 59) (int32 (two 2 s)))) NotOne)
+
+-- a `-` before the fields turns the whole sum
+unfoldable pub turned : Integer → Integer
+turned (Is z) = Is (negℤ z)
+turned NotOne = NotOne
+
+-- empty or `Z` is 0; a sign, then, with all colons removed, the fields
+unfoldable pub offsetOf : List ℕ → Integer
+offsetOf [] = Is (pos 0)
+offsetOf (b ∷ s) =
+    cond (eqb b (code "Z") && eqb (length s) 0) (Is (pos 0))
+    (cond (eqb b (code "+")) (hoursMinutes (without (code ":") s))
+    (cond (eqb b (code "-")) (turned (hoursMinutes (without (code ":") s))) NotOne))
+
+-- from -k to k, if it is a number
+abbrev pub Within : ℕ → Integer → Type 0
+Within k (Is z) = In (negℤ (pos k)) (pos k) z
+Within k NotOne = Unit {0}

@@ -1,0 +1,173 @@
+// The three forms of a trimmed text, and the fields that each reads, as numbers. The calendar is not asked here.
+ghost use mathlib.Core.Path.{_≡_};
+ghost use mathlib.Core.Bool.{true};
+ghost use Prim.Native.Nat.{_≤_};
+ghost use lib.ListN.{length};
+ghost use Rattle.text.specs.Number.{AtMost};
+ghost use Rattle.iso.specs.Offset.{Within};
+ghost use Rattle.iso.specs.Forms.{saidOf, fieldsOf, isSeparator, flexible, compact, dashOf, isDotted, dotted, formOf, FieldsIn};
+use crate::clock;
+use crate::cut;
+use crate::offset;
+use crate::parts;
+use text::number;
+use text::number::Integer;
+use text::number::Number;
+use text::places;
+use text::trim;
+
+// A date, which may not exist, a second of the day, an offset in seconds.
+pub struct Local {
+    pub year: i64,
+    pub month: i64,
+    pub day: i64,
+    pub second: u64,
+    pub offset: i64,
+}
+
+// What a form reads in a text.
+pub enum Fields {
+    Are(Local),
+    Missing,
+}
+
+// The form whose fields are there.
+pub fn parse(s: &[u8]) -> Fields
+    ensures is { λ r. ⌜ r ≡ formOf (now (s .entry)) ⌝ }
+    ensures range { λ r. ⌜ FieldsIn r ⌝ }
+{
+    match parse_iso8601_dots(s) {
+        Fields::Are(f) => Fields::Are(f),
+        Fields::Missing => match parse_compact_iso8601(s) {
+            Fields::Are(f) => Fields::Are(f),
+            Fields::Missing => parse_flexible_iso8601(s),
+        },
+    }
+}
+
+// Ten bytes before the first space, dots at 4 and 7. All dots of the ten are read as dashes.
+fn parse_iso8601_dots(s: &[u8]) -> Fields
+    ensures is { λ r. ⌜ r ≡ dotted (now (s .entry)) ⌝ }
+    ensures range { λ r. ⌜ FieldsIn r ⌝ }
+{
+    if s.len() < 11 {
+        return Fields::Missing;
+    }
+    if places::first_place(s, 32) != 10 {
+        return Fields::Missing;
+    }
+    if s[4] != 46 {
+        return Fields::Missing;
+    }
+    if s[7] != 46 {
+        return Fields::Missing;
+    }
+    dashed(s)
+}
+
+// The fields of a dotted text, each dot of its date a dash.
+fn dashed(s: &[u8]) -> Fields
+    requires bytes { ⌜ 11 ≤ length (now s) ⌝ }
+    requires form { ⌜ isDotted (now s) ≡ true ⌝ }
+    ensures is { λ r. ⌜ r ≡ dotted (now (s .entry)) ⌝ }
+    ensures range { λ r. ⌜ FieldsIn r ⌝ }
+{
+    let y = [dash(s[0]), dash(s[1]), dash(s[2]), dash(s[3])];
+    let m = [dash(s[5]), dash(s[6])];
+    let d = [dash(s[8]), dash(s[9])];
+    read_fields(&y, &m, &d, &s[11..])
+}
+
+fn dash(b: u8) -> u8
+    ensures { λ r. ⌜ r ≡ dashOf b ⌝ }
+{
+    if b == 46 {
+        return 45;
+    }
+    b
+}
+
+// The first `T` at place 8.
+fn parse_compact_iso8601(s: &[u8]) -> Fields
+    ensures is { λ r. ⌜ r ≡ compact (now (s .entry)) ⌝ }
+    ensures range { λ r. ⌜ FieldsIn r ⌝ }
+{
+    if s.len() < 9 {
+        return Fields::Missing;
+    }
+    if places::first_place(s, 84) != 8 {
+        return Fields::Missing;
+    }
+    read_fields(&s[..4], parts::two(s, 4), parts::two(s, 6), &s[9..])
+}
+
+// Dashes at 4 and 7, `T` or space at 10.
+fn parse_flexible_iso8601(s: &[u8]) -> Fields
+    ensures is { λ r. ⌜ r ≡ flexible (now (s .entry)) ⌝ }
+    ensures range { λ r. ⌜ FieldsIn r ⌝ }
+{
+    if s.len() < 11 {
+        return Fields::Missing;
+    }
+    if s[4] != 45 {
+        return Fields::Missing;
+    }
+    if s[7] != 45 {
+        return Fields::Missing;
+    }
+    if is_separator(s[10]) {
+        return read_fields(&s[..4], parts::two(s, 5), parts::two(s, 8), &s[11..]);
+    }
+    Fields::Missing
+}
+
+fn is_separator(b: u8) -> bool
+    ensures { λ r. ⌜ r ≡ isSeparator b ⌝ }
+{
+    (b == 84) | (b == 32)
+}
+
+// Year, month and day, and what follows them.
+fn read_fields(y: &[u8], m: &[u8], d: &[u8], s: &[u8]) -> Fields
+    ensures is { λ r. ⌜ r ≡ fieldsOf (now (y .entry)) (now (m .entry)) (now (d .entry)) (now (s .entry)) ⌝ }
+    ensures range { λ r. ⌜ FieldsIn r ⌝ }
+{
+    let r = trim::trimmed(s);
+    let i = cut::split_time_and_offset(r);
+    let t = clock::parse_time_component(trim::trimmed(parts::before(&r[..i], 46)));
+    let o = offset::parse_flexible_offset(trim::trimmed(&r[i..]));
+    let year = number::signed_number(y, 2147483648);
+    let month = number::signed_number(m, 2147483648);
+    let day = number::signed_number(d, 2147483648);
+    said(year, month, day, t, o)
+}
+
+// All five, or none.
+fn said(y: Integer, m: Integer, d: Integer, t: Number, o: Integer) -> Fields
+    requires { ⌜ AtMost 86399 t × Within 362340 o ⌝ }
+    ensures is { λ r. ⌜ r ≡ saidOf y m d t o ⌝ }
+    ensures range { λ r. ⌜ FieldsIn r ⌝ }
+{
+    let Integer::Is(year) = y else {
+        return Fields::Missing;
+    };
+    let Integer::Is(month) = m else {
+        return Fields::Missing;
+    };
+    let Integer::Is(day) = d else {
+        return Fields::Missing;
+    };
+    let Number::Value(second) = t else {
+        return Fields::Missing;
+    };
+    let Integer::Is(offset) = o else {
+        return Fields::Missing;
+    };
+    Fields::Are(Local {
+        year,
+        month,
+        day,
+        second,
+        offset,
+    })
+}

@@ -1,0 +1,110 @@
+// Dates as ISO 8601 writes them and people paste them: `2008.02.14 20:30:45 -0500`, `20080214T203045Z`,
+// `2008-02-14 20:30:45 +01:00`. Every text has an answer: a time; NotAscii (1) for a byte of 128 or
+// more; else Form (2), also for a date that does not exist and for an instant out of range.
+//
+// The table of months is built once, and only for a text with a date, a time and an offset in it.
+// `parse_git_date_format_with` is lent it, for callers that read many texts.
+mod clock;
+mod cut;
+mod forms;
+mod offset;
+mod parts;
+
+ghost use mathlib.Core.Path.{_≡_};
+ghost use Prim.Native.Nat.{_≤_, _<_};
+ghost use lib.IntN.{pos, negℤ};
+ghost use Rattle.ints.specs.Range.{In};
+ghost use Rattle.calendar.specs.Table.{IsMonths};
+ghost use Rattle.calendar.specs.Dates.{Below};
+ghost use Rattle.iso.specs.Forms.{FieldsIn};
+ghost use Rattle.iso.specs.Iso.{dayOf, momentOf, zoned, isoOf};
+use calendar::Found;
+use forms::Fields;
+use forms::Local;
+use time::Answer;
+use time::Refusal;
+use time::Time;
+
+// A date in any of the three forms.
+pub fn parse_git_date_format(s: &[u8]) -> Answer
+    ensures { λ r. ⌜ r ≡ isoOf (now (s .entry)) ⌝ }
+{
+    if text::bytes::is_ascii(s) {
+        let Fields::Are(f) = forms::parse(text::trim::trimmed(s)) else {
+            return Answer::Refused(Refusal::Form);
+        };
+        let months = calendar::months();
+        return new_zoned(&months, f);
+    }
+    Answer::Refused(Refusal::NotAscii)
+}
+
+// The same, with the table of months lent.
+pub fn parse_git_date_format_with(months: &[u32; 4800], s: &[u8]) -> Answer
+    requires { ⌜ IsMonths (now months) ⌝ }
+    ensures { λ r. ⌜ r ≡ isoOf (now (s .entry)) ⌝ }
+{
+    if text::bytes::is_ascii(s) {
+        let Fields::Are(f) = forms::parse(text::trim::trimmed(s)) else {
+            return Answer::Refused(Refusal::Form);
+        };
+        return new_zoned(months, f);
+    }
+    Answer::Refused(Refusal::NotAscii)
+}
+
+// What the fields of a text mean, if their date exists and their instant is in range.
+fn new_zoned(months: &[u32; 4800], f: Local) -> Answer
+    requires table { ⌜ IsMonths (now months) ⌝ }
+    requires second { ⌜ f .second ≤ 86399 ⌝ }
+    requires offset { ⌜ In (negℤ (pos 362340)) (pos 362340) (f .offset) ⌝ }
+    ensures { λ r. ⌜ r ≡ zoned (Fields.Are f) ⌝ }
+{
+    let year = f.year;
+    let month = f.month;
+    let day = f.day;
+    let second = f.second;
+    let offset = f.offset;
+    moment(date(months, year, month, day), second, offset)
+}
+
+// The day of a date that exists, in the years -9999 to 9999.
+fn date(months: &[u32; 4800], y: i64, m: i64, d: i64) -> Found
+    requires { ⌜ IsMonths (now months) ⌝ }
+    ensures is { λ r. ⌜ r ≡ dayOf y m d ⌝ }
+    ensures range { λ r. ⌜ Below 7304850 r ⌝ }
+{
+    if m < 0 {
+        return Found::Nothing;
+    }
+    if d < 0 {
+        return Found::Nothing;
+    }
+    if y < -9999 {
+        return Found::Nothing;
+    }
+    if y > 9999 {
+        return Found::Nothing;
+    }
+    calendar::day_number(months, (y + 10000) as u64, m as u64, d as u64)
+}
+
+// A second of a day, by the clock of an offset. Day 4,371,953 is 1 January 1970.
+fn moment(d: Found, second: u64, offset: i64) -> Answer
+    requires day { ⌜ Below 7304850 d ⌝ }
+    requires second { ⌜ second ≤ 86399 ⌝ }
+    requires offset { ⌜ In (negℤ (pos 362340)) (pos 362340) offset ⌝ }
+    ensures { λ r. ⌜ r ≡ momentOf d second offset ⌝ }
+{
+    let Found::At(day) = d else {
+        return Answer::Refused(Refusal::Form);
+    };
+    let z = (day * 86400 + second) as i64 - 377736739200 - offset;
+    if z < -377705023201 {
+        return Answer::Refused(Refusal::Form);
+    }
+    if z > 253402207200 {
+        return Answer::Refused(Refusal::Form);
+    }
+    Answer::Time(Time::new(z, offset as i32))
+}

@@ -1,0 +1,128 @@
+// The offset from UTC, in seconds. Its colons are passed over as its bytes are read: nothing is copied but two bytes.
+ghost use mathlib.Core.Path.{_≡_};
+ghost use mathlib.Core.List.{[], _∷_};
+ghost use lib.IntN.{pos};
+ghost use lib.ListN.{length, getD};
+ghost use Rattle.ints.specs.Range.{In};
+ghost use Rattle.iso.specs.Parts.{without, int32};
+ghost use Rattle.iso.specs.Offset.{upTo, secondsOf, hoursMinutes, turned as turnedOf, offsetOf, Within};
+use text::number;
+use text::number::Integer;
+
+// The offset in a trimmed text: none, `Z`, or a sign and HH, HHMM or either with colons anywhere.
+pub fn parse_flexible_offset(o: &[u8]) -> Integer
+    ensures is { λ r. ⌜ r ≡ offsetOf (now (o .entry)) ⌝ }
+    ensures range { λ r. ⌜ Within 362340 r ⌝ }
+{
+    if o.len() == 0 {
+        return Integer::Is(0);
+    }
+    if o[0] == 43 {
+        return hours_minutes(&o[1..]);
+    }
+    if o[0] == 45 {
+        return turned(hours_minutes(&o[1..]));
+    }
+    if o[0] == 90 {
+        if o.len() == 1 {
+            return Integer::Is(0);
+        }
+        return Integer::NotOne;
+    }
+    Integer::NotOne
+}
+
+// What follows the sign: two or four bytes that are no colons.
+fn hours_minutes(s: &[u8]) -> Integer
+    ensures is { λ r. ⌜ r ≡ hoursMinutes (without 58 (now (s .entry))) ⌝ }
+    ensures range { λ r. ⌜ Within 362340 r ⌝ }
+{
+    let n = kept_count(s);
+    if n == 2 {
+        return seconds(field(kept(s, 0), kept(s, 1), 23), Integer::Is(0));
+    }
+    if n == 4 {
+        return seconds(
+            field(kept(s, 0), kept(s, 1), 23),
+            field(kept(s, 2), kept(s, 3), 59),
+        );
+    }
+    Integer::NotOne
+}
+
+// How many bytes are no colons.
+fn kept_count(s: &[u8]) -> usize
+    ensures { λ r. ⌜ r ≡ length (without 58 (now (s .entry))) ⌝ }
+{
+    let mut i = 0;
+    let mut n = 0;
+    while i < s.len() {
+        if s[i] == 58 {
+            i += 1;
+            continue;
+        }
+        n += 1;
+        i += 1;
+    }
+    n
+}
+
+// Byte k, colons not counted; 0 if there is none.
+fn kept(s: &[u8], k: usize) -> u8
+    ensures { λ r. ⌜ r ≡ getD (without 58 (now (s .entry))) k 0 ⌝ }
+{
+    let mut i = 0;
+    let mut left = k;
+    while i < s.len() {
+        if s[i] == 58 {
+            i += 1;
+            continue;
+        }
+        if left == 0 {
+            return s[i];
+        }
+        left -= 1;
+        i += 1;
+    }
+    0
+}
+
+// Two bytes as a signed number up to the limit: it may be below 0, as in `+-5`.
+fn field(x: u8, y: u8, limit: i64) -> Integer
+    ensures is { λ r. ⌜ r ≡ upTo limit (int32 (x ∷ y ∷ [])) ⌝ }
+    ensures range { λ r. ⌜ Within 99 r ⌝ }
+{
+    let f = [x, y];
+    let Integer::Is(z) = number::signed_number(&f, 2147483648) else {
+        return Integer::NotOne;
+    };
+    if z <= limit {
+        return Integer::Is(z);
+    }
+    Integer::NotOne
+}
+
+fn seconds(h: Integer, m: Integer) -> Integer
+    requires { ⌜ Within 99 h × Within 99 m ⌝ }
+    ensures is { λ r. ⌜ r ≡ secondsOf h m ⌝ }
+    ensures range { λ r. ⌜ Within 362340 r ⌝ }
+{
+    let Integer::Is(hours) = h else {
+        return Integer::NotOne;
+    };
+    let Integer::Is(minutes) = m else {
+        return Integer::NotOne;
+    };
+    Integer::Is(hours * 3600 + minutes * 60)
+}
+
+fn turned(o: Integer) -> Integer
+    requires { ⌜ Within 362340 o ⌝ }
+    ensures is { λ r. ⌜ r ≡ turnedOf o ⌝ }
+    ensures range { λ r. ⌜ Within 362340 r ⌝ }
+{
+    let Integer::Is(z) = o else {
+        return Integer::NotOne;
+    };
+    Integer::Is(0 - z)
+}

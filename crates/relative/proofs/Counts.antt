@@ -1,0 +1,62 @@
+-- What is digits is no name: none of `one` to `ten` and `last` opens with a digit. So it is the same whether digits or names are
+-- tried first.
+-- Assumes nothing.
+use mathlib.Core.Path.{_≡_, refl, sym, ap, _∙_}
+use mathlib.Core.Bool.{Bool, true, false, cond, _&&_}
+use mathlib.Core.List.{List, [], _∷_}
+use Prim.Native.Nat.{ℕ, _≤_, _<_}
+use Prim.Native.Char.{code}
+use native.Mathlib.Omega.{arith}
+use borrow.Author.Tests.{le-leb, lt-leb, ne-eqb}
+use lib.Dec.{leb, eqb}
+use lib.ListN.{length}
+use Rattle.text.specs.Bytes.{isDigit, lowerOf, sameLetters}
+use Rattle.text.specs.Quote.{bytes}
+use Rattle.text.specs.Number.{digitsOf, readFrom, fit}
+use Rattle.text.specs.declared.number.Number.{Number}
+use Rattle.text.specs.declared.number.Number.the-variants.{Value, Not}
+use Rattle.text.proofs.Lists.{by-test}
+use Rattle.text.proofs.Numbers.{digit-range}
+use Rattle.relative.specs.Words.{spelled}
+
+-- a text that opens with a digit is not one that opens with a letter
+module _ (b : ℕ) (w : List ℕ) (d : isDigit b ≡ true) where
+  lowerOf-digit : lowerOf b ≡ b
+  unfolding lowerOf
+  lowerOf-digit = let h : b < 65 = omega (arith, digit-range b d) in rw (lt-leb 65 b h)
+
+  not-same : (c : ℕ) (t : List ℕ) → 58 ≤ lowerOf c → sameLetters (b ∷ w) (c ∷ t) ≡ false
+  unfolding sameLetters
+  not-same c t h = rw (lowerOf-digit, ne-eqb b (lowerOf c) (λ e. omega (arith, digit-range b d)))
+
+  spelled-digit : (x : Number) → spelled (b ∷ w) x ≡ x
+  unfolding spelled lowerOf
+  spelled-digit x =
+      rw (
+        not-same (code "o") (bytes "ne") (omega arith),
+        not-same (code "t") (bytes "wo") (omega arith),
+        not-same (code "t") (bytes "hree") (omega arith),
+        not-same (code "f") (bytes "our") (omega arith),
+        not-same (code "f") (bytes "ive") (omega arith),
+        not-same (code "s") (bytes "ix") (omega arith),
+        not-same (code "s") (bytes "even") (omega arith),
+        not-same (code "e") (bytes "ight") (omega arith),
+        not-same (code "n") (bytes "ine") (omega arith),
+        not-same (code "t") (bytes "en") (omega arith),
+        not-same (code "l") (bytes "ast") (omega arith),
+      )
+
+-- so of what is digits nothing else is asked
+readFrom-digit : (v b : ℕ) (w : List ℕ) (n : ℕ) → readFrom v (b ∷ w) ≡ Value n → isDigit b ≡ true
+unfolding readFrom
+readFrom-digit v b w n = by-test (isDigit b) (λ e h. e) (λ e h. let k : Not ≡ Value n = rw e at h in let z : _≡_ {A = ℕ} 0 1 = cc in absurd (omega arith))
+
+fit-value : (limit n : ℕ) (x : Number) → fit limit x ≡ Value n → x ≡ Value n
+unfolding fit
+fit-value limit n (Value m) = by-test (leb m limit) (λ e h. rw e at h) (λ e h. let k : Not ≡ Value n = rw e at h in let z : _≡_ {A = ℕ} 0 1 = cc in absurd (omega arith))
+fit-value limit n Not = λ h. h
+
+pub spelled-of-digits : (limit n : ℕ) (w : List ℕ) (x : Number) → fit limit (digitsOf w) ≡ Value n → spelled w x ≡ x
+unfolding digitsOf
+spelled-of-digits limit n [] x h = let z : _≡_ {A = ℕ} 0 1 = cc (fit-value limit n Not h) in absurd (omega arith)
+spelled-of-digits limit n (b ∷ w) x h = spelled-digit b w (readFrom-digit 0 b w n (fit-value limit n _ h)) x

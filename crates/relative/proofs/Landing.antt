@@ -1,0 +1,148 @@
+-- Where steps land, as the code finds it on numbers from 0 and as the definitions have it on whole numbers. In order: landings below
+-- the range; seconds; the months before month 0; months.
+-- Assumes nothing.
+use mathlib.Core.Path.{_≡_, refl, sym, ap, _∙_}
+use mathlib.Core.Bool.{Bool, true, false, cond}
+use Prim.Native.Nat.{ℕ, zero, suc, _+_, _-_, _*_, _/_, _%_, _≤_, _<_}
+use native.Mathlib.Omega.{arith}
+use native.Mathlib.Nat.{div-lt-iff-lt-mul, le-div-iff-mul-le, mul-one}
+use borrow.Author.Tests.{leb-true, leb-false}
+use lib.Dec.{leb}
+use lib.IntN.{ℤ, pos, negsuc, negℤ, natAbs, _+ℤ_, _-ℤ_, _*ℤ_}
+use lib.Signed.{_≤ℤ_, _<ℤ_}
+use Rattle.ints.proofs.Parts.{ints, add-parts, up-neg, dn-neg, up-mul, dn-mul, natAbs-parts, one-dn, parts-eq, parts-lt, parts-le, le-parts}
+use Rattle.ints.proofs.Machine.{isIn-of-lt}
+use Rattle.text.proofs.Lists.{by-test, both}
+use Rattle.calendar.specs.Calendar.{firstDay, monthOf}
+use Rattle.calendar.specs.Back.{monthsBack, backOf}
+use Rattle.calendar.specs.declared.Found.{Found}
+use Rattle.calendar.specs.declared.Found.the-variants.{At as Day, Nothing}
+use Rattle.calendar.proofs.Lengths.{firstDay-zero}
+use Rattle.calendar.proofs.Cycle.{firstDay-le, firstDay-add-4800}
+use Rattle.calendar.proofs.Dates.{IsDate-monthOf, IsDate-day-lt, IsDate-month-lt}
+use Rattle.calendar.proofs.Back.{back-le}
+use Rattle.time.specs.Range.{leastSeconds, mostSeconds, secondsInRange, since1970, timeOf, InRange}
+use Rattle.text.specs.declared.number.Number.the-variants.{Value}
+use Rattle.time.specs.declared.Time.{Time}
+use Rattle.time.specs.declared.range.Instant.{Instant}
+use Rattle.time.specs.declared.Refusal.the-variants.{Range}
+use Rattle.time.specs.declared.Answer.the-variants.{Time as Answered, Refused}
+use Rattle.time.proofs.Ranges.{secondsInRange-since1970}
+use Rattle.relative.specs.Steps.{localSeconds, monthStart, monthsEarlier, landing, landed, step}
+use Rattle.relative.specs.Held.{Sized, secondsIn}
+use Rattle.relative.specs.declared.Unit.{Unit}
+use Rattle.relative.specs.declared.Unit.the-variants.{Seconds, Months, Unknown}
+
+-- ---- below the range
+pub landed-of-lt : (z o : ℤ) → z <ℤ leastSeconds → landed z o ≡ Refused Range
+unfolding landed secondsInRange
+landed-of-lt z o h = rw (isIn-of-lt leastSeconds mostSeconds h)
+
+-- in range, counted from 0
+pub range-of-secondsInRange : (n : ℕ) → secondsInRange (since1970 n) ≡ true → (31715999 ≤ n) × (n ≤ 631138946400)
+range-of-secondsInRange n e =
+    let p = both (leb 31715999 n) (leb n 631138946400) (sym (secondsInRange-since1970 n) ∙ e) in
+    (leb-true 31715999 n (p .0), leb-true n 631138946400 (p .1))
+
+-- ---- seconds
+-- a difference that would be below 0
+pub seconds-far : (t n k : ℕ) (o : ℤ) → 1 ≤ k → t / k < n → landed (since1970 t -ℤ pos (n * k)) o ≡ Refused Range
+seconds-far t n k o h l =
+    let m : t < n * k = div-lt-iff-lt-mul h .0 l in
+    landed-of-lt _ o (parts-lt _ _ (omega (arith, add-parts (since1970 t) (negℤ (pos (n * k))), add-parts (pos t) (negsuc 377736739199), up-neg (pos (n * k)), dn-neg (pos (n * k)))))
+
+pub mul-le-of-div : (t n k : ℕ) → 1 ≤ k → n ≤ t / k → n * k ≤ t
+mul-le-of-div t n k h l = le-div-iff-mul-le h .0 l
+
+pub since1970-sub : (t n : ℕ) → n ≤ t → since1970 (t - n) ≡ since1970 t -ℤ pos n
+since1970-sub t n h = parts-eq _ _ (omega (arith, add-parts (since1970 t) (negℤ (pos n)), add-parts (pos t) (negsuc 377736739199), add-parts (pos (t - n)) (negsuc 377736739199), up-neg (pos n), dn-neg (pos n)))
+
+-- ---- months
+pub pos-sub : (m n : ℕ) → n ≤ m → pos m -ℤ pos n ≡ pos (m - n)
+pos-sub m n h = parts-eq _ _ (omega (arith, add-parts (pos m) (negℤ (pos n)), up-neg (pos n), dn-neg (pos n)))
+
+pub pos-sub-lt : (m n : ℕ) → m < n → pos m -ℤ pos n ≡ negsuc (n - suc m)
+pos-sub-lt m n h = parts-eq _ _ (omega (arith, add-parts (pos m) (negℤ (pos n)), up-neg (pos n), dn-neg (pos n)))
+
+-- months before month 0 begin before day 0
+pub monthStart-negsuc : (j : ℕ) → monthStart (negsuc j) ≤ℤ pos 0
+unfolding monthStart
+monthStart-negsuc j =
+    let a = firstDay-le (4799 - j % 4800) 4800 (omega arith) in
+    let b = firstDay-add-4800 0 in
+    let n : ℕ = (j / 4800 + 1) * 146097 in
+    parts-le _ _ (omega (arith, a, b, firstDay-zero, add-parts (pos (firstDay (4799 - j % 4800))) (negℤ (pos n)), up-neg (pos n), dn-neg (pos n)))
+
+-- the local clock, counted from 0
+pub local-of : (i : Instant) → InRange i → localSeconds (timeOf i) ≡ i .seconds + i .offset - 93600
+local-of i r =
+    let s : ℤ = since1970 (i .seconds) in
+    let o : ℤ = pos (i .offset) -ℤ pos 93600 in
+    omega (arith, r .early, one-dn (s +ℤ o +ℤ pos 377736739200), natAbs-parts (s +ℤ o +ℤ pos 377736739200), add-parts (s +ℤ o) (pos 377736739200), add-parts s o, add-parts (pos (i .seconds)) (negsuc 377736739199), add-parts (pos (i .offset)) (negsuc 93599))
+
+-- where the calendar has a month n before, the landing is the calendar's
+pub monthsEarlier-of-le : (i : Instant) (n : ℕ) → InRange i → let t : ℕ = i .seconds + i .offset - 93600 in n ≤ monthOf (t / 86400)
+    → monthsEarlier (timeOf i) n ≡ pos (monthsBack t n) -ℤ pos 377736739200 -ℤ (pos (i .offset) -ℤ pos 93600)
+unfolding monthsEarlier monthsBack monthStart
+monthsEarlier-of-le i n r h = rw (local-of i r, pos-sub (monthOf ((i .seconds + i .offset - 93600) / 86400)) n h)
+
+-- where it has none, the landing is below the range
+module _ (m : ℤ) (k c : ℕ) (o : ℤ) (h : m ≤ℤ pos 0) (a : k < 31) (b : c < 86400) (e : negsuc 93598 ≤ℤ o) where
+  before-range : ((m +ℤ pos k) *ℤ pos 86400 +ℤ pos c -ℤ pos 377736739200 -ℤ o) <ℤ leastSeconds
+  before-range =
+      let p : ℤ = m +ℤ pos k in
+      let q : ℤ = p *ℤ pos 86400 in
+      let s : ℤ = q +ℤ pos c in
+      let t : ℤ = s -ℤ pos 377736739200 in
+      parts-lt _ _ (omega (arith, le-parts h, le-parts e, add-parts m (pos k), up-mul p 86400, dn-mul p 86400, add-parts q (pos c), add-parts s (negsuc 377736739199), add-parts t (negℤ o), up-neg o, dn-neg o))
+
+pub landed-of-month-lt : (i : Instant) (n : ℕ) (z : ℤ) → InRange i → monthOf ((i .seconds + i .offset - 93600) / 86400) < n → landed (monthsEarlier (timeOf i) n) z ≡ Refused Range
+unfolding monthsEarlier
+landed-of-month-lt i n z r h =
+    let t : ℕ = i .seconds + i .offset - 93600 in
+    let d : ℕ = t / 86400 in
+    let o : negsuc 93598 ≤ℤ (pos (i .offset) -ℤ pos 93600) = parts-le _ _ (omega (arith, r .west, add-parts (pos (i .offset)) (negsuc 93599))) in
+    let c : t % 86400 < 86400 = omega arith in
+    landed-of-lt _ z (rw (local-of i r, pos-sub-lt (monthOf d) n h) (before-range (monthStart (negsuc (n - suc (monthOf d)))) (d - firstDay (monthOf d)) (t % 86400) (pos (i .offset) -ℤ pos 93600) (monthStart-negsuc _) (IsDate-day-lt (IsDate-monthOf d)) c o))
+
+-- what the calendar's answer says
+abbrev pub Told : ℕ → ℕ → Found → Type 0
+Told t n (Day l) = (n ≤ monthOf (t / 86400)) × (l ≡ monthsBack t n)
+Told t n Nothing = monthOf (t / 86400) < n
+
+pub backOf-told : (t n : ℕ) (b : Found) → b ≡ backOf t n → Told t n b
+unfolding backOf
+backOf-told t n b e =
+    rw e
+    (by-test (leb n (monthOf (t / 86400)))
+    (λ f. rw f (leb-true n (monthOf (t / 86400)) f, refl))
+    (λ f. rw f (leb-false n (monthOf (t / 86400)) f)))
+
+-- more months than are counted up to the range's end
+pub month-lt : (i : Instant) (n : ℕ) → InRange i → 240000 < n → monthOf ((i .seconds + i .offset - 93600) / 86400) < n
+month-lt i n r h =
+    let d : ℕ = (i .seconds + i .offset - 93600) / 86400 in
+    let m : monthOf d < 240000 = IsDate-month-lt (IsDate-monthOf d) (omega (arith, r .late, r .east)) in
+    omega arith
+
+-- the landing, back from local
+pub since1970-local : (l o : ℕ) → o ≤ l + 93600 → since1970 (l + 93600 - o) ≡ pos l -ℤ pos 377736739200 -ℤ (pos o -ℤ pos 93600)
+since1970-local l o h =
+    let z : ℤ = pos o -ℤ pos 93600 in
+    parts-eq _ _ (omega (arith, add-parts (pos (l + 93600 - o)) (negsuc 377736739199), add-parts (since1970 l) (negℤ z), add-parts (pos l) (negsuc 377736739199), add-parts (pos o) (negsuc 93599), up-neg z, dn-neg z))
+
+pub landed-local-lt : (l o : ℕ) (x : ℤ) → l + 93600 < o → o ≤ 187199 → landed (pos l -ℤ pos 377736739200 -ℤ (pos o -ℤ pos 93600)) x ≡ Refused Range
+landed-local-lt l o x h k =
+    let z : ℤ = pos o -ℤ pos 93600 in
+    landed-of-lt _ x (parts-lt _ _ (omega (arith, add-parts (since1970 l) (negℤ z), add-parts (pos l) (negsuc 377736739199), add-parts (pos o) (negsuc 93599), up-neg z, dn-neg z)))
+
+-- ---- a unit's seconds
+pub landing-secondsIn : (u : Unit) (k : ℕ) → Sized u → secondsIn u ≡ Value k → (1 ≤ k) × ((x : Time) (n : ℕ) → landing x n u ≡ x .seconds -ℤ pos (n * k))
+unfolding landing
+landing-secondsIn (Seconds j) k h e = let i : j ≡ k = cc in (rw i at h, λ x n. rw i)
+landing-secondsIn (Months j) k h e = let z : _≡_ {A = ℕ} 0 1 = cc in absurd (omega arith)
+landing-secondsIn Unknown k h e = let i : _≡_ {A = ℕ} 1 k = cc in (omega arith, λ x n. rw (← i, mul-one))
+
+pub step-secondsIn : (u : Unit) (k n : ℕ) (x : Time) → Sized u → secondsIn u ≡ Value k → step (record { count = n; unit = u }) (Answered x) ≡ landed (x .seconds -ℤ pos (n * k)) (x .offset)
+unfolding step
+step-secondsIn u k n x h e = rw (landing-secondsIn u k h e .1 x n)

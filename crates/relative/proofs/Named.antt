@@ -1,0 +1,111 @@
+-- A text with a pair is no named text: a named text is one word. In order: trimming takes no word away; letters and digits alone are
+-- one word, in any letter case; so what a text with a pair answers.
+-- Assumes nothing.
+use mathlib.Core.Path.{_≡_, refl, sym, ap, _∙_}
+use mathlib.Core.Bool.{Bool, true, false, cond, not, _&&_, _||_, false≢true}
+use mathlib.Core.List.{List, [], _∷_, _++_, reverse, reverse-cons, reverse-reverse}
+use Prim.Native.Nat.{ℕ, zero, suc, _+_, _-_, _≤_, _<_}
+use native.Mathlib.Omega.{arith}
+use native.Mathlib.Nat.{not-suc-le-zero}
+use borrow.Author.Tests.{leb-true, le-leb, lt-leb, lt-ltb, eqb-true}
+use lib.Dec.{leb, eqb}
+use lib.ListN.{length}
+use Rattle.text.specs.Bytes.{between, isSpace, isAlphanumeric, lowerOf, ascii, sameLetters}
+use Rattle.text.specs.Quote.{bytes}
+use Rattle.text.specs.Places.{no}
+use Rattle.text.specs.Trim.{trim, trimStart, trimEnd}
+use Rattle.text.specs.Words.{separator, pieces, full, words}
+use Rattle.text.specs.declared.words.Separator.the-variants.{Mark}
+use Rattle.text.specs.declared.number.Number.the-variants.{Not}
+use Rattle.text.proofs.Lists.{by-test, both}
+use Rattle.text.proofs.Taking.{words-cons-separator, words-snoc-separator}
+use Rattle.time.specs.declared.Now.{Now}
+use Rattle.relative.specs.Words.{wordsOf}
+use Rattle.relative.specs.Pairs.{pairsFrom, pairsOf, known, agoIn}
+use Rattle.relative.specs.Relative.{from, namedOf, byPairs, relativeOf}
+
+-- ---- white space parts words
+isSpace-lt : (b : ℕ) → isSpace b ≡ true → b < 48
+unfolding isSpace
+isSpace-lt b =
+    by-test (between 9 13 b)
+    (λ e h. let l : b ≤ 13 = leb-true b 13 (both (leb 9 b) (leb b 13) e .1) in omega arith)
+    (λ e h. let l : b ≡ 32 = eqb-true b 32 (rw e at h) in omega arith)
+
+isSpace-separates : (b : ℕ) → isSpace b ≡ true → separator Mark b ≡ true
+unfolding isAlphanumeric
+isSpace-separates b h =
+    let l : b < 48 = isSpace-lt b h in
+    rw (lt-leb 48 b l, lt-leb 65 b (omega arith), lt-leb 97 b (omega arith))
+
+words-trimStart : (s : List ℕ) → words (separator Mark) (trimStart s) ≡ words (separator Mark) s
+unfolding trimStart
+words-trimStart [] = refl
+words-trimStart (b ∷ s) =
+    by-test (isSpace b) (λ e. rw e (words-trimStart s ∙ sym (words-cons-separator (separator Mark) b s (isSpace-separates b e)))) (λ e. rw e)
+
+words-reverse-trimStart : (r : List ℕ) → words (separator Mark) (reverse (trimStart r)) ≡ words (separator Mark) (reverse r)
+unfolding trimStart
+words-reverse-trimStart [] = refl
+words-reverse-trimStart (b ∷ r) =
+    by-test (isSpace b)
+    (λ e. rw e (words-reverse-trimStart r ∙ sym (words-snoc-separator (separator Mark) b (reverse r) (isSpace-separates b e)) ∙ ap (words (separator Mark)) (sym (reverse-cons b r))))
+    (λ e. rw e)
+
+pub words-trim : (s : List ℕ) → words (separator Mark) (trim s) ≡ words (separator Mark) s
+unfolding trim trimEnd
+words-trim s = words-reverse-trimStart (reverse (trimStart s)) ∙ ap (words (separator Mark)) (reverse-reverse (trimStart s)) ∙ words-trimStart s
+
+-- ---- letters and digits alone are one word, so that no count has a unit
+abbrev one : List ℕ → Bool
+one [] = true
+one (b ∷ s) = isAlphanumeric b && one s
+
+one-piece : (s : List ℕ) → one s ≡ true → pieces (separator Mark) s ≡ s ∷ []
+unfolding pieces
+one-piece [] h = refl
+one-piece (b ∷ s) h = let k = both (isAlphanumeric b) (one s) h in rw (k .0, one-piece s (k .1))
+
+no-pair : (s : List ℕ) → one s ≡ true → pairsFrom Not (words (separator Mark) s) ≡ []
+unfolding words full pairsFrom
+no-pair [] h = rw (one-piece [] h)
+no-pair (b ∷ s) h = rw (one-piece (b ∷ s) h)
+
+-- in any letter case
+pub isAlphanumeric-lowerOf : (b : ℕ) → isAlphanumeric (lowerOf b) ≡ isAlphanumeric b
+unfolding isAlphanumeric lowerOf
+isAlphanumeric-lowerOf b =
+    by-test (between 65 90 b)
+    (λ e.
+    let k = both (leb 65 b) (leb b 90) e in
+    let l : 65 ≤ b = leb-true _ _ (k .0) in
+    let m : b ≤ 90 = leb-true _ _ (k .1) in
+    rw (e, le-leb 48 b (omega arith), lt-leb b 57 (omega arith), le-leb 48 (b + 32) (omega arith), lt-leb (b + 32) 57 (omega arith), le-leb 65 (b + 32) (omega arith), lt-leb (b + 32) 90 (omega arith), le-leb 97 (b + 32) (omega arith), le-leb (b + 32) 122 (omega arith)))
+    (λ e. rw (e, e))
+
+same-one : (s t : List ℕ) → sameLetters s t ≡ true → one t ≡ true → one s ≡ true
+unfolding sameLetters
+same-one [] t e h = refl
+same-one (x ∷ s) [] e h = absurd (false≢true e)
+same-one (x ∷ s) (y ∷ t) e h =
+    let k = both (eqb (lowerOf x) (lowerOf y)) (sameLetters s t) e in
+    let j = both (isAlphanumeric y) (one t) h in
+    let w : isAlphanumeric x ≡ true = sym (isAlphanumeric-lowerOf x) ∙ ap isAlphanumeric (eqb-true _ _ (k .0)) ∙ isAlphanumeric-lowerOf y ∙ j .0 in
+    rw w (same-one s t (k .1) (j .1))
+
+not-same-of-pair : (s t : List ℕ) → one t ≡ true → 0 < length (pairsOf s) → sameLetters (trim s) t ≡ false
+unfolding wordsOf
+not-same-of-pair s t o h =
+    by-test (sameLetters (trim s) t)
+    (λ e. absurd (not-suc-le-zero (rw (← words-trim s, no-pair (trim s) (same-one (trim s) t e o)) at h)))
+    (λ e. e)
+
+pub namedOf-of-pair : (s : List ℕ) → 0 < length (pairsOf s) → namedOf s ≡ Not
+unfolding namedOf isAlphanumeric
+namedOf-of-pair s h =
+    rw (not-same-of-pair s (bytes "now") refl h, not-same-of-pair s (bytes "today") refl h, not-same-of-pair s (bytes "yesterday") refl h)
+
+-- ---- what a text with pairs answers
+pub relativeOf-of-pairs : (bound : ℕ) (s : List ℕ) (now : Now) → ascii s ≡ true → 0 < length (pairsOf s) → (known (pairsOf s) || agoIn s) ≡ true → length (pairsOf s) ≤ bound → relativeOf bound s now ≡ from now (pairsOf s)
+unfolding relativeOf byPairs
+relativeOf-of-pairs bound s now a h k l = rw (a, namedOf-of-pair s h, lt-ltb 0 (length (pairsOf s)) h, k, le-leb (length (pairsOf s)) bound l)

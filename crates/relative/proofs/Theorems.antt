@@ -1,0 +1,116 @@
+-- What demand 3 promises of relative dates, over the definitions of specs/; the contracts of `parse` and `parse_with` carry it to
+-- the code. In order: two bounds of pairs; joining.
+-- Assumes nothing.
+use mathlib.Core.Path.{_≡_, refl, sym, ap, _∙_}
+use mathlib.Core.Logic.{_↔_, _⊎_, inl, inr, ⊎-elim}
+use mathlib.Core.Bool.{Bool, true, false, _&&_, _||_}
+use mathlib.Core.List.{List, [], _∷_, _++_}
+use Prim.Native.Nat.{ℕ, _+_, _≤_, _<_}
+use native.Mathlib.Omega.{arith}
+use borrow.Author.Tests.{leb-true, le-leb}
+use lib.Dec.{leb, ltb}
+use lib.ListN.{length, length-append}
+use Rattle.text.specs.Bytes.{ascii, isAlphanumeric}
+use Rattle.text.specs.Words.{separator}
+use Rattle.text.specs.declared.words.Separator.the-variants.{Mark}
+use Rattle.text.specs.declared.number.Number.{Number}
+use Rattle.text.specs.declared.number.Number.the-variants.{Value, Not}
+use Rattle.text.proofs.Lists.{by-test}
+use Rattle.text.proofs.Taking.{words-append}
+use Rattle.time.specs.Range.{timeInRange}
+use Rattle.time.specs.declared.Time.{Time}
+use Rattle.time.specs.declared.Now.{Now}
+use Rattle.time.specs.declared.Now.the-variants.{At}
+use Rattle.time.specs.declared.Refusal.the-variants.{Pairs, Range}
+use Rattle.time.specs.declared.Answer.{Answer}
+use Rattle.time.specs.declared.Answer.the-variants.{Time as Answered, Refused}
+use Rattle.relative.specs.Words.{wordsOf}
+use Rattle.relative.specs.Pairs.{pairsOf, agoIn, known}
+use Rattle.relative.specs.Steps.{steps}
+use Rattle.relative.specs.Relative.{from, namedOf, byPairs, byName, relativeOf}
+use Rattle.relative.specs.Joined.{waitsFrom, Whole, spaced, after}
+use Rattle.relative.specs.declared.Pair.{Pair}
+use Rattle.relative.proofs.Holding.{steps-refused}
+use Rattle.relative.proofs.Texts.{pairsFrom-append, waitsFrom-append, known-append, ascii-append, steps-append, Good, steps-good}
+use Rattle.relative.proofs.Named.{relativeOf-of-pairs}
+
+-- ---- two bounds of pairs: whatever the smaller one answered is answered alike, 5 excepted
+byPairs-bounds : (a b : ℕ) (s : List ℕ) (now : Now) → a ≤ b → (byPairs b s now ≡ byPairs a s now) ⊎ (byPairs a s now ≡ Refused Pairs)
+unfolding byPairs
+byPairs-bounds a b s now h =
+    by-test (ltb 0 (length (pairsOf s)) && (known (pairsOf s) || agoIn s))
+    (λ k. by-test (leb (length (pairsOf s)) a)
+    (λ l. let m : length (pairsOf s) ≤ a = leb-true _ _ l in inl (rw (k, l, le-leb (length (pairsOf s)) b (omega arith))))
+    (λ l. inr (rw (k, l))))
+    (λ k. inl (rw k))
+
+byName-bounds : (x : Number) (a b : ℕ) (s : List ℕ) (now : Now) → a ≤ b → (byName x b s now ≡ byName x a s now) ⊎ (byName x a s now ≡ Refused Pairs)
+byName-bounds (Value k) a b s now h = inl refl
+byName-bounds Not a b s now h = byPairs-bounds a b s now h
+
+pub larger-bound-answers-alike : (a b : ℕ) (s : List ℕ) (now : Now) → a ≤ b → (relativeOf b s now ≡ relativeOf a s now) ⊎ (relativeOf a s now ≡ Refused Pairs)
+unfolding relativeOf
+larger-bound-answers-alike a b s now h = by-test (ascii s) (λ e. rw e (byName-bounds (namedOf s) a b s now h)) (λ e. inl (rw e))
+
+-- ---- joining
+-- what a whole text answers: its pairs from the current time
+known-or : (k a : Bool) → k ≡ true → (k || a) ≡ true
+known-or k a e = rw e
+
+answer-of-whole : (bound : ℕ) (s : List ℕ) (now : Now) → Whole s → length (pairsOf s) ≤ bound → relativeOf bound s now ≡ from now (pairsOf s)
+answer-of-whole bound s now w h = relativeOf-of-pairs bound s now (w .plain) (w .some) (known-or (known (pairsOf s)) (agoIn s) (w .told)) h
+
+-- the join is whole, and has the pairs of both
+joined-pairs : (a b : List ℕ) → Whole a → pairsOf (spaced a b) ≡ pairsOf a ++ pairsOf b
+unfolding wordsOf isAlphanumeric
+joined-pairs a b w = rw (words-append (separator Mark) a b 32 refl, pairsFrom-append Not (wordsOf a) (wordsOf b), w .ended)
+
+joined-whole : (a b : List ℕ) → Whole a → Whole b → Whole (spaced a b)
+unfolding ascii wordsOf isAlphanumeric
+joined-whole a b v w =
+    record {
+      plain = rw (ascii-append, v .plain) (w .plain);
+      some = rw (joined-pairs a b v) (omega (arith, length-append (pairsOf a) (pairsOf b), v .some));
+      told = rw (joined-pairs a b v, known-append, v .told) (w .told);
+      ended = rw (words-append (separator Mark) a b 32 refl, waitsFrom-append Not (wordsOf a) (wordsOf b), v .ended) (w .ended);
+    }
+
+-- pairs in a row: the later ones from where the earlier ones led, which is a current time in range
+abbrev onward : Answer → List Pair → Answer
+onward (Answered x) ps = from (At x) ps
+onward (Refused r) ps = Refused r
+
+steps-onward : (ps : List Pair) (x : Answer) → Good x → steps ps x ≡ onward x ps
+unfolding from
+steps-onward ps (Answered x) g = rw g
+steps-onward ps (Refused r) g = steps-refused ps r
+
+from-append : (x : Time) (ps qs : List Pair) → timeInRange x ≡ true → from (At x) (ps ++ qs) ≡ onward (from (At x) ps) qs
+unfolding from
+from-append x ps qs c = rw (c, steps-append ps qs (Answered x)) (steps-onward qs (steps ps (Answered x)) (steps-good ps (Answered x) c))
+
+module _ (bound : ℕ) (b : List ℕ) (w : Whole b) (h : length (pairsOf b) ≤ bound) where
+  onward-after : (r : Answer) → onward r (pairsOf b) ≡ after bound b r
+  onward-after (Answered x) = sym (answer-of-whole bound b (At x) w h)
+  onward-after (Refused r) = refl
+
+-- refused as out of range exactly if either step is
+after-refused : (bound : ℕ) (b : List ℕ) (r : Answer)
+    → (after bound b r ≡ Refused Range) ↔ ((r ≡ Refused Range) ⊎ ((y : Time) × (r ≡ Answered y) × (relativeOf bound b (At y) ≡ Refused Range)))
+after-refused bound b (Answered y) = (
+  (λ e. inr (y, refl, e)),
+  ⊎-elim (λ e. ap (after bound b) e) (λ p. ap (after bound b) (p .1) ∙ p .2),
+)
+after-refused bound b (Refused r) = ((λ e. inl e), ⊎-elim (λ e. e) (λ p. ap (after bound b) (p .1) ∙ p .2))
+
+module _ (bound : ℕ) (a b : List ℕ) (x : Time) (v : Whole a) (w : Whole b) (h : length (pairsOf a) + length (pairsOf b) ≤ bound) (c : timeInRange x ≡ true) where
+  -- joined by a space, two texts answer as the second read from the first's answer
+  pub relative-join : relativeOf bound (spaced a b) (At x) ≡ after bound b (relativeOf bound a (At x))
+  relative-join =
+      let k : length (pairsOf (spaced a b)) ≤ bound = rw (joined-pairs a b v) (omega (arith, length-append (pairsOf a) (pairsOf b))) in
+      answer-of-whole bound (spaced a b) (At x) (joined-whole a b v w) k ∙ ap (from (At x)) (joined-pairs a b v) ∙ from-append x (pairsOf a) (pairsOf b) c ∙ ap (λ (r : Answer). onward r (pairsOf b)) (sym (answer-of-whole bound a (At x) v (omega arith))) ∙ onward-after bound b w (omega arith) (relativeOf bound a (At x))
+
+  -- and are refused as out of range exactly if either step is
+  pub relative-join-refused : (relativeOf bound (spaced a b) (At x) ≡ Refused Range)
+      ↔ ((relativeOf bound a (At x) ≡ Refused Range) ⊎ ((y : Time) × (relativeOf bound a (At x) ≡ Answered y) × (relativeOf bound b (At y) ≡ Refused Range)))
+  relative-join-refused = rw relative-join (after-refused bound b (relativeOf bound a (At x)))

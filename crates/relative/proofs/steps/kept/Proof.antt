@@ -1,0 +1,25 @@
+-- `relative::steps::kept` meets its contract.
+-- Assumes nothing.
+use mathlib.Core.Path.{sym, _∙_}
+use Rattle.relative.specs.Steps.{landed}
+use Rattle.relative.proofs.Landing.{range-of-secondsInRange}
+use borrow.Author.Needs.{needs}
+use Rattle.relative.proofs.steps.kept.Statement.{statement}
+use Rattle.relative.proofs.steps.kept.Tie as tie
+
+in-range-requires : tie.Need-in-range-requires
+in-range-requires c κs = search needs
+
+returns : tie.Need-returns
+unfolding landed
+returns c = let e = sym (c .before .in-range .ensures) ∙ c .if1 .taken in
+    let r = range-of-secondsInRange _ e in
+    let p = c .before .before .pre in
+    (rw e, record { early = r .0; late = r .1; west = p .0; east = p .1 })
+
+returns-2 : tie.Need-returns-2
+unfolding landed
+returns-2 c = (rw (← c .before .in-range .ensures, c .if1 .left), tt)
+
+pub kept-spec : {M : Type 1} → statement M
+kept-spec = tie.close (tie.spec in-range-requires returns returns-2)

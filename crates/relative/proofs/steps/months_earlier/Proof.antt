@@ -1,0 +1,98 @@
+-- `relative::steps::months_earlier` meets its contract: where there is no such month, or the landing would be below 0, it is below
+-- the range.
+-- Assumes nothing.
+use mathlib.Core.Path.{_≡_, sym, _∙_}
+use Prim.Native.Nat.{_≤_, _<_, _+_, _-_, _*_}
+use native.Mathlib.Omega.{arith}
+use native.Mathlib.Nat.{div-lt-iff-lt-mul}
+use Rattle.calendar.specs.declared.Found.the-variants.{At}
+use Rattle.calendar.proofs.Dates.{lt-of-Below}
+use Rattle.relative.proofs.Landing.{mul-le-of-div, landed-of-month-lt, month-lt, Told, backOf-told, monthsEarlier-of-le, since1970-local, landed-local-lt}
+use borrow.Author.Needs.{needs}
+use Rattle.relative.proofs.steps.months_earlier.Statement.{statement}
+use Rattle.relative.proofs.steps.months_earlier.Tie as tie
+
+-- the landing on the local clock
+local : (c : tie.After-known-told) → let a = c .before .before .before .before .before .args in Told (a .i .seconds + a .i .offset - 93600) (a .n * a .k) (At (c .before .back .given .0 .0))
+local c = rw (c .before .back .given .1) at (backOf-told _ _ _ (c .before .before .before .months-back .ensures .0))
+
+local-lt : (c : tie.After-known-told) → let a = c .before .before .before .before .before .args in c .before .back .given .0 .0 < a .i .seconds + a .i .offset - 93600 + 1
+local-lt c = lt-of-Below (c .before .back .given .1) (c .before .before .before .months-back .ensures .1)
+
+div-if1 : tie.Need-div-if1
+div-if1 c = search needs
+
+-- more months than are counted
+returns : tie.Need-returns
+returns c = let a = c .before .args in
+    let h = div-lt-iff-lt-mul (c .before .pre .2) .0 (c .if1 .taken) in
+    (sym (landed-of-month-lt (a .i) (a .n * a .k) _ (c .before .pre .1) (month-lt (a .i) (a .n * a .k) (c .before .pre .1) h)), tt)
+
+add-months-back : tie.Need-add-months-back
+add-months-back c = search needs
+
+sub-months-back : tie.Need-sub-months-back
+sub-months-back c = search needs
+
+mul-months-back : tie.Need-mul-months-back
+mul-months-back c = omega (arith, mul-le-of-div 240000 _ _ (c .before .pre .2) (c .if1 .left))
+
+months-back-requires : tie.Need-months-back-requires
+months-back-requires c κs = search needs
+
+enum-known-back : tie.Need-enum-known-back
+enum-known-back c = search needs
+
+enum-told : tie.Need-enum-told
+enum-told c = search needs
+
+-- no such month
+returns-2 : tie.Need-returns-2
+returns-2 c = let at-start = c .before .before .before .before in
+    let a = at-start .args in
+    (sym (landed-of-month-lt (a .i) (a .n * a .k) _ (at-start .pre .1) (rw (c .enum-told .given .1) at (backOf-told _ _ _ (c .before .before .months-back .ensures .0)))), tt)
+
+add-if2 : tie.Need-add-if2
+add-if2 c = omega (arith, local-lt c, c .before .before .before .before .before .pre .1 .late, c .before .before .before .before .before .pre .1 .east)
+
+-- a landing below 0
+returns-3 : tie.Need-returns-3
+returns-3 c = let at-start = c .before .before .before .before .before .before in
+    let a = at-start .args in
+    let l = local (c .before) in
+    (rw (monthsEarlier-of-le (a .i) (a .n * a .k) (at-start .pre .1) (l .0), ← l .1) (sym (landed-local-lt _ _ _ (c .if2 .taken) (at-start .pre .1 .east))), tt)
+
+add-kept : tie.Need-add-kept
+add-kept c = omega (arith, local-lt (c .before), c .before .before .before .before .before .before .pre .1 .late, c .before .before .before .before .before .before .pre .1 .east)
+
+sub-kept : tie.Need-sub-kept
+sub-kept c = search needs
+
+kept-requires : tie.Need-kept-requires
+kept-requires c κs = search needs
+
+returns-4 : tie.Need-returns-4
+returns-4 c = let at-start = c .before .before .before .before .before .before .before in
+    let a = at-start .args in
+    let l = local (c .before .before) in
+    rw (monthsEarlier-of-le (a .i) (a .n * a .k) (at-start .pre .1) (l .0), ← l .1, ← since1970-local _ _ (c .before .if2 .left)) (c .kept .ensures)
+
+pub months-earlier-spec : {M : Type 1} → statement M
+months-earlier-spec =
+    tie.close
+    (tie.spec
+    div-if1
+    returns
+    add-months-back
+    sub-months-back
+    mul-months-back
+    months-back-requires
+    enum-known-back
+    enum-told
+    returns-2
+    add-if2
+    returns-3
+    add-kept
+    sub-kept
+    kept-requires
+    returns-4)

@@ -1,0 +1,35 @@
+-- `relative::words::count` meets its contract: what is digits is no name, so that trying digits first changes nothing.
+-- Assumes nothing.
+use mathlib.Core.Path.{sym, _∙_}
+use Rattle.relative.specs.Words.{countOf}
+use Rattle.relative.proofs.Counts.{spelled-of-digits}
+use borrow.Author.Needs.{needs}
+use Rattle.relative.proofs.words.count.Statement.{statement}
+use Rattle.relative.proofs.words.count.Tie as tie
+
+digits-requires : tie.Need-digits-requires
+digits-requires c κs = search needs
+
+enum-known-n : tie.Need-enum-known-n
+enum-known-n c = search needs
+
+enum-told : tie.Need-enum-told
+enum-told c = search needs
+
+spelled-requires : tie.Need-spelled-requires
+spelled-requires c κs = search needs
+
+-- no digits: a name, or no count
+returns : tie.Need-returns
+unfolding countOf
+returns c = rw (← c .before .before .before .digits .ensures, c .before .enum-told .given .1, c .spelled .ensures)
+
+-- digits
+returns-2 : tie.Need-returns-2
+unfolding countOf
+returns-2 c = let e = sym (c .before .before .before .digits .ensures) ∙ c .before .n .given .1 in
+    sym (spelled-of-digits _ _ _ _ e ∙ e)
+
+pub count-spec : {M : Type 1} → statement M
+count-spec =
+    tie.close (tie.spec digits-requires enum-known-n enum-told spelled-requires returns returns-2)

@@ -1,0 +1,38 @@
+-- Demand 3: what two relative texts have to be so that, joined by a space, they answer as the second read from the first's answer.
+-- Assumes nothing.
+use Prim.Native.Nat.{ℕ, _<_}
+use Prim.Native.Char.{code}
+use mathlib.Core.Path.{_≡_}
+use mathlib.Core.Bool.{true}
+use mathlib.Core.List.{List, [], _∷_, _++_}
+use lib.ListN.{length}
+use Rattle.text.specs.Bytes.{ascii}
+use Rattle.text.specs.declared.number.Number.{Number}
+use Rattle.text.specs.declared.number.Number.the-variants.{Not}
+use Rattle.time.specs.declared.Now.the-variants.{At}
+use Rattle.time.specs.declared.Answer.{Answer}
+use Rattle.time.specs.declared.Answer.the-variants.{Time, Refused}
+use Rattle.relative.specs.Words.{wordsOf}
+use Rattle.relative.specs.Pairs.{next, pairsOf, known}
+use Rattle.relative.specs.Relative.{relativeOf}
+
+-- the count that waits for its unit when the words end
+unfoldable pub waitsFrom : Number → List (List ℕ) → Number
+waitsFrom c [] = c
+waitsFrom c (w ∷ ws) = waitsFrom (next c w) ws
+
+-- ASCII, at least one pair, known units only, no count without a word after it
+pub record Whole (s : List ℕ) : Type 0 where
+  pub plain : ascii s ≡ true
+  pub some : 0 < length (pairsOf s)
+  pub told : known (pairsOf s) ≡ true
+  pub ended : waitsFrom Not (wordsOf s) ≡ Not
+
+-- a and b, a space between
+abbrev pub spaced : List ℕ → List ℕ → List ℕ
+spaced a b = a ++ code " " ∷ b
+
+-- the text b, read from an answer as the current time
+abbrev pub after : ℕ → List ℕ → Answer → Answer
+after bound b (Time x) = relativeOf bound b (At x)
+after bound b (Refused r) = Refused r

@@ -1,0 +1,57 @@
+-- Document 01, "Reading relative dates": pairs apply in order, each from a true date. A landing is a whole number of seconds since
+-- 1970, of any size and sign, and is tested as it stands: nothing here wraps, and nothing stops at 0. Days and months are those of
+-- the calendar: day 0 is 1 January of year -10000, of month 0; 1 January 1970 is day 4,371,953, and begins at second
+-- 377,736,739,200.
+-- Assumes nothing.
+use Prim.Native.Nat.{ℕ, _+_, _-_, _*_, _/_, _%_}
+use mathlib.Core.Bool.{cond}
+use mathlib.Core.List.{List, [], _∷_}
+use lib.IntN.{ℤ, pos, negsuc, natAbs, _+ℤ_, _-ℤ_, _*ℤ_}
+use Rattle.calendar.specs.Calendar.{firstDay, monthOf}
+use Rattle.time.specs.Answers.{timeAt}
+use Rattle.time.specs.Range.{secondsInRange}
+use Rattle.time.specs.declared.Time.{Time}
+use Rattle.time.specs.declared.Refusal.the-variants.{Range}
+use Rattle.time.specs.declared.Answer.{Answer}
+use Rattle.time.specs.declared.Answer.the-variants.{Time as At, Refused}
+use Rattle.relative.specs.declared.Unit.{Unit}
+use Rattle.relative.specs.declared.Unit.the-variants.{Seconds, Months, Unknown}
+use Rattle.relative.specs.declared.Pair.{Pair}
+
+-- the local clock of a time in range, in seconds from day 0
+abbrev pub localSeconds : Time → ℕ
+localSeconds x = natAbs (x .seconds +ℤ x .offset +ℤ pos 377736739200)
+
+-- the first day of a month, of those before month 0 too: 4,800 months have 146,097 days
+unfoldable pub monthStart : ℤ → ℤ
+monthStart (pos m) = pos (firstDay m)
+monthStart (negsuc m) = pos (firstDay (4799 - m % 4800)) -ℤ pos ((m / 4800 + 1) * 146097)
+
+-- the month count lowered by n, on the local clock: as many days after the first of that month as the day is after the first of
+-- its own, so that surplus days run into the next month; the clock is kept
+unfoldable pub monthsEarlier : Time → ℕ → ℤ
+monthsEarlier x n =
+    let t : ℕ = localSeconds x in
+    let d : ℕ = t / 86400 in
+    let m : ℕ = monthOf d in
+    (monthStart (pos m -ℤ pos n) +ℤ pos (d - firstDay m)) *ℤ pos 86400 +ℤ pos (t % 86400) -ℤ pos 377736739200 -ℤ x .offset
+
+-- seconds units subtract exactly; months lower the month count by the pair's count, years by twelve times it; an unknown unit
+-- counts as seconds
+unfoldable pub landing : Time → ℕ → Unit → ℤ
+landing x n (Seconds k) = x .seconds -ℤ pos (n * k)
+landing x n (Months k) = monthsEarlier x (n * k)
+landing x n Unknown = x .seconds -ℤ pos n
+
+-- refusal 6 exactly when an exact landing, on whole numbers, is out of range; the offset stays
+unfoldable pub landed : ℤ → ℤ → Answer
+landed z o = cond (secondsInRange z) (At (timeAt z o)) (Refused Range)
+
+unfoldable pub step : Pair → Answer → Answer
+step p (At x) = landed (landing x (p .count) (p .unit)) (x .offset)
+step p (Refused r) = Refused r
+
+-- in order, each from where the one before landed
+unfoldable pub steps : List Pair → Answer → Answer
+steps [] a = a
+steps (p ∷ ps) a = steps ps (step p a)

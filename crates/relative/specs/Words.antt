@@ -1,0 +1,51 @@
+-- Document 01, "Reading relative dates": words, and what one alone says: a count, a unit. A word is its bytes.
+-- Assumes nothing.
+use Prim.Native.Nat.{ℕ, _-_, _^_}
+use Prim.Native.Char.{code}
+use Prim.Native.String.{String}
+use mathlib.Core.Bool.{Bool, cond}
+use mathlib.Core.List.{List}
+use lib.Dec.{eqb}
+use lib.ListN.{length, getD, take}
+use Rattle.text.specs.Bytes.{lowerOf, sameLetters}
+use Rattle.text.specs.Quote.{bytes}
+use Rattle.text.specs.Words.{words, separator}
+use Rattle.text.specs.Number.{digitsOf, fit}
+use Rattle.text.specs.declared.words.Separator.the-variants.{Mark}
+use Rattle.text.specs.declared.number.Number.{Number}
+use Rattle.text.specs.declared.number.Number.the-variants.{Value}
+use Rattle.relative.specs.declared.Unit.{Unit}
+use Rattle.relative.specs.declared.Unit.the-variants.{Seconds, Months, Unknown}
+
+-- words are runs of ASCII letters and digits
+unfoldable pub wordsOf : List ℕ → List (List ℕ)
+wordsOf s = words (separator Mark) s
+
+-- all of them compared in any letter case
+abbrev pub is : List ℕ → String → Bool
+is w name = sameLetters w (bytes name)
+
+-- `one` to `ten`, or `last` (1)
+unfoldable pub spelled : List ℕ → Number → Number
+spelled w other =
+    cond (is w "one") (Value 1) (cond (is w "two") (Value 2) (cond (is w "three") (Value 3) (cond (is w "four") (Value 4)
+    (cond (is w "five") (Value 5) (cond (is w "six") (Value 6) (cond (is w "seven") (Value 7) (cond (is w "eight") (Value 8)
+    (cond (is w "nine") (Value 9) (cond (is w "ten") (Value 10) (cond (is w "last") (Value 1) other))))))))))
+
+-- a count is one of these, or digits that fit 64 signed bits
+unfoldable pub countOf : List ℕ → Number
+countOf w = spelled w (fit (2 ^ 63 - 1) (digitsOf w))
+
+-- a unit loses one final `s` or `S`
+unfoldable pub singular : List ℕ → List ℕ
+singular w = let n : ℕ = length w - 1 in cond (eqb (lowerOf (getD w n 0)) (code "s")) (take n w) w
+
+-- second, minute, hour, day, week, month, year: how many seconds one has, or how many months
+unfoldable pub unitNamed : List ℕ → Unit
+unitNamed w =
+    cond (is w "second") (Seconds 1) (cond (is w "minute") (Seconds 60) (cond (is w "hour") (Seconds 3600)
+    (cond (is w "day") (Seconds 86400) (cond (is w "week") (Seconds 604800)
+    (cond (is w "month") (Months 1) (cond (is w "year") (Months 12) Unknown))))))
+
+unfoldable pub unitOf : List ℕ → Unit
+unitOf w = unitNamed (singular w)

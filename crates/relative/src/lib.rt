@@ -1,0 +1,126 @@
+// Document 01, "Reading relative dates": `now`, `yesterday`, `2 weeks 1 day ago`, from a current time at a fixed offset.
+//
+// Every text has an answer: a time, or the refusal 1, 2, 5, 3, 4 or 6 that comes first. `parse` builds the month table only when it
+// comes to a month or a year, and then once; `parse_with` is lent it.
+mod pairs;
+mod steps;
+mod words;
+
+ghost use mathlib.Core.Path.{_≡_};
+ghost use mathlib.Core.List.{_∷_, []};
+ghost use Rattle.text.specs.declared.number.Number.the-variants.{Value};
+ghost use Rattle.calendar.specs.Table.{IsMonths};
+ghost use Rattle.relative.specs.Relative.{maxPairs, from, namedOf, byPairs, relativeOf};
+ghost use Rattle.relative.specs.declared.Unit.the-variants.{Seconds};
+use pairs::Told;
+use steps::Start;
+use text::number::Number;
+use time::Answer;
+use time::Now;
+use time::Refusal;
+
+// The most pairs that a text may have.
+pub const MAX_PAIRS: usize = 32;
+
+// How a unit is subtracted: so many seconds off the time, or so many months off the month count. An unknown one counts as
+// seconds, in a text that has the mark.
+pub enum Unit {
+    Seconds(u64),
+    Months(u64),
+    Unknown,
+}
+
+// A count and its unit.
+pub struct Pair {
+    pub count: u64,
+    pub unit: Unit,
+}
+
+pub fn parse(s: &[u8], current: Now) -> Answer
+    ensures { λ r. ⌜ r ≡ relativeOf maxPairs (now (s .entry)) current ⌝ }
+{
+    if text::bytes::is_ascii(s) {
+        let named = parse_named(s);
+        let Number::Value(k) = named else {
+            return parse_pairs(s, current);
+        };
+        return seconds_before(current, k);
+    }
+    Answer::Refused(Refusal::NotAscii)
+}
+
+pub fn parse_with(months: &[u32; 4800], s: &[u8], current: Now) -> Answer
+    requires { ⌜ IsMonths (now months) ⌝ }
+    ensures { λ r. ⌜ r ≡ relativeOf maxPairs (now (s .entry)) current ⌝ }
+{
+    if text::bytes::is_ascii(s) {
+        let named = parse_named(s);
+        let Number::Value(k) = named else {
+            return parse_pairs_with(months, s, current);
+        };
+        return seconds_before(current, k);
+    }
+    Answer::Refused(Refusal::NotAscii)
+}
+
+// `now`, `today` and `yesterday`, alone: how many seconds before the current time. Any other text is Not.
+fn parse_named(s: &[u8]) -> Number
+    ensures { λ r. ⌜ r ≡ namedOf (now (s .entry)) ⌝ }
+{
+    let t = text::trim::trimmed(s);
+    if text::bytes::same_ignoring_case(t, b"now") {
+        return Number::Value(0);
+    }
+    if text::bytes::same_ignoring_case(t, b"today") {
+        return Number::Value(0);
+    }
+    if text::bytes::same_ignoring_case(t, b"yesterday") {
+        return Number::Value(86400);
+    }
+    Number::Not
+}
+
+fn seconds_before(current: Now, k: u64) -> Answer
+    ensures { λ r. ⌜ r ≡ from current (record { count = k; unit = Seconds 1 } ∷ []) ⌝ }
+{
+    let start = steps::start_of(current);
+    let Start::From(i) = start else {
+        return Answer::Refused(steps::start_refusal(start));
+    };
+    steps::answer(steps::seconds_back(i, k, 1))
+}
+
+// Pairs go into two lent arrays, which are filled only here: a named text does without. Only a text with a count and its unit goes
+// on to the calendar.
+fn parse_pairs(s: &[u8], current: Now) -> Answer
+    ensures { λ r. ⌜ r ≡ byPairs maxPairs (now (s .entry)) current ⌝ }
+{
+    let mut counts = [0u64; MAX_PAIRS];
+    let mut units = [0u64; MAX_PAIRS];
+    let told = pairs::parse_ago(s, &mut counts, &mut units);
+    let Told::Pairs(n) = told else {
+        return Answer::Refused(pairs::told_refusal(told));
+    };
+    let start = steps::start_of(current);
+    let Start::From(i) = start else {
+        return Answer::Refused(steps::start_refusal(start));
+    };
+    steps::answer(steps::subtract_pairs(&counts, &units, n, i))
+}
+
+fn parse_pairs_with(months: &[u32; 4800], s: &[u8], current: Now) -> Answer
+    requires { ⌜ IsMonths (now months) ⌝ }
+    ensures { λ r. ⌜ r ≡ byPairs maxPairs (now (s .entry)) current ⌝ }
+{
+    let mut counts = [0u64; MAX_PAIRS];
+    let mut units = [0u64; MAX_PAIRS];
+    let told = pairs::parse_ago(s, &mut counts, &mut units);
+    let Told::Pairs(n) = told else {
+        return Answer::Refused(pairs::told_refusal(told));
+    };
+    let start = steps::start_of(current);
+    let Start::From(i) = start else {
+        return Answer::Refused(steps::start_refusal(start));
+    };
+    steps::answer(steps::subtract_pairs_with(months, &counts, &units, 0, n, i))
+}

@@ -1,0 +1,210 @@
+// Pairs applied in order, on times as numbers from 0 (`time::range`): no product or difference wraps, however large a count is.
+ghost use mathlib.Core.Path.{_≡_};
+ghost use Prim.Native.Nat.{_*_, _≤_};
+ghost use lib.IntN.{pos, _-ℤ_};
+ghost use lib.ListN.{length, take, drop};
+ghost use Rattle.calendar.specs.Table.{IsMonths};
+ghost use Rattle.time.specs.Range.{since1970, timeOf, InRange, MovedInRange};
+ghost use Rattle.time.specs.declared.Answer.the-variants.{Time as TimeAt};
+ghost use Rattle.relative.specs.Held.{unitAt, Sized, secondsIn, zipped, startOf, startRefusal, StartInRange, answerOf};
+ghost use Rattle.relative.specs.Relative.{maxPairs};
+ghost use Rattle.relative.specs.Steps.{monthsEarlier, landed, step, steps};
+use crate::MAX_PAIRS;
+use crate::Pair;
+use crate::Unit;
+use calendar::Found;
+use text::number::Number;
+use time::Answer;
+use time::Now;
+use time::Refusal;
+use time::range::Instant;
+use time::range::Moved;
+
+// Where the steps start, or the refusal of the current time.
+pub enum Start {
+    From(Instant),
+    No(Refusal),
+}
+
+pub fn start_of(current: Now) -> Start
+    ensures is { λ r. ⌜ r ≡ startOf current ⌝ }
+    ensures range { λ r. ⌜ StartInRange r ⌝ }
+{
+    let Now::At(x) = current else {
+        return Start::No(Refusal::Missing);
+    };
+    let moved = time::range::instant_of(x);
+    let Moved::In(i) = moved else {
+        return Start::No(Refusal::Current);
+    };
+    Start::From(i)
+}
+
+// The refusal; of a start that there is, none.
+pub fn start_refusal(s: Start) -> Refusal
+    ensures { λ r. ⌜ r ≡ startRefusal s ⌝ }
+{
+    match s {
+        Start::From(_) => Refusal::Form,
+        Start::No(r) => r,
+    }
+}
+
+// A landing as the reader's answer.
+pub fn answer(m: Moved) -> Answer
+    requires { ⌜ MovedInRange m ⌝ }
+    ensures { λ r. ⌜ r ≡ answerOf m ⌝ }
+{
+    match m {
+        Moved::In(i) => Answer::Time(time::range::time_of(i)),
+        Moved::Out => Answer::Refused(Refusal::Range),
+    }
+}
+
+// The first n pairs, each from where the one before landed. The table is built where the first month or year is met, and lent to
+// all that follow; second to week units do without.
+pub fn subtract_pairs(
+    counts: &[u64; MAX_PAIRS],
+    units: &[u64; MAX_PAIRS],
+    n: usize,
+    i: Instant,
+) -> Moved
+    requires { ⌜ (length (now counts) ≡ maxPairs) × (length (now units) ≡ maxPairs) ⌝ }
+    requires { ⌜ (n ≤ maxPairs) × InRange i ⌝ }
+    ensures is { λ r. ⌜ answerOf r ≡ steps (take n (zipped (now (counts .entry)) (now (units .entry)))) (TimeAt (timeOf i)) ⌝ }
+    ensures range { λ r. ⌜ MovedInRange r ⌝ }
+{
+    let mut at = i;
+    let mut k: usize = 0;
+    while k < n {
+        let size = seconds_in(unit_at(units[k]));
+        let Number::Value(size) = size else {
+            let months = calendar::months();
+            return subtract_pairs_with(&months, counts, units, k, n, at);
+        };
+        let moved = seconds_back(at, counts[k], size);
+        let Moved::In(landed) = moved else {
+            return Moved::Out;
+        };
+        at = landed;
+        k += 1;
+    }
+    Moved::In(at)
+}
+
+// The pairs from `first` up to n, by a table that is lent.
+pub fn subtract_pairs_with(
+    months: &[u32; 4800],
+    counts: &[u64; MAX_PAIRS],
+    units: &[u64; MAX_PAIRS],
+    first: usize,
+    n: usize,
+    i: Instant,
+) -> Moved
+    requires { ⌜ IsMonths (now months) × (length (now counts) ≡ maxPairs) × (length (now units) ≡ maxPairs) ⌝ }
+    requires { ⌜ (first ≤ n) × (n ≤ maxPairs) × InRange i ⌝ }
+    ensures is { λ r. ⌜ answerOf r ≡ steps (drop first (take n (zipped (now (counts .entry)) (now (units .entry))))) (TimeAt (timeOf i)) ⌝ }
+    ensures range { λ r. ⌜ MovedInRange r ⌝ }
+{
+    let mut at = i;
+    let mut k = first;
+    while k < n {
+        let unit = unit_at(units[k]);
+        let pair = Pair {
+            count: counts[k],
+            unit: unit,
+        };
+        let moved = subtract_pair(months, pair, at);
+        let Moved::In(landed) = moved else {
+            return Moved::Out;
+        };
+        at = landed;
+        k += 1;
+    }
+    Moved::In(at)
+}
+
+// The unit of a number, as `words` has it.
+fn unit_at(n: u64) -> Unit
+    ensures is { λ r. ⌜ r ≡ unitAt n ⌝ }
+    ensures size { λ r. ⌜ Sized r ⌝ }
+{
+    if n == 0 {
+        return Unit::Unknown;
+    }
+    if n <= 1000000 {
+        return Unit::Seconds(n);
+    }
+    Unit::Months(n - 1000000)
+}
+
+// The seconds of a unit; months have none. An unknown unit counts as seconds.
+fn seconds_in(u: Unit) -> Number
+    ensures { λ r. ⌜ r ≡ secondsIn u ⌝ }
+{
+    match u {
+        Unit::Seconds(size) => Number::Value(size),
+        Unit::Months(_) => Number::Not,
+        Unit::Unknown => Number::Value(1),
+    }
+}
+
+fn subtract_pair(months: &[u32; 4800], p: Pair, i: Instant) -> Moved
+    requires { ⌜ IsMonths (now months) × InRange i × Sized (p .unit) ⌝ }
+    ensures is { λ r. ⌜ answerOf r ≡ step p (TimeAt (timeOf i)) ⌝ }
+    ensures range { λ r. ⌜ MovedInRange r ⌝ }
+{
+    let n = p.count;
+    let unit = p.unit;
+    match unit {
+        Unit::Seconds(size) => seconds_back(i, n, size),
+        Unit::Months(size) => months_earlier(months, i, n, size),
+        Unit::Unknown => seconds_back(i, n, 1),
+    }
+}
+
+// n times k seconds earlier.
+pub fn seconds_back(i: Instant, n: u64, k: u64) -> Moved
+    requires { ⌜ InRange i × (1 ≤ k) ⌝ }
+    ensures is { λ r. ⌜ answerOf r ≡ landed (since1970 (i .seconds) -ℤ pos (n * k)) (timeOf i .offset) ⌝ }
+    ensures range { λ r. ⌜ MovedInRange r ⌝ }
+{
+    let t = i.seconds;
+    if t / k < n {
+        return Moved::Out;
+    }
+    kept(t - n * k, i.offset)
+}
+
+// n times k months earlier, on the local clock. Not the month's first day is tested, but the landing.
+fn months_earlier(months: &[u32; 4800], i: Instant, n: u64, k: u64) -> Moved
+    requires { ⌜ IsMonths (now months) × InRange i × (1 ≤ k) ⌝ }
+    ensures is { λ r. ⌜ answerOf r ≡ landed (monthsEarlier (timeOf i) (n * k)) (timeOf i .offset) ⌝ }
+    ensures range { λ r. ⌜ MovedInRange r ⌝ }
+{
+    let t = i.seconds;
+    let o = i.offset;
+    if 240000 / k < n {
+        return Moved::Out;
+    }
+    let back = calendar::months_back(months, t + o - 93600, n * k);
+    let Found::At(l) = back else {
+        return Moved::Out;
+    };
+    if l + 93600 < o {
+        return Moved::Out;
+    }
+    kept(l + 93600 - o, o)
+}
+
+// A landing, if it is in range.
+fn kept(seconds: u64, offset: u64) -> Moved
+    requires { ⌜ (1 ≤ offset) × (offset ≤ 187199) ⌝ }
+    ensures is { λ r. ⌜ answerOf r ≡ landed (since1970 seconds) (pos offset -ℤ pos 93600) ⌝ }
+    ensures range { λ r. ⌜ MovedInRange r ⌝ }
+{
+    if time::range::in_range(seconds) {
+        return Moved::In(Instant { seconds, offset });
+    }
+    Moved::Out
+}
