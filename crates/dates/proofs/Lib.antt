@@ -1,2 +1,3 @@
--- Laws. In order: "any" by the step that settles it.
+-- Laws. In order: "any" by the step that settles it; the examples marked P of document 01, together.
 pub mod Steps
+pub mod Examples
