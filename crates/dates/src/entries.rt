@@ -17,6 +17,8 @@ use time::Refusal;
 use time::Time;
 use time::Written;
 
+const SUCCESS: u8 = 0;
+
 #[no_mangle]
 pub extern "C" fn chowderbell_header(s: &[u8], seconds: &mut i64, offset: &mut i32) -> u8
     ensures number { λ r. ⌜ r ≡ answerNumber (headerOf (now (s .entry))) ⌝ }
@@ -139,7 +141,7 @@ fn hand_out(a: Answer, seconds: &mut i64, offset: &mut i32) -> u8
             let o = t.offset;
             *seconds = s;
             *offset = o;
-            0
+            SUCCESS
         }
         Answer::Refused(r) => {
             *seconds = 0;
@@ -157,7 +159,7 @@ fn hand_length(w: Written, length: &mut usize) -> u8
     match w {
         Written::Length(n) => {
             *length = n;
-            0
+            SUCCESS
         }
         Written::Refused(r) => {
             *length = 0;
