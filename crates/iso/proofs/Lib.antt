@@ -1,5 +1,6 @@
 -- Laws, and the document's words computed. In order: parts of a text; the cut; the time; the offset; the fields and the forms; the
--- instant; what a caller can say of the whole; examples.
+-- instant; digits, and the line that the ISO writer writes; what a caller can say of the whole; examples.
+-- Assumes nothing.
 pub mod Places
 pub mod Cuts
 pub mod Times
@@ -9,5 +10,6 @@ pub mod Instants
 pub mod Digits
 pub mod Lines
 pub mod Theorems
+pub mod Writings
 pub mod ReadBack
 pub mod Examples

@@ -2,15 +2,14 @@
 -- line's date and the instant of its clock.
 -- Assumes nothing.
 use mathlib.Core.Path.{_≡_, refl, sym, ap, _∙_}
-use mathlib.Core.Bool.{Bool, true, false, cond, _&&_, _||_}
-use mathlib.Core.List.{List, [], _∷_, _++_}
+use mathlib.Core.Bool.{true, false}
+use mathlib.Core.List.{List, [], _∷_}
 use Prim.Native.Nat.{ℕ, suc, _+_, _-_, _*_, _/_, _%_, _≤_, _<_}
 use native.Mathlib.Omega.{arith}
 use borrow.Author.Tests.{le-leb, lt-ltb}
-use lib.Dec.{eqb, leb, ltb}
-use lib.IntN.{ℤ, pos, negsuc, negℤ, natAbs, _+ℤ_, _-ℤ_, _*ℤ_}
-use lib.ListN.{length, getD, take, drop}
-use lib.Signed.{leZ}
+use lib.Dec.{eqb}
+use lib.IntN.{ℤ, pos, negsuc, negℤ, natAbs}
+use lib.ListN.{length, drop}
 use Rattle.text.specs.Bytes.{isDigit, isSpace, isSign}
 use Rattle.text.specs.Decimal.{twoBefore}
 use Rattle.text.specs.Number.{fit, unsignedOf}
@@ -25,9 +24,9 @@ use Rattle.calendar.specs.Dates.{exists, dayNumber}
 use Rattle.calendar.specs.declared.Found.the-variants.{At}
 use Rattle.time.specs.Header.{signByte, wholeMinutes}
 use Rattle.time.specs.Iso.{offsetBefore}
-use Rattle.iso.specs.Parts.{without, int32}
+use Rattle.iso.specs.Parts.{without}
 use Rattle.iso.specs.Cut.{endsWithZ, isSigned, isOffset, spaced, signPlace, cut, timeText, offsetText}
-use Rattle.iso.specs.Clock.{clock, colonTime, timeOf}
+use Rattle.iso.specs.Clock.{colonTime, timeOf}
 use Rattle.iso.specs.Offset.{upTo, secondsOf, hoursMinutes, turned, offsetOf}
 use Rattle.iso.proofs.Times.{clock-value}
 use Rattle.iso.proofs.Digits.{no-space, no-dot, no-colon, no-Z, isSign-of-digit, isSpace-of-digit, tens, ones, unsignedOf-two, int32-two, firstPlace-of-Free, lastPlace-of-Free, trim-of-ends}

@@ -34,6 +34,30 @@ unfolding firstPlace run
 getD-firstPlace b [] h = absurd (not-suc-le-zero h)
 getD-firstPlace b (x ∷ s) h = by-test (eqb x b) (λ e. rw e (eqb-true x b e)) (λ e. rw e (getD-firstPlace b s (omega (arith, rw e at h))))
 
+-- it is told by the first n bytes, if it stands among them
+firstPlace-of-take : (b n : ℕ) (s : List ℕ) → n ≤ length s → firstPlace b (take n s) < n → firstPlace b s ≡ firstPlace b (take n s)
+unfolding firstPlace run
+firstPlace-of-take b zero s k h = absurd (not-suc-le-zero h)
+firstPlace-of-take b (suc n) [] k h = absurd (not-suc-le-zero k)
+firstPlace-of-take b (suc n) (x ∷ s) k h = by-test (eqb x b) (λ e. rw e) (λ e. rw e (ap suc (firstPlace-of-take b n s (omega arith) (omega (arith, rw e at h)))))
+
+firstPlace-take : (b n : ℕ) (s : List ℕ) → firstPlace b s < n → firstPlace b (take n s) ≡ firstPlace b s
+unfolding firstPlace run
+firstPlace-take b zero s h = absurd (not-suc-le-zero h)
+firstPlace-take b (suc n) [] h = refl
+firstPlace-take b (suc n) (x ∷ s) h = by-test (eqb x b) (λ e. rw e) (λ e. rw e (ap suc (firstPlace-take b n s (omega (arith, rw e at h)))))
+
+module _ (b n k : ℕ) (s : List ℕ) (r : ℕ) (e : r ≡ firstPlace b (take n s)) (l : k < n) where
+  pub firstPlace-is : n ≤ length s → r ≡ k → firstPlace b s ≡ k
+  firstPlace-is h q =
+      let f : firstPlace b (take n s) < n = omega arith in
+      omega (arith, firstPlace-of-take b n s h f)
+
+  pub firstPlace-is-not : (r ≡ k → ⊥) → firstPlace b s ≡ k → ⊥
+  firstPlace-is-not h q =
+      let f : firstPlace b s < n = omega arith in
+      h (e ∙ firstPlace-take b n s f ∙ q)
+
 abbrev pub at : ℕ → ℕ → Bool
 at b x = eqb x b
 

@@ -1,92 +1,43 @@
--- What the ISO writer of `time` writes is read back. In order: what a line that was written tells of its time; the bytes of the line;
--- its fields; its day; its instant; `iso-read-back`.
+-- What the ISO writer of `time` writes is read back. In order: the bytes of the line; its fields; its instant; its day;
+-- `iso-read-back`.
 -- Assumes nothing.
 use mathlib.Core.Path.{_≡_, refl, sym, ap, _∙_, subst}
-use mathlib.Core.Bool.{Bool, true, false, cond, _&&_}
-use mathlib.Core.List.{List, [], _∷_, _++_}
-use Prim.Native.Nat.{ℕ, suc, _+_, _-_, _*_, _/_, _%_, _≤_, _<_}
+use mathlib.Core.Bool.{true, false}
+use mathlib.Core.List.{List, [], _∷_}
+use Prim.Native.Nat.{ℕ, _+_, _-_, _*_, _/_, _%_, _≤_, _<_}
 use native.Mathlib.Omega.{arith}
-use borrow.Author.Tests.{leb-true, leb-false, ltb-true}
-use lib.Dec.{leb, ltb, eqb}
+use lib.Dec.{eqb}
 use lib.IntN.{ℤ, pos, negsuc, negℤ, natAbs, _+ℤ_, _-ℤ_}
-use lib.ListN.{length, take, drop}
 use lib.Signed.{_≤ℤ_}
-use Rattle.ints.specs.Range.{In, isIn}
+use Rattle.ints.specs.Range.{In}
 use Rattle.ints.proofs.Parts.{add-parts, up-neg, dn-neg, parts-eq, eq-parts, le-parts, parts-le}
-use Rattle.ints.proofs.Machine.{In-of-isIn, isIn-of-In}
+use Rattle.ints.proofs.Machine.{In-of-isIn}
 use Rattle.text.specs.Bytes.{isSign, isSpace, ascii}
 use Rattle.text.specs.Decimal.{twoBefore}
 use Rattle.text.specs.Trim.{trim}
-use Rattle.text.proofs.Lists.{by-test, both}
 use Rattle.calendar.specs.Calendar.{IsDate}
 use Rattle.calendar.specs.Civil.{yearCount}
 use Rattle.calendar.specs.Dates.{dateOf, dayNumber}
-use Rattle.calendar.specs.declared.Date.{Date}
 use Rattle.calendar.specs.declared.Found.the-variants.{At}
 use Rattle.calendar.proofs.Dates.{IsDate-of-dateOf, IsDate-day-lt}
 use Rattle.time.specs.Answers.{timeAt}
 use Rattle.time.specs.Clock.{localOf, clockOf}
 use Rattle.time.specs.Header.{signByte, wholeMinutes}
-use Rattle.time.specs.Iso.{shownClock, yearOf, offsetBefore, isoBytes, shownOf, writtenAt, written, isoWritten}
+use Rattle.time.specs.Iso.{offsetBefore, isoBytes, isoWritten}
 use Rattle.time.specs.Range.{leastSeconds, mostSeconds, secondsInRange, since1970, instantOf}
 use Rattle.time.specs.declared.Time.{Time}
-use Rattle.time.specs.declared.Refusal.{Refusal}
-use Rattle.time.specs.declared.Refusal.the-variants.{Offset, Range}
 use Rattle.time.specs.declared.Answer.the-variants.{Time as Read}
-use Rattle.time.specs.declared.Written.{Written}
-use Rattle.time.specs.declared.Written.the-variants.{Length, Refused}
-use Rattle.time.specs.declared.clock.Clock.{Clock}
+use Rattle.time.specs.declared.Written.the-variants.{Length}
 use Rattle.time.specs.declared.range.Instant.{Instant}
-use Rattle.time.specs.declared.format.Shown.{Shown}
-use Rattle.time.specs.declared.format.Shown.the-variants.{At as Shows, Not as ShowsNot}
-use Rattle.time.proofs.Isos.{instant-of-shown, narrow-of-shown}
 use Rattle.time.proofs.Ranges.{pos-natAbs-add}
 use Rattle.iso.specs.Forms.{saidOf, fieldsOf, isSeparator, flexible}
-use Rattle.iso.specs.Iso.{dayOf, momentOf, zoned, isoOf}
+use Rattle.iso.specs.Iso.{dayOf, zoned, isoOf}
 use Rattle.iso.specs.declared.forms.Fields.the-variants.{Are}
 use Rattle.iso.proofs.Digits.{isSpace-of-digit, tens, ones, int32-two, int32-four, trim-of-ends, ascii-of-Narrow}
 use Rattle.iso.proofs.Lines.{timeOf-clockText, trim-tail, timeText-tail, offsetText-tail, offsetOf-line, dayNumber-of-IsDate}
 use Rattle.iso.proofs.Instants.{dayOf-value, momentOf-in}
 use Rattle.iso.proofs.Theorems.{iso-of-flexible}
-
--- ---- what a line that was written tells of its time
-pub record WasWritten (t : Time) : Type 0 where
-  pub narrow : natAbs (t .offset) < 86400
-  pub seconds : secondsInRange (t .seconds) ≡ true
-  pub year-low : 120000 ≤ shownClock t .date .month
-  pub year-high : shownClock t .date .month < 240000
-
-seconds-of-shown : (t : Time) (i : Instant) → shownOf t ≡ Shows i → secondsInRange (t .seconds) ≡ true
-unfolding shownOf
-seconds-of-shown t i e =
-    by-test (leb 86400 (natAbs (t .offset))) (λ y. absurd (clash Offset (sym (rw y at e))))
-    (λ n. by-test (secondsInRange (t .seconds)) (λ y. y) (λ m. absurd (clash Range (sym (rw (n, m) at e)))))
-  where
-    clash : (r : Refusal) → Shows i ≡ ShowsNot r → ⊥
-    clash r p = let z : _≡_ {A = ℕ} 0 1 = cc in omega arith
-
-year-of-written : (c : Clock) (room : List ℕ) (n : ℕ) → writtenAt c room ≡ Length n → (leb 10000 (yearOf c) && ltb (yearOf c) 20000) ≡ true
-year-of-written c room n e = by-test (leb 10000 (yearOf c) && ltb (yearOf c) 20000) (λ y. y) (λ m. absurd (clash (rw m at e)))
-  where
-    clash : Refused Range ≡ Length n → ⊥
-    clash p = let z : _≡_ {A = ℕ} 0 1 = cc in omega arith
-
-pub wasWritten : (t : Time) (room : List ℕ) (n : ℕ) → isoWritten t room ≡ Length n → WasWritten t
-unfolding isoWritten
-wasWritten t room n e = go (shownOf t) refl e
-  where
-    clash : (r : Refusal) → Refused r ≡ Length n → ⊥
-    clash r p = let z : _≡_ {A = ℕ} 0 1 = cc in omega arith
-
-    go : (x : Shown) → shownOf t ≡ x → written x room ≡ Length n → WasWritten t
-    go (ShowsNot r) p q = absurd (clash r q)
-    go (Shows i) p q =
-        let k : i ≡ instantOf t = instant-of-shown t i p in
-        let c : Clock = shownClock t in
-        let y = both (leb 10000 (yearOf c)) (ltb (yearOf c) 20000) (year-of-written c room n (rw k at q)) in
-        let l : 10000 ≤ yearOf c = leb-true 10000 (yearOf c) (y .0) in
-        let h : yearOf c < 20000 = ltb-true (yearOf c) 20000 (y .1) in
-        record { narrow = narrow-of-shown t i p; seconds = seconds-of-shown t i p; year-low = omega arith; year-high = omega arith }
+use Rattle.iso.proofs.Writings.{WasWritten, wasWritten}
 
 -- ---- the line of a date, a clock and an offset
 module _ (y mo d h m s : ℕ) (o : ℤ) (yl : y < 10000) (ml : mo < 100) (dl : d < 100) (hl : h ≤ 23) (nl : m ≤ 59) (sl : s ≤ 59) (ol : natAbs o < 86400) (whole : natAbs o % 60 ≡ 0) where
@@ -156,3 +107,126 @@ module _ (y mo d h m s : ℕ) (o : ℤ) (yl : y < 10000) (ml : mo < 100) (dl : d
         offsetText-tail h m s hl nl sl (signByte o) a c sign space other a< c<,
         offsetOf-line o ol whole,
       )
+
+  ascii-line : ascii line ≡ true
+  ascii-line =
+      ascii-of-Narrow line
+      (omega arith, (omega arith, (omega arith, (omega arith, (omega arith, (omega arith, (omega arith, (omega arith, (omega arith, (omega arith, (omega arith, (omega arith, (omega arith, (omega arith, (omega arith, (omega arith, (omega arith, (omega arith, (omega arith, (signByte-lt o, (omega (arith, a<), (omega arith, (omega arith, (omega (arith, c<), (omega arith, tt)))))))))))))))))))))))))
+
+-- ---- the clock's second, from its hour, minute and second
+clock-sum : (x : ℕ) → x / 3600 * 3600 + x / 60 % 60 * 60 + x % 60 ≡ x
+clock-sum x = omega arith
+
+-- ---- the instant: local seconds, less the offset
+local-back : (z o : ℤ) (n k : ℕ) → pos n ≡ z +ℤ pos 377736739200 → pos k ≡ o +ℤ pos 93600 → 93600 ≤ n → since1970 (n + k - 93600) -ℤ o ≡ z
+local-back z o n k p q h =
+    let l : ℕ = n + k - 93600 in
+    parts-eq _ _ (omega (
+      arith,
+      eq-parts p,
+      eq-parts q,
+      add-parts z (pos 377736739200),
+      add-parts o (pos 93600),
+      add-parts (pos l) (negℤ (pos 377736739200)),
+      add-parts (pos l -ℤ pos 377736739200) (negℤ o),
+      up-neg o,
+      dn-neg o,
+    ))
+
+module _ (t : Time) (w : WasWritten t) where
+  abbrev i : Instant
+  i = instantOf t
+
+  in-range : In leastSeconds mostSeconds (t .seconds)
+  unfolding secondsInRange
+  in-range = In-of-isIn leastSeconds mostSeconds (t .seconds) (w .seconds)
+
+  seconds-up : pos (i .seconds) ≡ t .seconds +ℤ pos 377736739200
+  seconds-up = pos-natAbs-add 377736739200 (t .seconds) (parts-le _ _ (omega (arith, le-parts (in-range .low))))
+
+  offset-low : (o : ℤ) → natAbs o < 86400 → negℤ (pos 93600) ≤ℤ o
+  offset-low (pos n) h = parts-le _ _ (omega arith)
+  offset-low (negsuc n) h = parts-le _ _ (omega arith)
+
+  offset-up : pos (i .offset) ≡ t .offset +ℤ pos 93600
+  offset-up = pos-natAbs-add 93600 (t .offset) (offset-low (t .offset) (w .narrow))
+
+  seconds-ge : 93600 ≤ i .seconds
+  seconds-ge = omega (arith, eq-parts seconds-up, add-parts (t .seconds) (pos 377736739200), le-parts (in-range .low))
+
+  pub instant-back : since1970 (localOf i) -ℤ t .offset ≡ t .seconds
+  instant-back = local-back (t .seconds) (t .offset) (i .seconds) (i .offset) seconds-up offset-up seconds-ge
+
+  -- the day that the line's date names
+  abbrev day : ℕ
+  day = localOf i / 86400
+
+  abbrev month : ℕ
+  month = dateOf day .month
+
+  is-date : IsDate day month (dateOf day .day)
+  is-date = IsDate-of-dateOf {x = dateOf day} refl
+
+  year-low : 120000 ≤ month
+  unfolding clockOf
+  year-low = w .year-low
+
+  year-high : month < 240000
+  unfolding clockOf
+  year-high = w .year-high
+
+  day-line : dayOf (pos (month / 12 - 10000)) (pos (month % 12 + 1)) (pos (dateOf day .day + 1)) ≡ At day
+  day-line =
+      let y : ℕ = month / 12 - 10000 in
+      let l = year-low in
+      let h = year-high in
+      let e : yearCount (pos y) ≡ month / 12 = omega arith in
+      let years : In (negsuc 9998) (pos 9999) (pos y) = record { low = record { le = tt }; high = parts-le _ _ (omega arith) } in
+      let from : (n : ℕ) → pos 0 ≤ℤ pos n = λ n. parts-le _ _ (omega arith) in
+      sym (dayOf-value (pos y) (pos (month % 12 + 1)) (pos (dateOf day .day + 1)) years (from _) (from _))
+      ∙ ap (λ (v : ℕ). dayNumber v (month % 12 + 1) (dateOf day .day + 1)) e
+      ∙ dayNumber-of-IsDate is-date year-high
+
+  module _ (whole : natAbs (t .offset) % 60 ≡ 0) where
+    abbrev second : ℕ
+    second = localOf i % 86400
+
+    flexible-line : flexible (isoBytes t) ≡ Are (record { year = pos (month / 12 - 10000); month = pos (month % 12 + 1); day = pos (dateOf day .day + 1); second = second / 3600 * 3600 + second / 60 % 60 * 60 + second % 60; offset = t .offset })
+    unfolding isoBytes clockOf
+    flexible-line =
+        let l = year-low in
+        let h = year-high in
+        let d = IsDate-day-lt is-date in
+        fields-line (month / 12 - 10000) (month % 12 + 1) (dateOf day .day + 1) (second / 3600) (second / 60 % 60) (second % 60) (t .offset) (omega arith) (omega arith) (omega arith) (omega arith) (omega arith) (omega arith) (w .narrow) whole
+
+    trim-iso : trim (isoBytes t) ≡ isoBytes t
+    unfolding isoBytes clockOf
+    trim-iso =
+        let l = year-low in
+        let h = year-high in
+        let d = IsDate-day-lt is-date in
+        trim-line (month / 12 - 10000) (month % 12 + 1) (dateOf day .day + 1) (second / 3600) (second / 60 % 60) (second % 60) (t .offset) (omega arith) (omega arith) (omega arith) (omega arith) (omega arith) (omega arith) (w .narrow) whole
+
+    ascii-iso : ascii (isoBytes t) ≡ true
+    unfolding isoBytes clockOf
+    ascii-iso =
+        let l = year-low in
+        let h = year-high in
+        let d = IsDate-day-lt is-date in
+        ascii-line (month / 12 - 10000) (month % 12 + 1) (dateOf day .day + 1) (second / 3600) (second / 60 % 60) (second % 60) (t .offset) (omega arith) (omega arith) (omega arith) (omega arith) (omega arith) (omega arith) (w .narrow) whole
+
+    zoned-line : zoned (flexible (isoBytes t)) ≡ Read t
+    unfolding zoned
+    zoned-line =
+        let n : day * 86400 + second ≡ localOf i = omega arith in
+        let e : since1970 (day * 86400 + second) -ℤ t .offset ≡ t .seconds = ap (λ (x : ℕ). since1970 x -ℤ t .offset) n ∙ instant-back in
+        let r : In leastSeconds mostSeconds (since1970 (day * 86400 + second) -ℤ t .offset) = subst (In leastSeconds mostSeconds) (sym e) in-range in
+        rw (flexible-line, clock-sum second, day-line) (sym (momentOf-in {f = At day} second (t .offset) refl r) ∙ (λ j. Read (timeAt (e j) (t .offset))))
+
+-- a time that the ISO writer writes, at an offset of whole minutes, is read back, by the flexible form
+pub iso-read-back : (t : Time) (room : List ℕ) (n : ℕ) → isoWritten t room ≡ Length n → natAbs (t .offset) % 60 ≡ 0
+    → (zoned (flexible (isoBytes t)) ≡ Read t) × (isoOf (isoBytes t) ≡ Read t)
+iso-read-back t room n e whole =
+    let w = wasWritten t room n e in
+    let z = zoned-line t w whole in
+    (z, iso-of-flexible (isoBytes t) (ascii-iso t w whole) (rw (trim-iso t w whole) z))

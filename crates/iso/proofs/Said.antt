@@ -25,7 +25,7 @@ use Rattle.iso.specs.Forms.{saidOf, fieldsOf, isSeparator, flexible, fir
 use Rattle.iso.specs.declared.forms.Local.{Local}
 use Rattle.iso.specs.declared.forms.Fields.{Fields}
 use Rattle.iso.specs.declared.forms.Fields.the-variants.{Are, Missing}
-use Rattle.iso.proofs.Places.{getD-of-length-le, getD-firstPlace}
+use Rattle.iso.proofs.Places.{getD-of-length-le, getD-firstPlace, firstPlace-is, firstPlace-is-not}
 
 -- ---- all five, or none
 module _ (y m d : Integer) (t : Number) (o : Integer) where
@@ -83,14 +83,14 @@ compact-short s h =
     let k : length s ≤ 8 = omega arith in
     by-test (eqb (firstPlace 84 s) 8) (λ e. rw (e, le-ltb 8 (length s) k)) (λ e. rw e)
 
-pub compact-no : (s : List ℕ) (r : ℕ) → r ≡ firstPlace 84 s → (r ≡ 8 → ⊥) → Missing ≡ compact s
+pub compact-no : (s : List ℕ) (r : ℕ) → r ≡ firstPlace 84 (take 9 s) → (r ≡ 8 → ⊥) → Missing ≡ compact s
 unfolding compact firstAt
-compact-no s r q h = rw (ne-eqb (firstPlace 84 s) 8 (λ e. h (q ∙ e)))
+compact-no s r q h = rw (ne-eqb (firstPlace 84 s) 8 (firstPlace-is-not 84 9 8 s r q (omega arith) h))
 
-pub compact-yes : (s : List ℕ) (r : ℕ) (a b : List ℕ) → r ≡ firstPlace 84 s → r ≡ 8 → 8 < length s → a ≡ two 4 s → b ≡ two 6 s
+pub compact-yes : (s : List ℕ) (r : ℕ) (a b : List ℕ) → r ≡ firstPlace 84 (take 9 s) → r ≡ 8 → 9 ≤ length s → a ≡ two 4 s → b ≡ two 6 s
     → fieldsOf (take 4 s) a b (take (length s - 9) (drop 9 s)) ≡ compact s
 unfolding compact firstAt
-compact-yes s r a b q e h p w = rw (p, w, take-length-sub-drop s 9, eq-eqb (firstPlace 84 s) 8 (sym q ∙ e), lt-ltb 8 (length s) h)
+compact-yes s r a b q e h p w = rw (p, w, take-length-sub-drop s 9, eq-eqb (firstPlace 84 s) 8 (firstPlace-is 84 9 8 s r q (omega arith) h e), lt-ltb 8 (length s) h)
 
 -- ---- flexible
 pub flexible-short : (s : List ℕ) → length s < 11 → Missing ≡ flexible s
@@ -127,9 +127,9 @@ dotted-short s h =
     let k : length s ≤ 10 = omega arith in
     by-test (eqb (firstPlace 32 s) 10) (λ e. rw (e, le-ltb 10 (length s) k)) (λ e. rw e)
 
-pub dotted-no : (s : List ℕ) (r : ℕ) → r ≡ firstPlace 32 s → (r ≡ 10 → ⊥) → Missing ≡ dotted s
+pub dotted-no : (s : List ℕ) (r : ℕ) → r ≡ firstPlace 32 (take 11 s) → (r ≡ 10 → ⊥) → Missing ≡ dotted s
 unfolding dotted isDotted firstAt
-dotted-no s r q h = rw (ne-eqb (firstPlace 32 s) 10 (λ e. h (q ∙ e)))
+dotted-no s r q h = rw (ne-eqb (firstPlace 32 s) 10 (firstPlace-is-not 32 11 10 s r q (omega arith) h))
 
 pub dotted-four : (s : List ℕ) → (getD s 4 0 ≡ 46 → ⊥) → Missing ≡ dotted s
 unfolding dotted isDotted
@@ -145,11 +145,11 @@ dashedFields s =
     fieldsOf (dashOf (getD s 0 0) ∷ dashOf (getD s 1 0) ∷ dashOf (getD s 2 0) ∷ dashOf (getD s 3 0) ∷ [])
     (dashOf (getD s 5 0) ∷ dashOf (getD s 6 0) ∷ []) (dashOf (getD s 8 0) ∷ dashOf (getD s 9 0) ∷ []) (drop 11 s)
 
-pub isDotted-yes : (s : List ℕ) (r : ℕ) → 11 ≤ length s → r ≡ firstPlace 32 s → r ≡ 10 → getD s 4 0 ≡ 46 → getD s 7 0 ≡ 46 → isDotted s ≡ true
+pub isDotted-yes : (s : List ℕ) (r : ℕ) → 11 ≤ length s → r ≡ firstPlace 32 (take 11 s) → r ≡ 10 → getD s 4 0 ≡ 46 → getD s 7 0 ≡ 46 → isDotted s ≡ true
 unfolding isDotted firstAt
 isDotted-yes s r h q e p w =
     let l : 10 < length s = h in
-    rw (eq-eqb (firstPlace 32 s) 10 (sym q ∙ e), lt-ltb 10 (length s) l, eq-eqb (getD s 4 0) 46 p, eq-eqb (getD s 7 0) 46 w)
+    rw (eq-eqb (firstPlace 32 s) 10 (firstPlace-is 32 11 10 s r q (omega arith) h e), lt-ltb 10 (length s) l, eq-eqb (getD s 4 0) 46 p, eq-eqb (getD s 7 0) 46 w)
 
 dotted-bytes : (s : List ℕ) → 11 ≤ length s → firstPlace 32 s ≡ 10 → getD s 4 0 ≡ 46 → getD s 7 0 ≡ 46 → dashedFields s ≡ flexible (dashes (take 10 s) ++ drop 10 s)
 unfolding dashes dashOf flexible isSeparator

@@ -1,27 +1,40 @@
--- What a caller can say of ISO dates. In order: `one-iso-form`, at most one of the three forms accepts a text; the answer is that of
--- the form that accepts (`iso-of-dotted`, `iso-of-compact`, `iso-of-flexible`); `dotted-is-flexible-with-dashes`.
+-- What a caller can say of ISO dates. In order: at most one of the three forms has its fields in a text (`one-form-has-fields`), so
+-- that at most one accepts it (`one-iso-form`); the answer is that of the form that accepts (`iso-of-dotted`, `iso-of-compact`,
+-- `iso-of-flexible`); `dotted-is-flexible-with-dashes`; the instant of a date is that of its day since 1970 (`instant-of-a-date`);
+-- no year of four bytes is lost (`year-of-four-bytes`). That a written line is read back: ReadBack.
 -- Assumes nothing.
-use mathlib.Core.Path.{_≡_, refl, sym, ap, _∙_}
+use mathlib.Core.Path.{_≡_, refl, sym, ap, _∙_, subst}
 use mathlib.Core.Bool.{Bool, true, false, cond, _&&_, false≢true, and-false}
 use mathlib.Core.List.{List, [], _∷_, _++_}
-use Prim.Native.Nat.{ℕ, _+_, _≤_, _<_}
+use Prim.Native.Nat.{ℕ, _+_, _-_, _*_, _^_, _≤_, _<_}
 use native.Mathlib.Omega.{arith}
 use borrow.Author.Tests.{eq-eqb, eqb-true, ltb-true, ltb-false}
 use lib.Dec.{eqb, ltb}
+use lib.IntN.{ℤ, pos, negsuc, negℤ, natAbs, _+ℤ_, _-ℤ_, _*ℤ_}
 use lib.ListN.{length, getD, take, drop}
+use Rattle.ints.specs.Range.{In}
+use Rattle.ints.proofs.Parts.{add-parts, up-mul, dn-mul, parts-eq, parts-le}
+use Rattle.ints.proofs.Machine.{isIn-of-In}
 use Rattle.text.specs.Bytes.{isDigit, ascii}
 use Rattle.text.specs.Number.{readFrom, digitsOf, unsignedOf, signedOf, fitSigned}
 use Rattle.text.specs.Places.{firstPlace}
 use Rattle.text.specs.Trim.{trim}
-use Rattle.text.specs.declared.number.Integer.the-variants.{NotOne}
+use Rattle.text.specs.declared.number.Integer.the-variants.{Is, NotOne}
 use Rattle.text.proofs.Lists.{by-test, both}
+use Rattle.text.proofs.Numbers.{Short, signedOf-short, fitSigned-of-length}
+use Rattle.calendar.specs.Calendar.{firstDay}
+use Rattle.calendar.specs.Civil.{Civil, IsCivil, monthCount, civilDay}
+use Rattle.calendar.specs.declared.Found.the-variants.{At as Found}
+use Rattle.calendar.proofs.Civil.{natAbs-sub-add}
+use Rattle.calendar.proofs.Theorems.{day-number-signed}
 use Rattle.time.specs.Answers.{answerNumber}
+use Rattle.time.specs.Range.{since1970}
 use Rattle.time.specs.declared.Time.{Time}
 use Rattle.time.specs.declared.Answer.{Answer}
 use Rattle.time.specs.declared.Answer.the-variants.{Time as At, Refused}
 use Rattle.iso.specs.Parts.{two, int32}
 use Rattle.iso.specs.Forms.{fieldsOf, isSeparator, flexible, firstAt, compact, dashes, isDotted, dotted, orElse, formOf}
-use Rattle.iso.specs.Iso.{zoned, isoOf}
+use Rattle.iso.specs.Iso.{dayOf, zoned, isoOf}
 use Rattle.iso.specs.declared.forms.Fields.{Fields}
 use Rattle.iso.specs.declared.forms.Fields.the-variants.{Are, Missing}
 use Rattle.iso.proofs.Places.{two-getD, getD-firstPlace}
@@ -87,6 +100,36 @@ module _ (s : List ℕ) {A : Type 0} where
   unfolding compact
   compact-or-flexible f g = by-test (firstAt 84 8 s) (λ e. g (flexible-of-T s e)) (λ e. f (rw e))
 
+-- of two tests that are not both true
+first-false : (x y : Bool) → x ≡ false → (x && y) ≡ false
+first-false x y e = rw e
+
+second-false : (x y : Bool) → y ≡ false → (x && y) ≡ false
+second-false x y e = rw e (and-false x)
+
+abbrev pub isThere : Fields → Bool
+isThere (Are f) = true
+isThere Missing = false
+
+there-missing : {f : Fields} → f ≡ Missing → isThere f ≡ false
+there-missing e = rw e
+
+-- no text has the fields of two of the three forms
+pub one-form-has-fields : (s : List ℕ)
+    → ((isThere (dotted s) && isThere (compact s)) ≡ false)
+    × (((isThere (dotted s) && isThere (flexible s)) ≡ false)
+    × ((isThere (compact s) && isThere (flexible s)) ≡ false))
+one-form-has-fields s =
+    let a = isThere (dotted s) in
+    let b = isThere (compact s) in
+    let d = isThere (flexible s) in (
+      dotted-or-compact s (λ e. first-false a b (there-missing e)) (λ e. second-false a b (there-missing e)),
+      (
+        dotted-or-flexible s (λ e. first-false a d (there-missing e)) (λ e. second-false a d (there-missing e)),
+        compact-or-flexible s (λ e. first-false b d (there-missing e)) (λ e. second-false b d (there-missing e)),
+      ),
+    )
+
 abbrev pub accepts : Answer → Bool
 accepts (At t) = true
 accepts (Refused r) = false
@@ -95,7 +138,7 @@ zoned-missing : {f : Fields} → f ≡ Missing → accepts (zoned f) ≡ false
 unfolding zoned
 zoned-missing e = rw e
 
--- no text is accepted by two of the three forms
+-- so no text is accepted by two of them
 pub one-iso-form : (s : List ℕ)
     → ((accepts (zoned (dotted s)) && accepts (zoned (compact s))) ≡ false)
     × (((accepts (zoned (dotted s)) && accepts (zoned (flexible s))) ≡ false)
@@ -104,18 +147,12 @@ one-iso-form s =
     let a = accepts (zoned (dotted s)) in
     let b = accepts (zoned (compact s)) in
     let d = accepts (zoned (flexible s)) in (
-      dotted-or-compact s (λ e. first a b (zoned-missing e)) (λ e. second a b (zoned-missing e)),
+      dotted-or-compact s (λ e. first-false a b (zoned-missing e)) (λ e. second-false a b (zoned-missing e)),
       (
-        dotted-or-flexible s (λ e. first a d (zoned-missing e)) (λ e. second a d (zoned-missing e)),
-        compact-or-flexible s (λ e. first b d (zoned-missing e)) (λ e. second b d (zoned-missing e)),
+        dotted-or-flexible s (λ e. first-false a d (zoned-missing e)) (λ e. second-false a d (zoned-missing e)),
+        compact-or-flexible s (λ e. first-false b d (zoned-missing e)) (λ e. second-false b d (zoned-missing e)),
       ),
     )
-  where
-    first : (x y : Bool) → x ≡ false → (x && y) ≡ false
-    first x y e = rw e
-
-    second : (x y : Bool) → y ≡ false → (x && y) ≡ false
-    second x y e = rw e (and-false x)
 
 -- ---- the form that accepts gives the answer
 not-missing : {f : Fields} {t : Time} → zoned f ≡ At t → f ≡ Missing → ⊥
@@ -151,3 +188,36 @@ module _ (s : List ℕ) (a : ascii s ≡ true) {t : Time} where
 pub dotted-is-flexible-with-dashes : (s : List ℕ) → isDotted s ≡ true → dotted s ≡ flexible (dashes (take 10 s) ++ drop 10 s)
 unfolding dotted
 dotted-is-flexible-with-dashes s e = rw e
+
+-- ---- a date of the years -9999 to 9999 exists here if it does in the calendar, and its instant is counted from its day since 1970
+pub day-of-a-date : (c : Civil) → IsCivil c → dayOf (c .year) (pos (c .month)) (pos (c .day)) ≡ Found (natAbs (civilDay c +ℤ pos 4371953))
+unfolding dayOf
+day-of-a-date c p = rw (isIn-of-In (p .years)) (day-number-signed c p)
+
+pub instant-of-a-date : (c : Civil) (s : ℕ) → IsCivil c → since1970 (natAbs (civilDay c +ℤ pos 4371953) * 86400 + s) ≡ civilDay c *ℤ pos 86400 +ℤ pos s
+unfolding civilDay
+instant-of-a-date c s p =
+    let d : ℕ = firstDay (monthCount c) + (c .day - 1) in
+    let z : ℤ = pos d -ℤ pos 4371953 in
+    let n : natAbs (z +ℤ pos 4371953) ≡ d = natAbs-sub-add d 4371953 in
+    rw n
+    (parts-eq _ _ (omega (
+      arith,
+      add-parts (pos (d * 86400 + s)) (negℤ (pos 377736739200)),
+      add-parts (pos d) (negℤ (pos 4371953)),
+      up-mul z 86400,
+      dn-mul z 86400,
+      add-parts (z *ℤ pos 86400) (pos s),
+    )))
+
+-- ---- a year of four bytes is one of those
+pub year-of-four-bytes : (s : List ℕ) {z : ℤ} → length s ≡ 4 → int32 s ≡ Is z → In (negsuc 9998) (pos 9999) z
+unfolding int32
+year-of-four-bytes s {z} l e =
+    let f : 10 ^ length s ≤ 2 ^ 31 = rw l (omega arith) in
+    let h : Short (10 ^ length s) (Is z) = subst (Short (10 ^ length s)) (sym (fitSigned-of-length (2 ^ 31) s f) ∙ e) (signedOf-short s) in
+    small z (rw l at h)
+  where
+    small : (x : ℤ) → natAbs x < 10000 → In (negsuc 9998) (pos 9999) x
+    small (pos n) k = record { low = record { le = tt }; high = parts-le _ _ (omega arith) }
+    small (negsuc n) k = record { low = parts-le _ _ (omega arith); high = record { le = tt } }

@@ -27,7 +27,7 @@ isOffset [] = false
 isOffset (b ∷ []) = false
 isOffset (b ∷ d ∷ s) = isSign b && isDigit d
 
--- the last space stands beyond place 5 and what follows, trimmed, opens with a sign
+-- the last space stands beyond place 5 and what follows, trimmed, opens with a sign; trimming drops the space itself too
 unfoldable pub spaced : List ℕ → Bool
 spaced s = ltb 5 (lastPlace (code " ") s) && isSigned (trim (drop (lastPlace (code " ") s) s))
 

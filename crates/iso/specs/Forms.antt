@@ -69,7 +69,7 @@ isDotted s = firstAt (code " ") 10 s && (eqb (getD s 4 0) (code ".") && eqb (get
 unfoldable pub dotted : List ℕ → Fields
 dotted s = cond (isDotted s) (flexible (dashes (take 10 s) ++ drop 10 s)) Missing
 
--- the first form whose fields are there. At most one of the three is: `one-iso-form`
+-- the first form whose fields are there; any order gives the same, since at most one has them: `one-form-has-fields`
 unfoldable pub orElse : Fields → Fields → Fields
 orElse (Are f) g = Are f
 orElse Missing g = g

@@ -1,4 +1,5 @@
-// The three forms of a trimmed text, and the fields that each reads, as numbers. The calendar is not asked here.
+// The three forms of a trimmed text, and the fields that each reads, as numbers. The calendar is not asked here, and a text of no
+// form is told by its first eleven bytes.
 ghost use mathlib.Core.Path.{_≡_};
 ghost use mathlib.Core.Bool.{true};
 ghost use Prim.Native.Nat.{_≤_};
@@ -53,7 +54,7 @@ fn parse_iso8601_dots(s: &[u8]) -> Fields
     if s.len() < 11 {
         return Fields::Missing;
     }
-    if places::first_place(s, 32) != 10 {
+    if places::first_place(&s[..11], 32) != 10 {
         return Fields::Missing;
     }
     if s[4] != 46 {
@@ -95,7 +96,7 @@ fn parse_compact_iso8601(s: &[u8]) -> Fields
     if s.len() < 9 {
         return Fields::Missing;
     }
-    if places::first_place(s, 84) != 8 {
+    if places::first_place(&s[..9], 84) != 8 {
         return Fields::Missing;
     }
     read_fields(&s[..4], parts::two(s, 4), parts::two(s, 6), &s[9..])

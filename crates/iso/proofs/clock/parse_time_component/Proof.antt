@@ -1,10 +1,6 @@
 -- `iso::clock::parse_time_component` meets its contract.
 -- Assumes nothing.
-use mathlib.Core.Path.{_≡_, sym, _∙_}
-use lib.Seq.{length-take-le}
-use Rattle.iso.proofs.Times.{timeOf-colon, timeOf-plain}
-use mathlib.Core.Path.{_≡_, sym, _∙_}
-use mathlib.Core.List.{_∷_}
+use mathlib.Core.Path.{sym, _∙_}
 use lib.Seq.{length-take-le}
 use Rattle.iso.proofs.Times.{timeOf-colon, timeOf-plain}
 use borrow.Author.Needs.{needs}
@@ -14,9 +10,14 @@ use Rattle.iso.proofs.clock.parse_time_component.Tie as tie
 slice-aggregate-colon-time : tie.Need-slice-aggregate-colon-time
 slice-aggregate-colon-time c = sym (length-take-le _ _ (c .before .before .first-place .ensures .1))
 
+-- with colons
 returns : tie.Need-returns
-returns c = (timeOf-colon _ _ (c .before .before .before .before .first-place .ensures .0) _ (c .before .before .before .if1 .taken) (c .colon-time .ensures .0), c .colon-time .ensures .1)
+returns c =
+    let at-if1 = c .before .before .before in
+    let at-first-place = at-if1 .before in
+    (timeOf-colon _ _ (at-first-place .first-place .ensures .0) _ (at-if1 .if1 .taken) (c .colon-time .ensures .0), c .colon-time .ensures .1)
 
+-- without
 returns-2 : tie.Need-returns-2
 returns-2 c = (c .plain-time .ensures .0 ∙ timeOf-plain _ _ (c .before .before .first-place .ensures .0) (c .before .if1 .left), c .plain-time .ensures .1)
 

@@ -9,7 +9,10 @@ returns : tie.Need-returns
 returns c = isOffset-short _ (c .if1 .taken)
 
 returns-2 : tie.Need-returns-2
-returns-2 c = rw (c .is-digit .ensures, c .before .before .is-sign .ensures) (isOffset-cons _ (c .before .before .before .before .if1 .left))
+returns-2 c =
+    let at-is-sign = c .before .before in
+    let at-if1 = at-is-sign .before .before in
+    rw (c .is-digit .ensures, at-is-sign .is-sign .ensures) (isOffset-cons _ (at-if1 .if1 .left))
 
 pub is-offset-spec : {M : Type 1} → statement M
 is-offset-spec =

@@ -11,17 +11,6 @@ use Rattle.text.specs.Places.{lastWhere}
 use Rattle.text.proofs.Lists.{drop-cons-add-one, take-length-sub-drop}
 use Rattle.text.proofs.Runs.{lastWhere-none, lastWhere-here, lastWhere-drop}
 use Rattle.iso.specs.Cut.{isOffset}
-use mathlib.Core.Path.{_≡_, _∙_, sym}
-use mathlib.Core.Bool.{true, false}
-use Prim.Native.Nat.{_+_, _-_, _≤_, _<_}
-use native.Mathlib.Nat.{le-refl}
-use native.Mathlib.Omega.{arith}
-use borrow.Author.Needs.{needs}
-use lib.ListN.{length, drop, drop-of-length-le, length-drop}
-use Rattle.text.specs.Places.{lastWhere}
-use Rattle.text.proofs.Lists.{drop-cons-add-one, take-length-sub-drop}
-use Rattle.text.proofs.Runs.{lastWhere-none, lastWhere-here, lastWhere-drop}
-use Rattle.iso.specs.Cut.{isOffset}
 use Rattle.iso.proofs.cut.last_sign.Statement.{statement}
 use Rattle.iso.proofs.cut.last_sign.Tie as tie
 
@@ -44,6 +33,7 @@ part-is-offset-start c = omega (arith, c .before .loop .inv .0)
 part-is-offset-end : tie.Need-part-is-offset-end Inv-loop μ-loop
 part-is-offset-end c = omega (arith, c .before .loop .inv .0)
 
+-- a sign with a digit after it at e: none stands behind it
 returns : tie.Need-returns Inv-loop μ-loop
 returns c = let at-loop = c .before .before .before .before in
     let s = at-loop .before .before .args .s .now in
@@ -58,6 +48,7 @@ returns c = let at-loop = c .before .before .before .before in
 loop-less : tie.Need-loop-less Inv-loop μ-loop
 loop-less c = omega arith
 
+-- none at e either
 loop-again : tie.Need-loop-again Inv-loop μ-loop
 loop-again c = let at-loop = c .before .before .before .before in
     let s = at-loop .before .before .args .s .now in
@@ -67,6 +58,7 @@ loop-again c = let at-loop = c .before .before .before .before in
     let p : isOffset (drop i s) ≡ false = sym (rw (take-length-sub-drop s i) at (c .before .is-offset .ensures)) ∙ c .if1 .left in
     (omega arith, rw (drop-cons-add-one s i l, n) (lastWhere-none _ _ _ (at-loop .loop .inv .1) (rw (drop-cons-add-one s i l, n) at p)))
 
+-- none at all
 returns-2 : tie.Need-returns-2 Inv-loop μ-loop
 returns-2 c = let e : c .before .loop .e ≡ 0 = omega arith in (sym (rw e at (c .before .loop .inv .1)), omega arith)
 

@@ -1,6 +1,6 @@
 -- `iso::forms::read_fields` meets its contract.
 -- Assumes nothing.
-use mathlib.Core.Path.{_≡_, sym, _∙_}
+use mathlib.Core.Path.{sym, _∙_}
 use lib.Seq.{length-take-le}
 use Rattle.iso.proofs.Said.{fieldsOf-parts}
 use borrow.Author.Needs.{needs}
@@ -11,11 +11,20 @@ slice-aggregate-before : tie.Need-slice-aggregate-before
 slice-aggregate-before c = sym (length-take-le _ _ (c .before .split-time-and-offset .ensures .1))
 
 returns : tie.Need-returns
-returns c = (
-  c .said .ensures .0
-      ∙ fieldsOf-parts _ _ _ _ _ _ _ _ _ _ _ _ _ _ (c .before .before .before .before .before .before .before .before .before .before .before .before .trimmed .ensures) (c .before .before .before .before .before .before .before .before .before .before .before .split-time-and-offset .ensures .0) (c .before .before .before .before .before .before .before .before .before .before2 .ensures) (c .before .before .before .before .before .before .before .before .trimmed2 .ensures) (c .before .before .before .before .before .before .before .parse-time-component .ensures .0) (c .before .before .before .before .before .trimmed3 .ensures) (c .before .before .before .before .parse-flexible-offset .ensures .0) (c .before .before .before .signed-number .ensures) (c .before .before .signed-number2 .ensures) (c .before .signed-number3 .ensures),
-  c .said .ensures .1,
-)
+returns c =
+    let at-signed-number2 = c .before .before in
+    let at-signed-number = at-signed-number2 .before in
+    let at-parse-flexible-offset = at-signed-number .before in
+    let at-trimmed3 = at-parse-flexible-offset .before in
+    let at-parse-time-component = at-trimmed3 .before .before in
+    let at-trimmed2 = at-parse-time-component .before in
+    let at-before2 = at-trimmed2 .before in
+    let at-split-time-and-offset = at-before2 .before .before in
+    let at-trimmed = at-split-time-and-offset .before in (
+      c .said .ensures .0
+          ∙ fieldsOf-parts _ _ _ _ _ _ _ _ _ _ _ _ _ _ (at-trimmed .trimmed .ensures) (at-split-time-and-offset .split-time-and-offset .ensures .0) (at-before2 .before2 .ensures) (at-trimmed2 .trimmed2 .ensures) (at-parse-time-component .parse-time-component .ensures .0) (at-trimmed3 .trimmed3 .ensures) (at-parse-flexible-offset .parse-flexible-offset .ensures .0) (at-signed-number .signed-number .ensures) (at-signed-number2 .signed-number2 .ensures) (c .before .signed-number3 .ensures),
+      c .said .ensures .1,
+    )
 
 pub read-fields-spec : {M : Type 1} → statement M
 read-fields-spec =

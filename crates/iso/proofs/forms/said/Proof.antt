@@ -1,13 +1,6 @@
 -- `iso::forms::said` meets its contract.
 -- Assumes nothing.
-use mathlib.Core.Path.{_≡_, _∙_, subst}
-use mir.Syntax.{w64}
-use Rattle.ints.proofs.Machine.{known, back}
-use Rattle.text.specs.Number.{AtMost}
-use Rattle.iso.specs.declared.forms.Fields.the-variants.{Are}
-use Rattle.iso.proofs.Offsets.{In-of-At, In-of-Within}
-use Rattle.iso.proofs.Said.{saidOf-not-year, saidOf-not-month, saidOf-not-day, saidOf-not-time, saidOf-not-offset, saidOf-value}
-use mathlib.Core.Path.{_≡_, _∙_, subst}
+use mathlib.Core.Path.{_∙_, subst}
 use mir.Syntax.{w64}
 use Rattle.ints.proofs.Machine.{known, back}
 use Rattle.text.specs.Number.{AtMost}
@@ -18,28 +11,57 @@ use borrow.Author.Needs.{needs}
 use Rattle.iso.proofs.forms.said.Statement.{statement}
 use Rattle.iso.proofs.forms.said.Tie as tie
 
+-- no year
 returns : tie.Need-returns
 returns c = (saidOf-not-year _ _ _ _ _ (c .enum-told .given .1), tt)
 
+-- no month
 returns-2 : tie.Need-returns-2
-returns-2 c = (saidOf-not-month _ _ _ _ _ (c .before .before .before .y .given .1) (c .enum-told2 .given .1), tt)
+returns-2 c =
+    let at-y = c .before .before .before in
+    (saidOf-not-month _ _ _ _ _ (at-y .y .given .1) (c .enum-told2 .given .1), tt)
 
+-- no day
 returns-3 : tie.Need-returns-3
-returns-3 c = (saidOf-not-day _ _ _ _ _ (c .before .before .before .before .before .before .y .given .1) (c .before .before .before .m .given .1) (c .enum-told3 .given .1), tt)
+returns-3 c =
+    let at-m = c .before .before .before in
+    let at-y = at-m .before .before .before in
+    (saidOf-not-day _ _ _ _ _ (at-y .y .given .1) (at-m .m .given .1) (c .enum-told3 .given .1), tt)
 
+-- no time
 returns-4 : tie.Need-returns-4
-returns-4 c = (saidOf-not-time _ _ _ _ _ (c .before .before .before .before .before .before .before .before .before .y .given .1) (c .before .before .before .before .before .before .m .given .1) (c .before .before .before .d .given .1) (c .enum-told4 .given .1), tt)
+returns-4 c =
+    let at-d = c .before .before .before in
+    let at-m = at-d .before .before .before in
+    let at-y = at-m .before .before .before in
+    (saidOf-not-time _ _ _ _ _ (at-y .y .given .1) (at-m .m .given .1) (at-d .d .given .1) (c .enum-told4 .given .1), tt)
 
+-- no offset
 returns-5 : tie.Need-returns-5
-returns-5 c = (saidOf-not-offset _ _ _ _ _ (c .before .before .before .before .before .before .before .before .before .before .before .before .y .given .1) (c .before .before .before .before .before .before .before .before .before .m .given .1) (c .before .before .before .before .before .before .d .given .1) (c .before .before .before .t .given .1) (c .enum-told5 .given .1), tt)
+returns-5 c =
+    let at-t = c .before .before .before in
+    let at-d = at-t .before .before .before in
+    let at-m = at-d .before .before .before in
+    let at-y = at-m .before .before .before in
+    (saidOf-not-offset _ _ _ _ _ (at-y .y .given .1) (at-m .m .given .1) (at-d .d .given .1) (at-t .t .given .1) (c .enum-told5 .given .1), tt)
 
+-- all five
 returns-6 : tie.Need-returns-6
-returns-6 c = let y = back w64 _ (c .before .before .before .before .before .before .before .before .before .before .before .before .known-told .given .0 .1) in
-    let m = back w64 _ (c .before .before .before .before .before .before .before .before .before .known-told2 .given .0 .1) in
-    let d = back w64 _ (c .before .before .before .before .before .before .known-told3 .given .0 .1) in
-    let o = known w64 tt (In-of-Within {k = 362340} (c .before .o .given .1) (c .before .before .before .before .before .before .before .before .before .before .before .before .before .before .before .pre .1)) in (
-      (λ i. Are (record { year = y i; month = m i; day = d i; second = c .before .before .before .before .t .given .0 .0; offset = o .is i })) ∙ saidOf-value _ _ _ _ _ (c .before .before .before .before .before .before .before .before .before .before .before .before .before .y .given .1) (c .before .before .before .before .before .before .before .before .before .before .m .given .1) (c .before .before .before .before .before .before .before .d .given .1) (c .before .before .before .before .t .given .1) (c .before .o .given .1),
-      (subst (AtMost 86399) (c .before .before .before .before .t .given .1) (c .before .before .before .before .before .before .before .before .before .before .before .before .before .before .before .pre .0), In-of-At o),
+returns-6 c =
+    let at-t = c .before .before .before .before in
+    let at-known-told3 = at-t .before .before in
+    let at-d = at-known-told3 .before in
+    let at-known-told2 = at-d .before .before in
+    let at-m = at-known-told2 .before in
+    let at-known-told = at-m .before .before in
+    let at-y = at-known-told .before in
+    let at-start = at-y .before .before in
+    let y = back w64 _ (at-known-told .known-told .given .0 .1) in
+    let m = back w64 _ (at-known-told2 .known-told2 .given .0 .1) in
+    let d = back w64 _ (at-known-told3 .known-told3 .given .0 .1) in
+    let o = known w64 tt (In-of-Within {k = 362340} (c .before .o .given .1) (at-start .pre .1)) in (
+      (λ i. Are (record { year = y i; month = m i; day = d i; second = at-t .t .given .0 .0; offset = o .is i })) ∙ saidOf-value _ _ _ _ _ (at-y .y .given .1) (at-m .m .given .1) (at-d .d .given .1) (at-t .t .given .1) (c .before .o .given .1),
+      (subst (AtMost 86399) (at-t .t .given .1) (at-start .pre .0), In-of-At o),
     )
 
 pub said-spec : {M : Type 1} → statement M

@@ -21,15 +21,26 @@ abbrev μ-loop : tie.MeasureT-loop
 loop-holds : tie.Need-loop-holds Inv-loop μ-loop
 loop-holds c = refl
 
+-- a colon at i is passed over
 loop-again : tie.Need-loop-again Inv-loop μ-loop
-loop-again c = kept-skip 58 _ _ (c .before .before .loop-test .taken) _ (c .before .before .before .loop .inv) (eq-eqb _ _ (c .if1 .taken))
+loop-again c =
+    let at-loop-test = c .before .before in
+    let at-loop = at-loop-test .before in
+    kept-skip 58 _ _ (at-loop-test .loop-test .taken) _ (at-loop .loop .inv) (eq-eqb _ _ (c .if1 .taken))
 
+-- the byte asked for
 returns : tie.Need-returns Inv-loop μ-loop
-returns c = kept-here 58 _ _ (c .before .before .before .before .loop-test .taken) _ (c .before .before .before .before .before .loop .inv) (ne-eqb _ _ (c .before .before .if1 .left)) (c .before .if2 .taken)
+returns c =
+    let at-if1 = c .before .before in
+    let at-loop-test = at-if1 .before .before in
+    let at-loop = at-loop-test .before in
+    kept-here 58 _ _ (at-loop-test .loop-test .taken) _ (at-loop .loop .inv) (ne-eqb _ _ (at-if1 .if1 .left)) (c .before .if2 .taken)
 
+-- another byte
 loop-again-2 : tie.Need-loop-again-2 Inv-loop μ-loop
 loop-again-2 c = kept-on 58 _ _ (c .before .before .before .loop-test .taken) _ (c .before .before .before .before .loop .inv) (ne-eqb _ _ (c .before .if1 .left)) (omega arith)
 
+-- there are fewer bytes
 returns-2 : tie.Need-returns-2 Inv-loop μ-loop
 returns-2 c = kept-end 58 _ _ _ (c .loop-test .left) (c .before .loop .inv)
 

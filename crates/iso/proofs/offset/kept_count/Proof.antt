@@ -21,12 +21,15 @@ abbrev μ-loop : tie.MeasureT-loop
 loop-holds : tie.Need-loop-holds Inv-loop μ-loop
 loop-holds c = (search needs, omega arith)
 
+-- a colon at i is not counted
 loop-again : tie.Need-loop-again Inv-loop μ-loop
 loop-again c = (search needs, count-skip 58 _ _ (c .before .before .loop-test .taken) _ (c .before .before .before .loop .inv .1) (eq-eqb _ _ (c .if1 .taken)))
 
+-- any other byte is
 loop-again-2 : tie.Need-loop-again-2 Inv-loop μ-loop
 loop-again-2 c = (search needs, count-on 58 _ _ (c .before .before .loop-test .taken) _ (c .before .before .before .loop .inv .1) (ne-eqb _ _ (c .if1 .left)))
 
+-- the end
 returns : tie.Need-returns Inv-loop μ-loop
 returns c = count-end 58 _ _ _ (c .loop-test .left) (c .before .loop .inv .1)
 

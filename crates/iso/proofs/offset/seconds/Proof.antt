@@ -1,14 +1,7 @@
 -- `iso::offset::seconds` meets its contract: no sum of a field's hours and minutes overflows.
 -- Assumes nothing.
-use mathlib.Core.Path.{_≡_, ap, _∙_}
-use lib.IntN.{pos, negsuc, _+ℤ_, _*ℤ_}
-use mir.Syntax.{w64}
-use mir.Val.{toZ, ofZ}
-use Rattle.ints.proofs.Machine.{At, known, times, add, read, fits}
-use Rattle.text.specs.declared.number.Integer.the-variants.{Is}
-use Rattle.iso.proofs.Offsets.{In-of-At, In-of-Within, secondsOf-not-hours, secondsOf-not-minutes, secondsOf-value}
-use mathlib.Core.Path.{_≡_, ap, _∙_}
-use lib.IntN.{pos, negsuc, _+ℤ_, _*ℤ_}
+use mathlib.Core.Path.{ap, _∙_}
+use lib.IntN.{pos, negsuc}
 use mir.Syntax.{w64}
 use mir.Val.{toZ, ofZ}
 use Rattle.ints.proofs.Machine.{At, known, times, add, read, fits}
@@ -19,16 +12,25 @@ use Rattle.iso.proofs.offset.seconds.Statement.{statement}
 use Rattle.iso.proofs.offset.seconds.Tie as tie
 
 hours : (c : tie.After-known-told2) → At (negsuc 98) (pos 99) (c .before .before .before .before .h .given .0 .0) (toZ w64 (ofZ w64 (c .before .before .before .before .h .given .0 .0)))
-hours c = known w64 tt (In-of-Within {k = 99} (c .before .before .before .before .h .given .1) (c .before .before .before .before .before .before .pre .0))
+hours c =
+    let at-h = c .before .before .before .before in
+    let at-start = at-h .before .before in
+    known w64 tt (In-of-Within {k = 99} (at-h .h .given .1) (at-start .pre .0))
 
 minutes : (c : tie.After-known-told2) → At (negsuc 98) (pos 99) (c .before .m .given .0 .0) (toZ w64 (ofZ w64 (c .before .m .given .0 .0)))
-minutes c = known w64 tt (In-of-Within {k = 99} (c .before .m .given .1) (c .before .before .before .before .before .before .pre .1))
+minutes c =
+    let at-start = c .before .before .before .before .before .before in
+    known w64 tt (In-of-Within {k = 99} (c .before .m .given .1) (at-start .pre .1))
 
+-- no hours
 returns : tie.Need-returns
 returns c = (secondsOf-not-hours _ (c .enum-told .given .1), tt)
 
+-- no minutes
 returns-2 : tie.Need-returns-2
-returns-2 c = (secondsOf-not-minutes (c .before .before .before .h .given .1) (c .enum-told2 .given .1), tt)
+returns-2 c =
+    let at-h = c .before .before .before in
+    (secondsOf-not-minutes (at-h .h .given .1) (c .enum-told2 .given .1), tt)
 
 mul-t5 : tie.Need-mul-t5
 mul-t5 c = fits w64 tt (times 3600 (hours c))
@@ -39,9 +41,12 @@ mul-t6 c = fits w64 tt (times 60 (minutes c))
 add-t7 : tie.Need-add-t7
 add-t7 c = fits w64 tt (add (read w64 tt (times 3600 (hours c))) (read w64 tt (times 60 (minutes c))))
 
+-- both
 returns-3 : tie.Need-returns-3
-returns-3 c = let z = read w64 tt (add (read w64 tt (times 3600 (hours c))) (read w64 tt (times 60 (minutes c)))) in
-    (ap Is (z .is) ∙ secondsOf-value (c .before .before .before .before .h .given .1) (c .before .m .given .1), In-of-At z)
+returns-3 c =
+    let at-h = c .before .before .before .before in
+    let z = read w64 tt (add (read w64 tt (times 3600 (hours c))) (read w64 tt (times 60 (minutes c)))) in
+    (ap Is (z .is) ∙ secondsOf-value (at-h .h .given .1) (c .before .m .given .1), In-of-At z)
 
 pub seconds-spec : {M : Type 1} → statement M
 seconds-spec =

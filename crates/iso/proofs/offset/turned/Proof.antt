@@ -1,6 +1,6 @@
 -- `iso::offset::turned` meets its contract.
 -- Assumes nothing.
-use mathlib.Core.Path.{_≡_, ap, _∙_}
+use mathlib.Core.Path.{ap, _∙_}
 use lib.IntN.{pos, negsuc, negℤ, _-ℤ_}
 use mir.Syntax.{w64}
 use mir.Val.{toZ, ofZ}
@@ -12,7 +12,9 @@ use Rattle.iso.proofs.offset.turned.Statement.{statement}
 use Rattle.iso.proofs.offset.turned.Tie as tie
 
 turned-at : (c : tie.After-known-told) → At (negsuc 362339) (pos 362340) (negℤ (c .before .o .given .0 .0)) (pos 0 -ℤ toZ w64 (ofZ w64 (c .before .o .given .0 .0)))
-turned-at c = negated (known w64 tt (In-of-Within {k = 362340} (c .before .o .given .1) (c .before .before .before .pre)))
+turned-at c =
+    let at-start = c .before .before .before in
+    negated (known w64 tt (In-of-Within {k = 362340} (c .before .o .given .1) (at-start .pre)))
 
 returns : tie.Need-returns
 returns c = (turned-not (c .enum-told .given .1), tt)
