@@ -1,15 +1,14 @@
 -- What is digits is no name: none of `one` to `ten` and `last` opens with a digit. So it is the same whether digits or names are
 -- tried first.
 -- Assumes nothing.
-use mathlib.Core.Path.{_≡_, refl, sym, ap, _∙_}
-use mathlib.Core.Bool.{Bool, true, false, cond, _&&_}
+use mathlib.Core.Path.{_≡_}
+use mathlib.Core.Bool.{true, false}
 use mathlib.Core.List.{List, [], _∷_}
 use Prim.Native.Nat.{ℕ, _≤_, _<_}
 use Prim.Native.Char.{code}
 use native.Mathlib.Omega.{arith}
-use borrow.Author.Tests.{le-leb, lt-leb, ne-eqb}
-use lib.Dec.{leb, eqb}
-use lib.ListN.{length}
+use borrow.Author.Tests.{lt-leb, ne-eqb}
+use lib.Dec.{leb}
 use Rattle.text.specs.Bytes.{isDigit, lowerOf, sameLetters}
 use Rattle.text.specs.Quote.{bytes}
 use Rattle.text.specs.Number.{digitsOf, readFrom, fit}
@@ -21,7 +20,7 @@ use Rattle.relative.specs.Words.{spelled}
 
 -- a text that opens with a digit is not one that opens with a letter
 module _ (b : ℕ) (w : List ℕ) (d : isDigit b ≡ true) where
-  lowerOf-digit : lowerOf b ≡ b
+  pub lowerOf-digit : lowerOf b ≡ b
   unfolding lowerOf
   lowerOf-digit = let h : b < 65 = omega (arith, digit-range b d) in rw (lt-leb 65 b h)
 

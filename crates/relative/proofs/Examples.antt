@@ -1,10 +1,11 @@
--- Document 01's examples of relative dates, and the open points settled, computed by the definitions: a table and one statement for
--- each. N is 1622462400, noon of 31 May 2021 at offset 0. Last, texts of many pairs.
+-- Document 01's examples of relative dates, and the open points settled, computed by the definitions: a table and one statement
+-- for each. N is 1622462400, noon of 31 May 2021 at offset 0. Last, texts of many pairs.
 -- Assumes nothing.
 use Prim.Native.Nat.{ℕ, zero, suc}
 use Prim.Native.String.{String}
 use mathlib.Core.Path.{_≡_, refl}
 use mathlib.Core.List.{List, [], _∷_, _++_}
+use native.Mathlib.Omega.{arith}
 use lib.IntN.{ℤ, pos, negsuc}
 use Rattle.text.specs.Bytes.{isSpace, isDigit, isAlphanumeric, lowerOf, ascii, sameLetters}
 use Rattle.text.specs.Trim.{trim, trimEnd, trimStart}
@@ -22,6 +23,9 @@ use Rattle.time.specs.declared.Answer.the-variants.{Time, Refused}
 use Rattle.relative.specs.Words.{wordsOf, spelled, countOf, singular, unitNamed, unitOf}
 use Rattle.relative.specs.Pairs.{pairsFrom, agoFrom, known}
 use Rattle.relative.specs.Steps.{monthStart, monthsEarlier, landing, landed, step, steps}
+use Rattle.relative.specs.Joined.{waitsFrom, Whole}
+use Rattle.relative.specs.Months.{OnePair}
+use Rattle.relative.specs.declared.Unit.the-variants.{Months}
 use Rattle.relative.specs.Relative.{maxPairs, from, namedOf, byPairs, relativeOf}
 
 -- a text, read from a current time, and its answer
@@ -162,3 +166,16 @@ not-ascii = refl
 pub months-below-0 : (monthStart (negsuc 0) ≡ negsuc 30) × (monthStart (negsuc 4799) ≡ negsuc 146096)
 unfolding monthStart firstDay yearStart yearLength total lengths leap
 months-below-0 = (refl, refl)
+
+-- ---- texts that the theorems speak of
+pub three-months : OnePair (bytes "3 months ago") 3 (Months 1)
+unfolding ascii wordsOf isAlphanumeric words full pieces pairsFrom sameLetters lowerOf countOf spelled fit digitsOf readFrom isDigit unitOf unitNamed singular
+three-months = record { plain = refl; pair = refl }
+
+pub two-years : OnePair (bytes "Two YEARS") 2 (Months 12)
+unfolding ascii wordsOf isAlphanumeric words full pieces pairsFrom sameLetters lowerOf countOf spelled fit digitsOf readFrom isDigit unitOf unitNamed singular
+two-years = record { plain = refl; pair = refl }
+
+pub weeks-and-day : Whole (bytes "2 weeks and 1 day")
+unfolding ascii wordsOf isAlphanumeric words full pieces pairsFrom waitsFrom known sameLetters lowerOf countOf spelled fit digitsOf readFrom isDigit unitOf unitNamed singular
+weeks-and-day = record { plain = refl; some = omega arith; told = refl; ended = refl }

@@ -1,16 +1,16 @@
--- Where steps land, as the code finds it on numbers from 0 and as the definitions have it on whole numbers. In order: landings below
--- the range; seconds; the months before month 0; months.
+-- Where steps land, as the code finds it on numbers from 0 and as the definitions have it on whole numbers. In order: landings
+-- below the range; seconds; the months before month 0; months.
 -- Assumes nothing.
-use mathlib.Core.Path.{_≡_, refl, sym, ap, _∙_}
-use mathlib.Core.Bool.{Bool, true, false, cond}
-use Prim.Native.Nat.{ℕ, zero, suc, _+_, _-_, _*_, _/_, _%_, _≤_, _<_}
+use mathlib.Core.Path.{_≡_, refl, sym, _∙_}
+use mathlib.Core.Bool.{true}
+use Prim.Native.Nat.{ℕ, suc, _+_, _-_, _*_, _/_, _%_, _≤_, _<_}
 use native.Mathlib.Omega.{arith}
 use native.Mathlib.Nat.{div-lt-iff-lt-mul, le-div-iff-mul-le, mul-one}
 use borrow.Author.Tests.{leb-true, leb-false}
 use lib.Dec.{leb}
-use lib.IntN.{ℤ, pos, negsuc, negℤ, natAbs, _+ℤ_, _-ℤ_, _*ℤ_}
+use lib.IntN.{ℤ, pos, negsuc, negℤ, _+ℤ_, _-ℤ_, _*ℤ_}
 use lib.Signed.{_≤ℤ_, _<ℤ_}
-use Rattle.ints.proofs.Parts.{ints, add-parts, up-neg, dn-neg, up-mul, dn-mul, natAbs-parts, one-dn, parts-eq, parts-lt, parts-le, le-parts}
+use Rattle.ints.proofs.Parts.{add-parts, up-neg, dn-neg, up-mul, dn-mul, natAbs-parts, one-dn, parts-eq, parts-lt, parts-le, le-parts}
 use Rattle.ints.proofs.Machine.{isIn-of-lt}
 use Rattle.text.proofs.Lists.{by-test, both}
 use Rattle.calendar.specs.Calendar.{firstDay, monthOf}
@@ -20,7 +20,6 @@ use Rattle.calendar.specs.declared.Found.the-variants.{At as Day, Nothing}
 use Rattle.calendar.proofs.Lengths.{firstDay-zero}
 use Rattle.calendar.proofs.Cycle.{firstDay-le, firstDay-add-4800}
 use Rattle.calendar.proofs.Dates.{IsDate-monthOf, IsDate-day-lt, IsDate-month-lt}
-use Rattle.calendar.proofs.Back.{back-le}
 use Rattle.time.specs.Range.{leastSeconds, mostSeconds, secondsInRange, since1970, timeOf, InRange}
 use Rattle.text.specs.declared.number.Number.the-variants.{Value}
 use Rattle.time.specs.declared.Time.{Time}
@@ -72,6 +71,27 @@ monthStart-negsuc j =
     let b = firstDay-add-4800 0 in
     let n : ℕ = (j / 4800 + 1) * 146097 in
     parts-le _ _ (omega (arith, a, b, firstDay-zero, add-parts (pos (firstDay (4799 - j % 4800))) (negℤ (pos n)), up-neg (pos n), dn-neg (pos n)))
+
+-- 4,800 months have 146,097 days, before month 0 as after it
+pub monthStart-sub-4800 : (m : ℤ) → monthStart (m -ℤ pos 4800) ≡ monthStart m -ℤ pos 146097
+unfolding monthStart
+monthStart-sub-4800 (pos m) =
+    by-test (leb 4800 m)
+    (λ e.
+    let h = leb-true 4800 m e in
+    let f : firstDay m ≡ firstDay (m - 4800) + 146097 = let g : m - 4800 + 4800 ≡ m = omega arith in rw g at (firstDay-add-4800 (m - 4800)) in
+    rw (pos-sub m 4800 h) (parts-eq _ _ (omega (arith, add-parts (pos (firstDay m)) (negsuc 146096)))))
+    (λ e.
+    let h = leb-false 4800 m e in
+    let f : 4799 - (4800 - suc m) % 4800 ≡ m = omega arith in
+    let g : ((4800 - suc m) / 4800 + 1) * 146097 ≡ 146097 = omega arith in
+    rw (pos-sub-lt m 4800 h, f, g))
+monthStart-sub-4800 (negsuc j) =
+    let a : (suc (j + 4799)) % 4800 ≡ j % 4800 = omega arith in
+    let b : ((suc (j + 4799)) / 4800 + 1) * 146097 ≡ (j / 4800 + 1) * 146097 + 146097 = omega arith in
+    let n : ℕ = (j / 4800 + 1) * 146097 in
+    let d : ℤ = pos (firstDay (4799 - j % 4800)) in
+    rw (a, b) (parts-eq _ _ (omega (arith, add-parts (d -ℤ pos n) (negsuc 146096), add-parts d (negℤ (pos n)), add-parts d (negℤ (pos (n + 146097))), up-neg (pos n), dn-neg (pos n), up-neg (pos (n + 146097)), dn-neg (pos (n + 146097)))))
 
 -- the local clock, counted from 0
 pub local-of : (i : Instant) → InRange i → localSeconds (timeOf i) ≡ i .seconds + i .offset - 93600

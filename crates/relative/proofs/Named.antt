@@ -1,10 +1,10 @@
--- A text with a pair is no named text: a named text is one word. In order: trimming takes no word away; letters and digits alone are
--- one word, in any letter case; so what a text with a pair answers.
+-- A text with a pair is no named text: a named text is one word. In order: trimming takes no word away; letters and digits alone
+-- are one word, in any letter case; so what a text with a pair answers.
 -- Assumes nothing.
 use mathlib.Core.Path.{_≡_, refl, sym, ap, _∙_}
-use mathlib.Core.Bool.{Bool, true, false, cond, not, _&&_, _||_, false≢true}
-use mathlib.Core.List.{List, [], _∷_, _++_, reverse, reverse-cons, reverse-reverse}
-use Prim.Native.Nat.{ℕ, zero, suc, _+_, _-_, _≤_, _<_}
+use mathlib.Core.Bool.{Bool, true, false, _&&_, _||_, false≢true}
+use mathlib.Core.List.{List, [], _∷_, reverse, reverse-cons, reverse-reverse}
+use Prim.Native.Nat.{ℕ, _+_, _≤_, _<_}
 use native.Mathlib.Omega.{arith}
 use native.Mathlib.Nat.{not-suc-le-zero}
 use borrow.Author.Tests.{leb-true, le-leb, lt-leb, lt-ltb, eqb-true}
@@ -12,7 +12,6 @@ use lib.Dec.{leb, eqb}
 use lib.ListN.{length}
 use Rattle.text.specs.Bytes.{between, isSpace, isAlphanumeric, lowerOf, ascii, sameLetters}
 use Rattle.text.specs.Quote.{bytes}
-use Rattle.text.specs.Places.{no}
 use Rattle.text.specs.Trim.{trim, trimStart, trimEnd}
 use Rattle.text.specs.Words.{separator, pieces, full, words}
 use Rattle.text.specs.declared.words.Separator.the-variants.{Mark}

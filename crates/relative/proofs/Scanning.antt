@@ -1,10 +1,10 @@
--- A scan of words that has come so far: what is held, counted and marked, with what is left, makes the whole. One law for each way
--- that the scan goes on, and the reader's part in it.
+-- A scan of words that has come so far: what is held, counted and marked, with what is left, makes the whole. One law for each
+-- way that the scan goes on, and the reader's part in it.
 -- Assumes nothing.
-use mathlib.Core.Path.{_≡_, refl, sym, ap, _∙_}
-use mathlib.Core.Bool.{Bool, true, false, cond, not, _&&_, _||_, and-assoc, and-true, or-false, or-true}
+use mathlib.Core.Path.{_≡_, refl, sym, _∙_}
+use mathlib.Core.Bool.{Bool, true, false, _&&_, _||_, and-assoc, and-true, or-false, or-true}
 use mathlib.Core.List.{List, [], _∷_, _++_, append-nil}
-use Prim.Native.Nat.{ℕ, zero, suc, _+_, _-_, _≤_, _<_}
+use Prim.Native.Nat.{ℕ, _+_, _≤_, _<_}
 use native.Mathlib.Omega.{arith}
 use native.Mathlib.Numerals.{add-one}
 use lib.ListN.{length, take, drop, set}
@@ -16,7 +16,7 @@ use Rattle.text.specs.declared.words.Span.{Span}
 use Rattle.text.specs.declared.words.Words.{Words}
 use Rattle.text.specs.declared.words.Taken.{Taken}
 use Rattle.text.specs.declared.words.Taken.the-variants.{Word, Nothing}
-use Rattle.text.proofs.Taking.{listed, words-takeWord, takeWord-moves}
+use Rattle.text.proofs.Taking.{words-takeWord, takeWord-moves}
 use Rattle.text.specs.declared.number.Number.the-variants.{Value, Not}
 use Rattle.relative.specs.Words.{wordsOf, is, countOf, unitOf}
 use Rattle.relative.specs.Pairs.{pairsFrom, agoFrom, known, isKnown, pairsOf, agoIn}

@@ -3,13 +3,13 @@
 use mathlib.Core.Path.{_≡_, refl, sym, ap, _∙_}
 use mathlib.Core.Bool.{Bool, true, false, cond, not, _&&_, _||_}
 use mathlib.Core.List.{List, [], _∷_}
-use Prim.Native.Nat.{ℕ, zero, suc, _≤_}
+use Prim.Native.Nat.{ℕ, suc, _≤_}
 use native.Mathlib.Omega.{arith}
 use borrow.Author.Tests.{leb-true, lt-ltb}
 use lib.Dec.{leb, ltb, eqb, eqb·suc-zero}
 use lib.ListN.{length, take}
 use Rattle.text.proofs.Lists.{by-test}
-use Rattle.time.specs.Range.{timeInRange, timeOf, instantOf, movedOf}
+use Rattle.time.specs.Range.{timeInRange, timeOf, movedOf}
 use Rattle.time.specs.declared.Time.{Time as Moment}
 use Rattle.time.specs.declared.range.Moved.{Moved}
 use Rattle.time.specs.declared.range.Moved.the-variants.{In, Out}
@@ -41,7 +41,7 @@ told-cond bound now [] ok = refl
 told-cond bound now (p ∷ ps) true = by-test (leb (length (p ∷ ps)) bound) (λ f. rw (lt-ltb 0 (suc (length ps)) (omega arith), f, eqb·suc-zero)) (λ f. rw (lt-ltb 0 (suc (length ps)) (omega arith), f, eqb·suc-zero))
 told-cond bound now (p ∷ ps) false = rw (lt-ltb 0 (suc (length ps)) (omega arith), eqb·suc-zero)
 
-byPairs-told : (bound : ℕ) (s : List ℕ) (now : Now) → byPairs bound s now ≡ byTold now (pairsOf s) (toldOf bound (length (pairsOf s)) (known (pairsOf s) || agoIn s))
+pub byPairs-told : (bound : ℕ) (s : List ℕ) (now : Now) → byPairs bound s now ≡ byTold now (pairsOf s) (toldOf bound (length (pairsOf s)) (known (pairsOf s) || agoIn s))
 unfolding byPairs
 byPairs-told bound s now = told-cond bound now (pairsOf s) (known (pairsOf s) || agoIn s)
 

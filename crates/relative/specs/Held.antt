@@ -1,13 +1,13 @@
--- What the code holds on the way to an answer: pairs as two lists of numbers, the verdict on a text, a current time or a landing as
--- numbers from 0. A unit is held as its seconds, or as its months and 1,000,000 more, and 0 is an unknown one. Nothing here is
+-- What the code holds on the way to an answer: pairs as two lists of numbers, the verdict on a text, a current time or a landing
+-- as numbers from 0. A unit is held as its seconds, or as its months and 1,000,000 more, and 0 is an unknown one. Nothing here is
 -- needed to read what `parse` ensures.
 -- Assumes nothing.
-use Prim.Native.Nat.{ℕ, _-_, _≤_, _<_}
+use Prim.Native.Nat.{ℕ, _-_, _≤_}
 use mathlib.Core.Path.{_≡_}
 use mathlib.Core.Bool.{Bool, cond}
 use mathlib.Core.List.{List, [], _∷_}
 use lib.Dec.{leb, eqb}
-use lib.ListN.{length, take}
+use lib.ListN.{take}
 use Rattle.text.specs.declared.number.Number.{Number}
 use Rattle.text.specs.declared.number.Number.the-variants.{Value, Not as NoNumber}
 use Rattle.time.specs.Range.{timeInRange, timeOf, instantOf, InRange}

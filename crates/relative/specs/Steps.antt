@@ -1,6 +1,6 @@
--- Document 01, "Reading relative dates": pairs apply in order, each from a true date. A landing is a whole number of seconds since
--- 1970, of any size and sign, and is tested as it stands: nothing here wraps, and nothing stops at 0. Days and months are those of
--- the calendar: day 0 is 1 January of year -10000, of month 0; 1 January 1970 is day 4,371,953, and begins at second
+-- Document 01, "Reading relative dates": pairs apply in order, each from a true date. A landing is a whole number of seconds
+-- since 1970, of any size and sign, and is tested as it stands: nothing here wraps, and nothing stops at 0. Days and months are
+-- those of the calendar: day 0 is 1 January of year -10000, of month 0; 1 January 1970 is day 4,371,953, and begins at second
 -- 377,736,739,200.
 -- Assumes nothing.
 use Prim.Native.Nat.{ℕ, _+_, _-_, _*_, _/_, _%_}

@@ -1,14 +1,15 @@
-// Document 01, "Reading relative dates": `now`, `yesterday`, `2 weeks 1 day ago`, from a current time at a fixed offset.
+// Document 01, "Reading relative dates": `now`, `yesterday`, `2 weeks 1 day ago`, from a current
+// time at a fixed offset.
 //
-// Every text has an answer: a time, or the refusal 1, 2, 5, 3, 4 or 6 that comes first. `parse` builds the month table only when it
-// comes to a month or a year, and then once; `parse_with` is lent it.
+// Every text has an answer: a time, or the refusal 1, 2, 5, 3, 4 or 6 that comes first. `parse`
+// builds the month table only when it comes to a month or a year, and then once; `parse_with` is
+// lent it.
 mod pairs;
 mod steps;
 mod words;
 
 ghost use mathlib.Core.Path.{_≡_};
 ghost use mathlib.Core.List.{_∷_, []};
-ghost use Rattle.text.specs.declared.number.Number.the-variants.{Value};
 ghost use Rattle.calendar.specs.Table.{IsMonths};
 ghost use Rattle.relative.specs.Relative.{maxPairs, from, namedOf, byPairs, relativeOf};
 ghost use Rattle.relative.specs.declared.Unit.the-variants.{Seconds};
@@ -22,8 +23,8 @@ use time::Refusal;
 // The most pairs that a text may have.
 pub const MAX_PAIRS: usize = 32;
 
-// How a unit is subtracted: so many seconds off the time, or so many months off the month count. An unknown one counts as
-// seconds, in a text that has the mark.
+// How a unit is subtracted: so many seconds off the time, or so many months off the month count. An
+// unknown one counts as seconds, in a text that has the mark.
 pub enum Unit {
     Seconds(u64),
     Months(u64),
@@ -36,6 +37,10 @@ pub struct Pair {
     pub unit: Unit,
 }
 
+// The time that a relative text says, at the current time's offset. Refused: NotAscii, a byte of
+// 128 or more; Form, no pair, or an unknown unit without the mark; Pairs, more than MAX_PAIRS of
+// them; Missing or Current, no current time or one out of range; Range, a step that lands out of
+// range. The first of these, in this order, is the answer.
 pub fn parse(s: &[u8], current: Now) -> Answer
     ensures { λ r. ⌜ r ≡ relativeOf maxPairs (now (s .entry)) current ⌝ }
 {
@@ -49,6 +54,7 @@ pub fn parse(s: &[u8], current: Now) -> Answer
     Answer::Refused(Refusal::NotAscii)
 }
 
+// The same by a month table that is lent: for many texts in a row.
 pub fn parse_with(months: &[u32; 4800], s: &[u8], current: Now) -> Answer
     requires { ⌜ IsMonths (now months) ⌝ }
     ensures { λ r. ⌜ r ≡ relativeOf maxPairs (now (s .entry)) current ⌝ }
@@ -63,7 +69,8 @@ pub fn parse_with(months: &[u32; 4800], s: &[u8], current: Now) -> Answer
     Answer::Refused(Refusal::NotAscii)
 }
 
-// `now`, `today` and `yesterday`, alone: how many seconds before the current time. Any other text is Not.
+// `now`, `today` and `yesterday`, alone: how many seconds before the current time. Any other text
+// is Not.
 fn parse_named(s: &[u8]) -> Number
     ensures { λ r. ⌜ r ≡ namedOf (now (s .entry)) ⌝ }
 {
@@ -90,8 +97,8 @@ fn seconds_before(current: Now, k: u64) -> Answer
     steps::answer(steps::seconds_back(i, k, 1))
 }
 
-// Pairs go into two lent arrays, which are filled only here: a named text does without. Only a text with a count and its unit goes
-// on to the calendar.
+// Pairs go into two lent arrays, which are filled only here: a named text does without. Only a text
+// with a count and its unit goes on to the calendar.
 fn parse_pairs(s: &[u8], current: Now) -> Answer
     ensures { λ r. ⌜ r ≡ byPairs maxPairs (now (s .entry)) current ⌝ }
 {

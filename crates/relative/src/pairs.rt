@@ -1,4 +1,5 @@
-// The pairs of a text, and the mark `ago`. Pairs go to two lent arrays, counts and units, a unit as in `words`.
+// The pairs of a text, and the mark `ago`. Pairs go to two lent arrays, counts and units, a unit as
+// in `words`.
 ghost use mathlib.Core.Path.{_≡_};
 ghost use mathlib.Core.Bool.{_||_};
 ghost use Prim.Native.Nat.{_≤_};
@@ -31,7 +32,8 @@ pub fn told_refusal(t: Told) -> Refusal
     }
 }
 
-// The pairs of a text, the first of the arrays. The whole text is read before 5 is decided: a later word may make it 2.
+// The pairs of a text, the first of the arrays. The whole text is read before 5 is decided: a later
+// word may make it 2.
 pub fn parse_ago(s: &[u8], counts: &mut [u64; MAX_PAIRS], units: &mut [u64; MAX_PAIRS]) -> Told
     requires { ⌜ (length (now counts) ≡ maxPairs) × (length (now units) ≡ maxPairs) ⌝ }
     ensures told { λ r. ⌜ r ≡ toldOf maxPairs (length (pairsOf (now (s .entry)))) (known (pairsOf (now (s .entry))) || agoIn (now (s .entry))) ⌝ }

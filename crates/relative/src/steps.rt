@@ -1,4 +1,5 @@
-// Pairs applied in order, on times as numbers from 0 (`time::range`): no product or difference wraps, however large a count is.
+// Pairs applied in order, on times as numbers from 0 (`time::range`): no product or difference
+// wraps, however large a count is.
 ghost use mathlib.Core.Path.{_≡_};
 ghost use Prim.Native.Nat.{_*_, _≤_};
 ghost use lib.IntN.{pos, _-ℤ_};
@@ -61,8 +62,8 @@ pub fn answer(m: Moved) -> Answer
     }
 }
 
-// The first n pairs, each from where the one before landed. The table is built where the first month or year is met, and lent to
-// all that follow; second to week units do without.
+// The first n pairs, each from where the one before landed. The table is built where the first
+// month or year is met, and lent to all that follow; second to week units do without.
 pub fn subtract_pairs(
     counts: &[u64; MAX_PAIRS],
     units: &[u64; MAX_PAIRS],
@@ -176,7 +177,8 @@ pub fn seconds_back(i: Instant, n: u64, k: u64) -> Moved
     kept(t - n * k, i.offset)
 }
 
-// n times k months earlier, on the local clock. Not the month's first day is tested, but the landing.
+// n times k months earlier, on the local clock. Not the month's first day is tested, but the
+// landing.
 fn months_earlier(months: &[u32; 4800], i: Instant, n: u64, k: u64) -> Moved
     requires { ⌜ IsMonths (now months) × InRange i × (1 ≤ k) ⌝ }
     ensures is { λ r. ⌜ answerOf r ≡ landed (monthsEarlier (timeOf i) (n * k)) (timeOf i .offset) ⌝ }

@@ -1,5 +1,5 @@
-// What a word alone says: a count, or a unit. A unit is a number here: its seconds, or its months and 1,000,000 more; 0 is none that
-// is known.
+// What a word alone says: a count, or a unit. A unit is a number here: its seconds, or its months
+// and 1,000,000 more; 0 is none that is known.
 ghost use mathlib.Core.Path.{_≡_};
 ghost use mathlib.Core.Bool.{cond};
 ghost use Rattle.text.specs.Bytes.{sameLetters};
@@ -9,7 +9,8 @@ ghost use Rattle.relative.specs.Held.{unitAt};
 use text::bytes;
 use text::number::Number;
 
-// Digits that fit 64 signed bits, `one` to `ten`, or `last`, which is 1. Digits are tried first: no name begins with one.
+// Digits that fit 64 signed bits, `one` to `ten`, or `last`, which is 1. Digits are tried first: no
+// name begins with one.
 pub fn count(w: &[u8]) -> Number
     ensures { λ r. ⌜ r ≡ countOf (now (w .entry)) ⌝ }
 {

@@ -5,27 +5,9 @@ use borrow.Author.Needs.{needs}
 use Rattle.relative.proofs.parse.Statement.{statement}
 use Rattle.relative.proofs.parse.Tie as tie
 
-is-ascii-requires : tie.Need-is-ascii-requires
-is-ascii-requires c κs = search needs
-
-parse-named-requires : tie.Need-parse-named-requires
-parse-named-requires c κs = search needs
-
-enum-known-named : tie.Need-enum-known-named
-enum-known-named c = search needs
-
-enum-told : tie.Need-enum-told
-enum-told c = search needs
-
-parse-pairs-requires : tie.Need-parse-pairs-requires
-parse-pairs-requires c κs = search needs
-
 returns : tie.Need-returns
 unfolding relativeOf
 returns c = rw (← c .before .before .before .before .before .is-ascii .ensures, c .before .before .before .before .if1 .taken, ← c .before .before .before .parse-named .ensures, c .before .enum-told .given .1, c .parse-pairs .ensures)
-
-seconds-before-requires : tie.Need-seconds-before-requires
-seconds-before-requires c κs = search needs
 
 returns-2 : tie.Need-returns-2
 unfolding relativeOf
@@ -39,12 +21,12 @@ pub parse-spec : {M : Type 1} → statement M
 parse-spec =
     tie.close
     (tie.spec
-    is-ascii-requires
-    parse-named-requires
-    enum-known-named
-    enum-told
-    parse-pairs-requires
+    (λ c κs. search needs)
+    (λ c κs. search needs)
+    (λ c. search needs)
+    (λ c. search needs)
+    (λ c κs. search needs)
     returns
-    seconds-before-requires
+    (λ c κs. search needs)
     returns-2
     returns-3)

@@ -11,65 +11,54 @@ use borrow.Author.Needs.{needs}
 use Rattle.relative.proofs.parse_pairs.Statement.{statement}
 use Rattle.relative.proofs.parse_pairs.Tie as tie
 
-parse-ago-requires : tie.Need-parse-ago-requires
-parse-ago-requires c κs = search needs
-
-enum-known-told : tie.Need-enum-known-told
-enum-known-told c = search needs
-
-enum-told : tie.Need-enum-told
-enum-told c = search needs
-
-told-refusal-requires : tie.Need-told-refusal-requires
-told-refusal-requires c κs = search needs
-
 -- 2 or 5
 returns : tie.Need-returns
 returns c = rw (c .told-refusal .ensures, c .before .enum-told .given .1) (sym (byPairs-of-told _ _ _ _ _ (c .before .before .before .parse-ago .ensures .0) (c .before .enum-told .given .1)))
 
-start-of-requires : tie.Need-start-of-requires
-start-of-requires c κs = search needs
-
-enum-known-start : tie.Need-enum-known-start
-enum-known-start c = search needs
-
-enum-told-2 : tie.Need-enum-told-2
-enum-told-2 c = search needs
-
-start-refusal-requires : tie.Need-start-refusal-requires
-start-refusal-requires c κs = search needs
-
 -- 3 or 4
 returns-2 : tie.Need-returns-2
-returns-2 c = rw (c .start-refusal .ensures, c .before .enum-told2 .given .1) (sym (byPairs-of-told _ _ _ _ _ (c .before .before .before .before .before .before .before .parse-ago .ensures .0) (c .before .before .before .before .before .told .given .1) ∙ from-of-start _ _ _ _ (c .before .before .before .start-of .ensures .0) (c .before .enum-told2 .given .1)))
+returns-2 c =
+    let at-start = c .before .before .before in
+    let at-told = at-start .before .before in
+    let at-ago = at-told .before .before in
+    rw (c .start-refusal .ensures, c .before .enum-told2 .given .1)
+    (sym (byPairs-of-told _ _ _ _ _ (at-ago .parse-ago .ensures .0) (at-told .told .given .1) ∙ from-of-start _ _ _ _ (at-start .start-of .ensures .0) (c .before .enum-told2 .given .1)))
 
 subtract-pairs-requires : tie.Need-subtract-pairs-requires
-subtract-pairs-requires c κs = let told = c .before .before .before .before .before .before .before .before .before .parse-ago .ensures .1 .1 in
-    let holds = rw (c .before .before .before .before .before .before .before .told .given .1) at (c .before .before .before .before .before .before .before .before .before .parse-ago .ensures .1 .0) in
-    ((told .0, told .1), (holds .0, rw (c .before .before .before .start .given .1) at (c .before .before .before .before .before .start-of .ensures .1)))
-
-answer-requires : tie.Need-answer-requires
-answer-requires c κs = search needs
+subtract-pairs-requires c κs =
+    let at-from = c .before .before .before in
+    let at-start = at-from .before .before in
+    let at-told = at-start .before .before in
+    let at-ago = at-told .before .before in
+    let lengths = at-ago .parse-ago .ensures .1 .1 in
+    let holds = rw (at-told .told .given .1) at (at-ago .parse-ago .ensures .1 .0) in
+    let range = rw (at-from .start .given .1) at (at-start .start-of .ensures .1) in
+    ((lengths .0, lengths .1), (holds .0, range))
 
 -- the pairs, from where they start
 returns-3 : tie.Need-returns-3
-returns-3 c = let holds = rw (c .before .before .before .before .before .before .before .before .before .told .given .1) at (c .before .before .before .before .before .before .before .before .before .before .before .parse-ago .ensures .1 .0) in
-    c .answer .ensures ∙ c .before .subtract-pairs .ensures .0 ∙ ap (λ (ps : List Pair). steps ps (Time (timeOf (c .before .before .before .before .before .start .given .0 .0)))) (holds .1) ∙ sym (byPairs-of-told _ _ _ _ _ (c .before .before .before .before .before .before .before .before .before .before .before .parse-ago .ensures .0) (c .before .before .before .before .before .before .before .before .before .told .given .1) ∙ from-of-start _ _ _ _ (c .before .before .before .before .before .before .before .start-of .ensures .0) (c .before .before .before .before .before .start .given .1))
+returns-3 c =
+    let at-from = c .before .before .before .before .before in
+    let at-start = at-from .before .before in
+    let at-told = at-start .before .before in
+    let at-ago = at-told .before .before in
+    let holds = rw (at-told .told .given .1) at (at-ago .parse-ago .ensures .1 .0) in
+    c .answer .ensures ∙ c .before .subtract-pairs .ensures .0 ∙ ap (λ (ps : List Pair). steps ps (Time (timeOf (at-from .start .given .0 .0)))) (holds .1) ∙ sym (byPairs-of-told _ _ _ _ _ (at-ago .parse-ago .ensures .0) (at-told .told .given .1) ∙ from-of-start _ _ _ _ (at-start .start-of .ensures .0) (at-from .start .given .1))
 
 pub parse-pairs-spec : {M : Type 1} → statement M
 parse-pairs-spec =
     tie.close
     (tie.spec
-    parse-ago-requires
-    enum-known-told
-    enum-told
-    told-refusal-requires
+    (λ c κs. search needs)
+    (λ c. search needs)
+    (λ c. search needs)
+    (λ c κs. search needs)
     returns
-    start-of-requires
-    enum-known-start
-    enum-told-2
-    start-refusal-requires
+    (λ c κs. search needs)
+    (λ c. search needs)
+    (λ c. search needs)
+    (λ c κs. search needs)
     returns-2
     subtract-pairs-requires
-    answer-requires
+    (λ c κs. search needs)
     returns-3)

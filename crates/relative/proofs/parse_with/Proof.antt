@@ -5,27 +5,9 @@ use borrow.Author.Needs.{needs}
 use Rattle.relative.proofs.parse_with.Statement.{statement}
 use Rattle.relative.proofs.parse_with.Tie as tie
 
-is-ascii-requires : tie.Need-is-ascii-requires
-is-ascii-requires c κs = search needs
-
-parse-named-requires : tie.Need-parse-named-requires
-parse-named-requires c κs = search needs
-
-enum-known-named : tie.Need-enum-known-named
-enum-known-named c = search needs
-
-enum-told : tie.Need-enum-told
-enum-told c = search needs
-
-parse-pairs-with-requires : tie.Need-parse-pairs-with-requires
-parse-pairs-with-requires c κs = search needs
-
 returns : tie.Need-returns
 unfolding relativeOf
 returns c = rw (← c .before .before .before .before .before .is-ascii .ensures, c .before .before .before .before .if1 .taken, ← c .before .before .before .parse-named .ensures, c .before .enum-told .given .1, c .parse-pairs-with .ensures)
-
-seconds-before-requires : tie.Need-seconds-before-requires
-seconds-before-requires c κs = search needs
 
 returns-2 : tie.Need-returns-2
 unfolding relativeOf
@@ -39,12 +21,12 @@ pub parse-with-spec : {M : Type 1} → statement M
 parse-with-spec =
     tie.close
     (tie.spec
-    is-ascii-requires
-    parse-named-requires
-    enum-known-named
-    enum-told
-    parse-pairs-with-requires
+    (λ c κs. search needs)
+    (λ c κs. search needs)
+    (λ c. search needs)
+    (λ c. search needs)
+    (λ c κs. search needs)
     returns
-    seconds-before-requires
+    (λ c κs. search needs)
     returns-2
     returns-3)

@@ -8,26 +8,11 @@ use borrow.Author.Needs.{needs}
 use Rattle.relative.proofs.seconds_before.Statement.{statement}
 use Rattle.relative.proofs.seconds_before.Tie as tie
 
-start-of-requires : tie.Need-start-of-requires
-start-of-requires c κs = search needs
-
-enum-known-start : tie.Need-enum-known-start
-enum-known-start c = search needs
-
-enum-told : tie.Need-enum-told
-enum-told c = search needs
-
-start-refusal-requires : tie.Need-start-refusal-requires
-start-refusal-requires c κs = search needs
-
 returns : tie.Need-returns
 returns c = rw (c .start-refusal .ensures, c .before .enum-told .given .1) (sym (from-of-start _ _ _ _ (c .before .before .before .start-of .ensures .0) (c .before .enum-told .given .1)))
 
 seconds-back-requires : tie.Need-seconds-back-requires
 seconds-back-requires c κs = (rw (c .before .start .given .1) at (c .before .before .before .start-of .ensures .1), omega arith)
-
-answer-requires : tie.Need-answer-requires
-answer-requires c κs = search needs
 
 returns-2 : tie.Need-returns-2
 unfolding steps step landing
@@ -37,11 +22,11 @@ pub seconds-before-spec : {M : Type 1} → statement M
 seconds-before-spec =
     tie.close
     (tie.spec
-    start-of-requires
-    enum-known-start
-    enum-told
-    start-refusal-requires
+    (λ c κs. search needs)
+    (λ c. search needs)
+    (λ c. search needs)
+    (λ c κs. search needs)
     returns
     seconds-back-requires
-    answer-requires
+    (λ c κs. search needs)
     returns-2)

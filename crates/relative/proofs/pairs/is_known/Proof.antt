@@ -1,7 +1,7 @@
 -- `relative::pairs::is_known` meets its contract: an unknown unit is held as 0.
 -- Assumes nothing.
 use mathlib.Core.Path.{_≡_}
-use mathlib.Core.Bool.{Bool, not}
+use mathlib.Core.Bool.{not}
 use Prim.Native.Nat.{ℕ}
 use lib.Dec.{leb, eqb}
 use Rattle.text.proofs.Lists.{by-test}

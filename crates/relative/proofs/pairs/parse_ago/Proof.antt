@@ -5,12 +5,6 @@ use borrow.Author.Needs.{needs}
 use Rattle.relative.proofs.pairs.parse_ago.Statement.{statement}
 use Rattle.relative.proofs.pairs.parse_ago.Tie as tie
 
-scan-requires : tie.Need-scan-requires
-scan-requires c κs = search needs
-
-verdict-requires : tie.Need-verdict-requires
-verdict-requires c κs = search needs
-
 returns : tie.Need-returns
 returns c = let scanned = c .before .scan .ensures in (
   rw (scanned .0, scanned .1 .0, scanned .1 .1 .0) at (c .verdict .ensures),
@@ -18,4 +12,4 @@ returns c = let scanned = c .before .scan .ensures in (
 )
 
 pub parse-ago-spec : {M : Type 1} → statement M
-parse-ago-spec = tie.close (tie.spec scan-requires verdict-requires returns)
+parse-ago-spec = tie.close (tie.spec (λ c κs. search needs) (λ c κs. search needs) returns)

@@ -1,10 +1,10 @@
--- `relative::pairs::scan` meets its contract. The invariant: what is held, counted and marked, with the words that are left at the
--- reader, makes the whole (`Scanned`); each pair took more than one byte. The measure is what is left of the text.
+-- `relative::pairs::scan` meets its contract. The invariant: what is held, counted and marked, with the words that are left at
+-- the reader, makes the whole (`Scanned`); each pair took more than one byte. The measure is what is left of the text.
 -- Assumes nothing.
-use mathlib.Core.Path.{_≡_, _∙_, sym}
+use mathlib.Core.Path.{_≡_}
 use mathlib.Core.Bool.{false}
-use mathlib.Core.List.{List, [], _∷_}
-use Prim.Native.Nat.{ℕ, _≤_, _<_, _-_, _+_}
+use mathlib.Core.List.{List, _∷_}
+use Prim.Native.Nat.{ℕ, _≤_, _<_, _-_}
 use native.Mathlib.Omega.{arith}
 use borrow.Author.Needs.{needs}
 use lib.ListN.{length, length-set}
@@ -119,7 +119,7 @@ loop-again-3 c =
     let inv = c .before .before .before .before .before .before .before .before .before .before .before .before .before .before .before .before .before .before .before .before .loop .inv in (
       omega (arith, inv .0, moved (c .before .before .before .before .before .before .before .before .before .before .before .before .before .before .before .before), moved2 at-unit),
       (simp length-set (inv .1 .0), simp length-set (inv .1 .1)),
-      rw (c .before .is-known .ensures) (stored-two _ _ _ (second at-unit) (not-ago (c .before .before .before .before .before .before .before .before .before .before .before .before)) (counts at-unit) (rw (← c .before .before .before .within2 .ensures) (c .before .before .unit .ensures)) (inv .1 .0) (inv .1 .1) (c .if2 .taken)),
+      rw (c .before .is-known .ensures) (stored-two _ _ _ (second at-unit) (not-ago (c .before .before .before .before .before .before .before .before .before .before .before .before)) (counts at-unit) (rw (← c .before .before .before .within2 .ensures) (c .before .before .unit .ensures)) (inv .1 .0) (inv .1 .1) (omega (arith, c .if2 .taken))),
     )
 
 add-n-2 : tie.Need-add-n-2 Inv-loop μ-loop

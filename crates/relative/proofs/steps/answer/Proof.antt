@@ -4,14 +4,8 @@ use borrow.Author.Needs.{needs}
 use Rattle.relative.proofs.steps.answer.Statement.{statement}
 use Rattle.relative.proofs.steps.answer.Tie as tie
 
-enum-known-m : tie.Need-enum-known-m
-enum-known-m c = search needs
-
 time-of-requires : tie.Need-time-of-requires
 time-of-requires c κs = rw (c .before .m .given .1) at (c .before .before .before .pre)
-
-enum-told : tie.Need-enum-told
-enum-told c = search needs
 
 returns : tie.Need-returns
 returns c = rw (c .time-of .ensures, c .before .before .m .given .1)
@@ -20,4 +14,4 @@ returns-2 : tie.Need-returns-2
 returns-2 c = rw (c .enum-told .given .1)
 
 pub answer-spec : {M : Type 1} → statement M
-answer-spec = tie.close (tie.spec enum-known-m time-of-requires enum-told returns returns-2)
+answer-spec = tie.close (tie.spec (λ c. search needs) time-of-requires (λ c. search needs) returns returns-2)

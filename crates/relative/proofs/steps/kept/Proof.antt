@@ -7,9 +7,6 @@ use borrow.Author.Needs.{needs}
 use Rattle.relative.proofs.steps.kept.Statement.{statement}
 use Rattle.relative.proofs.steps.kept.Tie as tie
 
-in-range-requires : tie.Need-in-range-requires
-in-range-requires c κs = search needs
-
 returns : tie.Need-returns
 unfolding landed
 returns c = let e = sym (c .before .in-range .ensures) ∙ c .if1 .taken in
@@ -22,4 +19,4 @@ unfolding landed
 returns-2 c = (rw (← c .before .in-range .ensures, c .if1 .left), tt)
 
 pub kept-spec : {M : Type 1} → statement M
-kept-spec = tie.close (tie.spec in-range-requires returns returns-2)
+kept-spec = tie.close (tie.spec (λ c κs. search needs) returns returns-2)

@@ -1,8 +1,8 @@
--- `relative::steps::months_earlier` meets its contract: where there is no such month, or the landing would be below 0, it is below
--- the range.
+-- `relative::steps::months_earlier` meets its contract: where there is no such month, or the landing would be below 0, it is
+-- below the range.
 -- Assumes nothing.
-use mathlib.Core.Path.{_≡_, sym, _∙_}
-use Prim.Native.Nat.{_≤_, _<_, _+_, _-_, _*_}
+use mathlib.Core.Path.{sym}
+use Prim.Native.Nat.{_<_, _+_, _-_, _*_}
 use native.Mathlib.Omega.{arith}
 use native.Mathlib.Nat.{div-lt-iff-lt-mul}
 use Rattle.calendar.specs.declared.Found.the-variants.{At}
@@ -19,32 +19,14 @@ local c = rw (c .before .back .given .1) at (backOf-told _ _ _ (c .before .befor
 local-lt : (c : tie.After-known-told) → let a = c .before .before .before .before .before .args in c .before .back .given .0 .0 < a .i .seconds + a .i .offset - 93600 + 1
 local-lt c = lt-of-Below (c .before .back .given .1) (c .before .before .before .months-back .ensures .1)
 
-div-if1 : tie.Need-div-if1
-div-if1 c = search needs
-
 -- more months than are counted
 returns : tie.Need-returns
 returns c = let a = c .before .args in
     let h = div-lt-iff-lt-mul (c .before .pre .2) .0 (c .if1 .taken) in
     (sym (landed-of-month-lt (a .i) (a .n * a .k) _ (c .before .pre .1) (month-lt (a .i) (a .n * a .k) (c .before .pre .1) h)), tt)
 
-add-months-back : tie.Need-add-months-back
-add-months-back c = search needs
-
-sub-months-back : tie.Need-sub-months-back
-sub-months-back c = search needs
-
 mul-months-back : tie.Need-mul-months-back
 mul-months-back c = omega (arith, mul-le-of-div 240000 _ _ (c .before .pre .2) (c .if1 .left))
-
-months-back-requires : tie.Need-months-back-requires
-months-back-requires c κs = search needs
-
-enum-known-back : tie.Need-enum-known-back
-enum-known-back c = search needs
-
-enum-told : tie.Need-enum-told
-enum-told c = search needs
 
 -- no such month
 returns-2 : tie.Need-returns-2
@@ -65,12 +47,6 @@ returns-3 c = let at-start = c .before .before .before .before .before .before i
 add-kept : tie.Need-add-kept
 add-kept c = omega (arith, local-lt (c .before), c .before .before .before .before .before .before .pre .1 .late, c .before .before .before .before .before .before .pre .1 .east)
 
-sub-kept : tie.Need-sub-kept
-sub-kept c = search needs
-
-kept-requires : tie.Need-kept-requires
-kept-requires c κs = search needs
-
 returns-4 : tie.Need-returns-4
 returns-4 c = let at-start = c .before .before .before .before .before .before .before in
     let a = at-start .args in
@@ -81,18 +57,18 @@ pub months-earlier-spec : {M : Type 1} → statement M
 months-earlier-spec =
     tie.close
     (tie.spec
-    div-if1
+    (λ c. search needs)
     returns
-    add-months-back
-    sub-months-back
+    (λ c. search needs)
+    (λ c. search needs)
     mul-months-back
-    months-back-requires
-    enum-known-back
-    enum-told
+    (λ c κs. search needs)
+    (λ c. search needs)
+    (λ c. search needs)
     returns-2
     add-if2
     returns-3
     add-kept
-    sub-kept
-    kept-requires
+    (λ c. search needs)
+    (λ c κs. search needs)
     returns-4)

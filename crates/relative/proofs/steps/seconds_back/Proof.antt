@@ -1,15 +1,11 @@
 -- `relative::steps::seconds_back` meets its contract: where the difference would be below 0, the landing is below the range.
 -- Assumes nothing.
-use mathlib.Core.Path.{sym, _∙_, ap}
+use mathlib.Core.Path.{sym}
 use native.Mathlib.Omega.{arith}
-use Rattle.relative.specs.Steps.{landed}
 use Rattle.relative.proofs.Landing.{seconds-far, mul-le-of-div, since1970-sub}
 use borrow.Author.Needs.{needs}
 use Rattle.relative.proofs.steps.seconds_back.Statement.{statement}
 use Rattle.relative.proofs.steps.seconds_back.Tie as tie
-
-div-if1 : tie.Need-div-if1
-div-if1 c = search needs
 
 returns : tie.Need-returns
 returns c = (sym (seconds-far _ _ _ _ (c .before .pre .1) (c .if1 .taken)), tt)
@@ -20,11 +16,8 @@ mul-kept c = omega (arith, mul-le-of-div _ _ _ (c .before .pre .1) (c .if1 .left
 sub-kept : tie.Need-sub-kept
 sub-kept c = mul-le-of-div _ _ _ (c .before .pre .1) (c .if1 .left)
 
-kept-requires : tie.Need-kept-requires
-kept-requires c κs = search needs
-
 returns-2 : tie.Need-returns-2
 returns-2 c = rw (← since1970-sub _ _ (mul-le-of-div _ _ _ (c .before .before .pre .1) (c .before .if1 .left))) (c .kept .ensures)
 
 pub seconds-back-spec : {M : Type 1} → statement M
-seconds-back-spec = tie.close (tie.spec div-if1 returns mul-kept sub-kept kept-requires returns-2)
+seconds-back-spec = tie.close (tie.spec (λ c. search needs) returns mul-kept sub-kept (λ c κs. search needs) returns-2)

@@ -1,6 +1,5 @@
 -- `relative::steps::subtract_pair` meets its contract.
 -- Assumes nothing.
-use mathlib.Core.Path.{sym, _∙_}
 use native.Mathlib.Nat.{mul-one}
 use native.Mathlib.Omega.{arith}
 use Rattle.relative.specs.Steps.{step, landing}
@@ -8,20 +7,11 @@ use borrow.Author.Needs.{needs}
 use Rattle.relative.proofs.steps.subtract_pair.Statement.{statement}
 use Rattle.relative.proofs.steps.subtract_pair.Tie as tie
 
-enum-known-unit : tie.Need-enum-known-unit
-enum-known-unit c = search needs
-
 seconds-back-requires : tie.Need-seconds-back-requires
 seconds-back-requires c κs = (c .before .before .before .pre .1, rw (c .before .unit .given .1) at (c .before .before .before .pre .2))
 
-enum-known-unit-2 : tie.Need-enum-known-unit-2
-enum-known-unit-2 c = search needs
-
 months-earlier-requires : tie.Need-months-earlier-requires
 months-earlier-requires c κs = (c .before .before .before .pre .0, c .before .before .before .pre .1, rw (c .before .unit2 .given .1) at (c .before .before .before .pre .2))
-
-enum-told : tie.Need-enum-told
-enum-told c = search needs
 
 seconds-back-requires-2 : tie.Need-seconds-back-requires-2
 seconds-back-requires-2 c κs = (c .before .before .pre .1, omega arith)
@@ -42,11 +32,11 @@ pub subtract-pair-spec : {M : Type 1} → statement M
 subtract-pair-spec =
     tie.close
     (tie.spec
-    enum-known-unit
+    (λ c. search needs)
     seconds-back-requires
-    enum-known-unit-2
+    (λ c. search needs)
     months-earlier-requires
-    enum-told
+    (λ c. search needs)
     seconds-back-requires-2
     returns
     returns-2

@@ -1,11 +1,11 @@
--- `relative::steps::subtract_pairs_with` meets its contract. The invariant: the pairs from k on, from where one stands, lead where
--- all of them lead from the start. The measure is how many are left.
+-- `relative::steps::subtract_pairs_with` meets its contract. The invariant: the pairs from k on, from where one stands, lead
+-- where all of them lead from the start. The measure is how many are left.
 -- Assumes nothing.
 use mathlib.Core.Path.{_≡_, refl, sym, ap, _∙_}
 use Prim.Native.Nat.{ℕ, _≤_, _-_, _+_}
 use native.Mathlib.Omega.{arith}
 use borrow.Author.Needs.{needs}
-use lib.ListN.{length, take, drop}
+use lib.ListN.{take, drop}
 use Rattle.time.specs.Range.{timeOf, InRange}
 use Rattle.time.specs.declared.Answer.the-variants.{Time}
 use Rattle.relative.specs.Steps.{steps}

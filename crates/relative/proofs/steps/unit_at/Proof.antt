@@ -15,12 +15,9 @@ returns-2 : tie.Need-returns-2
 unfolding unitAt
 returns-2 c = (rw (ne-eqb _ _ (c .before .if1 .left), le-leb _ _ (c .if2 .taken)), omega arith)
 
-sub-t3 : tie.Need-sub-t3
-sub-t3 c = search needs
-
 returns-3 : tie.Need-returns-3
 unfolding unitAt
 returns-3 c = (rw (ne-eqb _ _ (c .before .if1 .left), lt-leb _ _ (c .if2 .left)), omega arith)
 
 pub unit-at-spec : {M : Type 1} → statement M
-unit-at-spec = tie.close (tie.spec returns returns-2 sub-t3 returns-3)
+unit-at-spec = tie.close (tie.spec returns returns-2 (λ c. search needs) returns-3)

@@ -7,18 +7,6 @@ use borrow.Author.Needs.{needs}
 use Rattle.relative.proofs.words.count.Statement.{statement}
 use Rattle.relative.proofs.words.count.Tie as tie
 
-digits-requires : tie.Need-digits-requires
-digits-requires c κs = search needs
-
-enum-known-n : tie.Need-enum-known-n
-enum-known-n c = search needs
-
-enum-told : tie.Need-enum-told
-enum-told c = search needs
-
-spelled-requires : tie.Need-spelled-requires
-spelled-requires c κs = search needs
-
 -- no digits: a name, or no count
 returns : tie.Need-returns
 unfolding countOf
@@ -32,4 +20,4 @@ returns-2 c = let e = sym (c .before .before .before .digits .ensures) ∙ c .be
 
 pub count-spec : {M : Type 1} → statement M
 count-spec =
-    tie.close (tie.spec digits-requires enum-known-n enum-told spelled-requires returns returns-2)
+    tie.close (tie.spec (λ c κs. search needs) (λ c. search needs) (λ c. search needs) (λ c κs. search needs) returns returns-2)

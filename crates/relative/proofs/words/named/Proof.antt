@@ -4,9 +4,6 @@ use borrow.Author.Needs.{needs}
 use Rattle.relative.proofs.words.named.Statement.{statement}
 use Rattle.relative.proofs.words.named.Tie as tie
 
-same-ignoring-case-requires : tie.Need-same-ignoring-case-requires
-same-ignoring-case-requires c κs = search needs
-
 returns : tie.Need-returns
 returns c = rw (← c .before .same-ignoring-case .ensures, c .if1 .taken)
 
@@ -14,4 +11,4 @@ returns-2 : tie.Need-returns-2
 returns-2 c = rw (← c .before .same-ignoring-case .ensures, c .if1 .left)
 
 pub named-spec : {M : Type 1} → statement M
-named-spec = tie.close (tie.spec same-ignoring-case-requires returns returns-2)
+named-spec = tie.close (tie.spec (λ c κs. search needs) returns returns-2)

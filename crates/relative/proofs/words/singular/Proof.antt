@@ -1,6 +1,5 @@
 -- `relative::words::singular` meets its contract.
 -- Assumes nothing.
-use Prim.Native.Nat.{_-_, _≤_}
 use native.Mathlib.Omega.{arith}
 use borrow.Author.Tests.{eq-eqb, ne-eqb}
 use lib.ListN.{length-take, drop-of-length-le}
@@ -14,15 +13,6 @@ use Rattle.relative.proofs.words.singular.Tie as tie
 returns : tie.Need-returns
 unfolding singular lowerOf
 returns c = rw (drop-of-length-le (c .before .before .args .w .now) {i = 0} (omega arith))
-
-sub-n : tie.Need-sub-n
-sub-n c = search needs
-
-shared-slice-read-lower : tie.Need-shared-slice-read-lower
-shared-slice-read-lower c = search needs
-
-lower-requires : tie.Need-lower-requires
-lower-requires c κs = search needs
 
 slice-aggregate-result : tie.Need-slice-aggregate-result
 slice-aggregate-result c = simp length-take (omega arith)
@@ -40,9 +30,9 @@ singular-spec =
     tie.close
     (tie.spec
     returns
-    sub-n
-    shared-slice-read-lower
-    lower-requires
+    (λ c. search needs)
+    (λ c. search needs)
+    (λ c κs. search needs)
     slice-aggregate-result
     returns-2
     returns-3)

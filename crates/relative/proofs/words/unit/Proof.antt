@@ -5,15 +5,9 @@ use borrow.Author.Needs.{needs}
 use Rattle.relative.proofs.words.unit.Statement.{statement}
 use Rattle.relative.proofs.words.unit.Tie as tie
 
-singular-requires : tie.Need-singular-requires
-singular-requires c κs = search needs
-
-unit-named-requires : tie.Need-unit-named-requires
-unit-named-requires c κs = search needs
-
 returns : tie.Need-returns
 unfolding unitOf
 returns c = rw (c .unit-named .ensures, c .before .singular .ensures)
 
 pub unit-spec : {M : Type 1} → statement M
-unit-spec = tie.close (tie.spec singular-requires unit-named-requires returns)
+unit-spec = tie.close (tie.spec (λ c κs. search needs) (λ c κs. search needs) returns)

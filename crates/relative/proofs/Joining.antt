@@ -1,71 +1,48 @@
--- What demand 3 promises of relative dates, over the definitions of specs/; the contracts of `parse` and `parse_with` carry it to
--- the code. In order: two bounds of pairs; joining.
+-- Demand 3, joining: two relative texts joined by a space answer as the second read from the first's answer, and are refused as
+-- out of range exactly if either step is. The contracts of `parse` and `parse_with` carry it to the code.
 -- Assumes nothing.
 use mathlib.Core.Path.{_≡_, refl, sym, ap, _∙_}
 use mathlib.Core.Logic.{_↔_, _⊎_, inl, inr, ⊎-elim}
-use mathlib.Core.Bool.{Bool, true, false, _&&_, _||_}
-use mathlib.Core.List.{List, [], _∷_, _++_}
-use Prim.Native.Nat.{ℕ, _+_, _≤_, _<_}
+use mathlib.Core.Bool.{Bool, true, _||_}
+use mathlib.Core.List.{List, _++_}
+use Prim.Native.Nat.{ℕ, _+_, _≤_}
 use native.Mathlib.Omega.{arith}
-use borrow.Author.Tests.{leb-true, le-leb}
-use lib.Dec.{leb, ltb}
 use lib.ListN.{length, length-append}
-use Rattle.text.specs.Bytes.{ascii, isAlphanumeric}
+use Rattle.text.specs.Bytes.{isAlphanumeric, ascii}
 use Rattle.text.specs.Words.{separator}
 use Rattle.text.specs.declared.words.Separator.the-variants.{Mark}
-use Rattle.text.specs.declared.number.Number.{Number}
-use Rattle.text.specs.declared.number.Number.the-variants.{Value, Not}
-use Rattle.text.proofs.Lists.{by-test}
+use Rattle.text.specs.declared.number.Number.the-variants.{Not}
 use Rattle.text.proofs.Taking.{words-append}
 use Rattle.time.specs.Range.{timeInRange}
 use Rattle.time.specs.declared.Time.{Time}
 use Rattle.time.specs.declared.Now.{Now}
 use Rattle.time.specs.declared.Now.the-variants.{At}
-use Rattle.time.specs.declared.Refusal.the-variants.{Pairs, Range}
+use Rattle.time.specs.declared.Refusal.the-variants.{Range}
 use Rattle.time.specs.declared.Answer.{Answer}
 use Rattle.time.specs.declared.Answer.the-variants.{Time as Answered, Refused}
 use Rattle.relative.specs.Words.{wordsOf}
 use Rattle.relative.specs.Pairs.{pairsOf, agoIn, known}
 use Rattle.relative.specs.Steps.{steps}
-use Rattle.relative.specs.Relative.{from, namedOf, byPairs, byName, relativeOf}
-use Rattle.relative.specs.Joined.{waitsFrom, Whole, spaced, after}
+use Rattle.relative.specs.Relative.{from, relativeOf}
+use Rattle.relative.specs.Joined.{Whole, spaced, after}
 use Rattle.relative.specs.declared.Pair.{Pair}
 use Rattle.relative.proofs.Holding.{steps-refused}
 use Rattle.relative.proofs.Texts.{pairsFrom-append, waitsFrom-append, known-append, ascii-append, steps-append, Good, steps-good}
 use Rattle.relative.proofs.Named.{relativeOf-of-pairs}
 
--- ---- two bounds of pairs: whatever the smaller one answered is answered alike, 5 excepted
-byPairs-bounds : (a b : ℕ) (s : List ℕ) (now : Now) → a ≤ b → (byPairs b s now ≡ byPairs a s now) ⊎ (byPairs a s now ≡ Refused Pairs)
-unfolding byPairs
-byPairs-bounds a b s now h =
-    by-test (ltb 0 (length (pairsOf s)) && (known (pairsOf s) || agoIn s))
-    (λ k. by-test (leb (length (pairsOf s)) a)
-    (λ l. let m : length (pairsOf s) ≤ a = leb-true _ _ l in inl (rw (k, l, le-leb (length (pairsOf s)) b (omega arith))))
-    (λ l. inr (rw (k, l))))
-    (λ k. inl (rw k))
-
-byName-bounds : (x : Number) (a b : ℕ) (s : List ℕ) (now : Now) → a ≤ b → (byName x b s now ≡ byName x a s now) ⊎ (byName x a s now ≡ Refused Pairs)
-byName-bounds (Value k) a b s now h = inl refl
-byName-bounds Not a b s now h = byPairs-bounds a b s now h
-
-pub larger-bound-answers-alike : (a b : ℕ) (s : List ℕ) (now : Now) → a ≤ b → (relativeOf b s now ≡ relativeOf a s now) ⊎ (relativeOf a s now ≡ Refused Pairs)
-unfolding relativeOf
-larger-bound-answers-alike a b s now h = by-test (ascii s) (λ e. rw e (byName-bounds (namedOf s) a b s now h)) (λ e. inl (rw e))
-
--- ---- joining
 -- what a whole text answers: its pairs from the current time
-known-or : (k a : Bool) → k ≡ true → (k || a) ≡ true
+pub known-or : (k a : Bool) → k ≡ true → (k || a) ≡ true
 known-or k a e = rw e
 
-answer-of-whole : (bound : ℕ) (s : List ℕ) (now : Now) → Whole s → length (pairsOf s) ≤ bound → relativeOf bound s now ≡ from now (pairsOf s)
+pub answer-of-whole : (bound : ℕ) (s : List ℕ) (now : Now) → Whole s → length (pairsOf s) ≤ bound → relativeOf bound s now ≡ from now (pairsOf s)
 answer-of-whole bound s now w h = relativeOf-of-pairs bound s now (w .plain) (w .some) (known-or (known (pairsOf s)) (agoIn s) (w .told)) h
 
 -- the join is whole, and has the pairs of both
-joined-pairs : (a b : List ℕ) → Whole a → pairsOf (spaced a b) ≡ pairsOf a ++ pairsOf b
+pub joined-pairs : (a b : List ℕ) → Whole a → pairsOf (spaced a b) ≡ pairsOf a ++ pairsOf b
 unfolding wordsOf isAlphanumeric
 joined-pairs a b w = rw (words-append (separator Mark) a b 32 refl, pairsFrom-append Not (wordsOf a) (wordsOf b), w .ended)
 
-joined-whole : (a b : List ℕ) → Whole a → Whole b → Whole (spaced a b)
+pub joined-whole : (a b : List ℕ) → Whole a → Whole b → Whole (spaced a b)
 unfolding ascii wordsOf isAlphanumeric
 joined-whole a b v w =
     record {
