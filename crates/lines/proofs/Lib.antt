@@ -1,0 +1,10 @@
+-- The laws of this crate. In order: the layout of a line; a row put into a room; the answer of a line; lines in a buffer; what is kept
+-- of one; an input that comes piece by piece; a whole run; the document's examples.
+pub mod Layouts
+pub mod Printing
+pub mod Answering
+pub mod Buffers
+pub mod Keeping
+pub mod Flow
+pub mod Run
+pub mod Examples

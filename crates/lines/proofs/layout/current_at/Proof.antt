@@ -1,0 +1,36 @@
+-- `lines::layout::current_at` meets its contract: an offset that 32 bits hold stays what it is.
+-- Assumes nothing.
+use lib.IntN.{pos, negsuc}
+use mir.Syntax.{w32, w64}
+use Rattle.ints.specs.Range.{In}
+use Rattle.ints.proofs.Machine.{known, read, fits, back}
+use Rattle.time.specs.Answers.{timeAt}
+use Rattle.time.specs.declared.Now.the-variants.{At}
+use Rattle.lines.specs.declared.layout.Current.the-variants.{Is}
+use borrow.Author.Needs.{needs}
+use Rattle.lines.proofs.layout.current_at.Statement.{statement}
+use Rattle.lines.proofs.layout.current_at.Tie as tie
+
+offset-in : (c : tie.After-known-told2) → In (negsuc 2147483647) (pos 2147483647) (c .before .offset .given .0 .0)
+offset-in c = rw (c .before .offset .given .1) at (c .before .before .before .before .before .before .pre)
+
+cast-t7 : tie.Need-cast-t7
+cast-t7 c = fits w32 tt (known w64 tt (offset-in c))
+
+returns : tie.Need-returns
+returns c = let at-z = c .before .before .before in
+    rw (at-z .before .seconds .given .1, c .before .offset .given .1)
+    (λ i. Is (At (timeAt (back w64 (at-z .before .seconds .given .0 .0) (at-z .known-told .given .0 .1) i) (read w32 tt (known w64 tt (offset-in c)) .is i))))
+
+pub current-at-spec : {M : Type 1} → statement M
+current-at-spec =
+    tie.close
+    (tie.spec
+    (λ c. search needs)
+    (λ c. search needs)
+    cast-t7
+    (λ c. search needs)
+    (λ c. search needs)
+    returns
+    (λ c. search needs)
+    (λ c. search needs))

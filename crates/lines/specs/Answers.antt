@@ -1,0 +1,42 @@
+-- Document 01, `whenread`: what a line is answered. The number is 9 for a line of the wrong layout or too long, tested first; else the
+-- reader's that the form names.
+-- Assumes nothing.
+use Prim.Native.Nat.{ℕ}
+use mathlib.Core.List.{List}
+use lib.IntN.{pos}
+use Rattle.time.specs.Answers.{answerNumber, answerTime}
+use Rattle.time.specs.declared.Answer.{Answer}
+use Rattle.time.specs.declared.Now.{Now}
+use Rattle.header.specs.Header.{headerOf}
+use Rattle.header.specs.Raw.{rule1, rawOf}
+use Rattle.iso.specs.Iso.{isoOf}
+use Rattle.relative.specs.Relative.{maxPairs, relativeOf}
+use Rattle.dates.specs.Any.{anyOf}
+use Rattle.lines.specs.Layout.{textOf, lineOf}
+use Rattle.lines.specs.Rows.{rowBytes}
+use Rattle.lines.specs.declared.layout.Form.{Form}
+use Rattle.lines.specs.declared.layout.Form.the-variants.{Header, Raw, Iso, Relative, Any}
+use Rattle.lines.specs.declared.layout.Line.{Line}
+use Rattle.lines.specs.declared.layout.Line.the-variants.{Asks, Wrong}
+use Rattle.lines.specs.declared.print.Row.{Row}
+
+abbrev pub answerBy : Form → List ℕ → Now → Answer
+answerBy Header t n = headerOf t
+answerBy Raw t n = rawOf rule1 t
+answerBy Iso t n = isoOf t
+answerBy Relative t n = relativeOf maxPairs t n
+answerBy Any t n = anyOf t n
+
+-- a refusal prints its number, 0, 0
+abbrev pub rowAt : Answer → Row
+rowAt a = record { number = answerNumber a; seconds = answerTime a .seconds; offset = answerTime a .offset }
+
+abbrev pub rowBy : Line → List ℕ → Row
+rowBy (Asks f n at) t = rowAt (answerBy f t n)
+rowBy Wrong t = record { number = 9; seconds = pos 0; offset = pos 0 }
+
+unfoldable pub rowOf : List ℕ → Row
+rowOf s = rowBy (lineOf s) (textOf s)
+
+unfoldable pub answerLine : List ℕ → List ℕ
+answerLine s = rowBytes (rowOf s)

@@ -1,0 +1,86 @@
+-- Document 01, `whenread`: a line is form, current seconds, current offset, text, at most 4,096 bytes before its end. Places are
+-- counted from 0: in `any`, tab, `-`, tab, `-`, tab, `now` the text begins at place 8.
+-- Assumes nothing.
+use Prim.Native.Nat.{ℕ, _+_, _^_}
+use mathlib.Core.Bool.{Bool, true, false, cond, _&&_}
+use mathlib.Core.List.{List, [], _∷_}
+use lib.Dec.{leb, eqb}
+use lib.IntN.{pos, negsuc}
+use lib.ListN.{length, take, drop}
+use Rattle.ints.specs.Range.{In}
+use Rattle.text.specs.Quote.{bytes}
+use Rattle.text.specs.Places.{firstPlace, has}
+use Rattle.text.specs.Number.{signedOf, fitSigned}
+use Rattle.text.specs.declared.number.Integer.{Integer}
+use Rattle.text.specs.declared.number.Integer.the-variants.{Is, NotOne}
+use Rattle.time.specs.Answers.{timeAt}
+use Rattle.time.specs.declared.Now.the-variants.{Missing, At}
+use Rattle.lines.specs.declared.layout.Form.the-variants.{Header, Raw, Iso, Relative, Any}
+use Rattle.lines.specs.declared.layout.Named.{Named}
+use Rattle.lines.specs.declared.layout.Named.the-variants.{As, Unknown}
+use Rattle.lines.specs.declared.layout.Current.{Current}
+use Rattle.lines.specs.declared.layout.Current.the-variants.{Is as Known, Neither}
+use Rattle.lines.specs.declared.layout.Line.{Line}
+use Rattle.lines.specs.declared.layout.Line.the-variants.{Asks, Wrong}
+
+-- the same bytes
+unfoldable pub same : List ℕ → List ℕ → Bool
+same [] [] = true
+same [] (y ∷ t) = false
+same (x ∷ s) [] = false
+same (x ∷ s) (y ∷ t) = eqb x y && same s t
+
+-- form (`header`, `raw`, `iso`, `relative`, `any`)
+unfoldable pub formOf : List ℕ → Named
+formOf s =
+    cond (same s (bytes "header")) (As Header)
+    (cond (same s (bytes "raw")) (As Raw)
+    (cond (same s (bytes "iso")) (As Iso)
+    (cond (same s (bytes "relative")) (As Relative)
+    (cond (same s (bytes "any")) (As Any) Unknown))))
+
+-- current seconds, current offset (signed numbers of 64 and 32 bits,
+abbrev pub currentAt : Integer → Integer → Current
+currentAt (Is z) (Is o) = Known (At (timeAt z o))
+currentAt (Is z) NotOne = Neither
+currentAt NotOne o = Neither
+
+-- or both `-`)
+unfoldable pub currentOf : List ℕ → List ℕ → Current
+currentOf s o =
+    cond (same s (bytes "-") && same o (bytes "-")) (Known Missing)
+    (currentAt (fitSigned (2 ^ 63) (signedOf s)) (fitSigned (2 ^ 31) (signedOf o)))
+
+-- tab between fields: the field that opens s, and what follows its tab
+abbrev pub tab : ℕ
+tab = 9
+
+abbrev pub field : List ℕ → List ℕ
+field s = take (firstPlace tab s) s
+
+abbrev pub rest : List ℕ → List ℕ
+rest s = drop (firstPlace tab s + 1) s
+
+-- the text, which keeps further tabs, and its place
+abbrev pub textOf : List ℕ → List ℕ
+textOf s = rest (rest (rest s))
+
+abbrev pub textPlace : List ℕ → ℕ
+textPlace s = firstPlace tab s + 1 + (firstPlace tab (rest s) + 1) + (firstPlace tab (rest (rest s)) + 1)
+
+abbrev pub asks : Named → Current → ℕ → Line
+asks (As f) (Known n) at = Asks f n at
+asks (As f) Neither at = Wrong
+asks Unknown c at = Wrong
+
+-- at most 4,096 bytes, three tabs at least, and each field as it has to be
+unfoldable pub lineOf : List ℕ → Line
+lineOf s =
+    cond (leb (length s) 4096 && (has tab s && (has tab (rest s) && has tab (rest (rest s)))))
+    (asks (formOf (field s)) (currentOf (field (rest s)) (field (rest (rest s)))) (textPlace s))
+    Wrong
+
+-- 32 signed bits hold it, if it is a number
+abbrev pub Fits32 : Integer → Type 0
+Fits32 (Is z) = In (negsuc 2147483647) (pos 2147483647) z
+Fits32 NotOne = Unit {0}

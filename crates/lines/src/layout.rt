@@ -1,0 +1,153 @@
+// The layout of a line: four fields with tabs between, of which the last keeps further tabs. A line is handed over without its end.
+ghost use mathlib.Core.Path.{_≡_};
+ghost use Prim.Native.Nat.{_≤_};
+ghost use lib.ListN.{length, take, drop};
+ghost use Rattle.lines.specs.Layout.{same as sameBytes, formOf, currentAt, currentOf, asks as asksOf, lineOf, Fits32};
+use text::number;
+use text::number::Integer;
+use text::places;
+use time::Now;
+use time::Time;
+
+pub enum Form {
+    Header,
+    Raw,
+    Iso,
+    Relative,
+    Any,
+}
+
+// What a line asks: the text from a place of the line on, in a form, at a current time. Or it is laid out wrongly, or too long.
+pub enum Line {
+    Asks(Form, Now, usize),
+    Wrong,
+}
+
+// A line of more than 4,096 bytes is not looked into.
+pub fn parse_line(line: &[u8]) -> Line
+    ensures { λ r. ⌜ r ≡ lineOf (now (line .entry)) ⌝ }
+{
+    if 4096 < line.len() {
+        return Line::Wrong;
+    }
+    let a = places::first_place(line, 9);
+    if line.len() <= a {
+        return Line::Wrong;
+    }
+    let rest = from(line, a + 1);
+    let b = places::first_place(rest, 9);
+    if rest.len() <= b {
+        return Line::Wrong;
+    }
+    let last = from(rest, b + 1);
+    let c = places::first_place(last, 9);
+    if last.len() <= c {
+        return Line::Wrong;
+    }
+    let form = form_of(up_to(line, a));
+    let current = current_of(up_to(rest, b), up_to(last, c));
+    asks(form, current, a + 1 + (b + 1) + (c + 1))
+}
+
+pub fn from(s: &[u8], at: usize) -> &[u8]
+    requires { ⌜ at ≤ length (now s) ⌝ }
+    ensures { λ r. ⌜ now r ≡ drop at (now (s .entry)) ⌝ }
+{
+    &s[at..]
+}
+
+pub fn up_to(s: &[u8], at: usize) -> &[u8]
+    requires { ⌜ at ≤ length (now s) ⌝ }
+    ensures { λ r. ⌜ now r ≡ take at (now (s .entry)) ⌝ }
+{
+    &s[..at]
+}
+
+pub enum Named {
+    As(Form),
+    Unknown,
+}
+
+pub enum Current {
+    Is(Now),
+    Neither,
+}
+
+fn asks(form: Named, current: Current, at: usize) -> Line
+    ensures { λ r. ⌜ r ≡ asksOf form current at ⌝ }
+{
+    match form {
+        Named::As(f) => match current {
+            Current::Is(n) => Line::Asks(f, n, at),
+            Current::Neither => Line::Wrong,
+        },
+        Named::Unknown => Line::Wrong,
+    }
+}
+
+// Forms are written in small letters alone.
+fn form_of(s: &[u8]) -> Named
+    ensures { λ r. ⌜ r ≡ formOf (now (s .entry)) ⌝ }
+{
+    if same(s, b"header") {
+        return Named::As(Form::Header);
+    }
+    if same(s, b"raw") {
+        return Named::As(Form::Raw);
+    }
+    if same(s, b"iso") {
+        return Named::As(Form::Iso);
+    }
+    if same(s, b"relative") {
+        return Named::As(Form::Relative);
+    }
+    if same(s, b"any") {
+        return Named::As(Form::Any);
+    }
+    Named::Unknown
+}
+
+// Numbers of 64 and of 32 bits, or both `-`.
+fn current_of(seconds: &[u8], offset: &[u8]) -> Current
+    ensures { λ r. ⌜ r ≡ currentOf (now (seconds .entry)) (now (offset .entry)) ⌝ }
+{
+    if same(seconds, b"-") & same(offset, b"-") {
+        return Current::Is(Now::Missing);
+    }
+    let z = number::signed_number(seconds, 9223372036854775808);
+    let o = number::signed_number(offset, 2147483648);
+    current_at(z, o)
+}
+
+fn current_at(seconds: Integer, offset: Integer) -> Current
+    requires { ⌜ Fits32 offset ⌝ }
+    ensures { λ r. ⌜ r ≡ currentAt seconds offset ⌝ }
+{
+    match seconds {
+        Integer::Is(z) => match offset {
+            Integer::Is(o) => Current::Is(Now::At(Time {
+                seconds: z,
+                offset: o as i32,
+            })),
+            Integer::NotOne => Current::Neither,
+        },
+        Integer::NotOne => Current::Neither,
+    }
+}
+
+// Whether two texts are the same, byte for byte.
+pub fn same(s: &[u8], t: &[u8]) -> bool
+    ensures { λ r. ⌜ r ≡ sameBytes (now (s .entry)) (now (t .entry)) ⌝ }
+{
+    if s.len() != t.len() {
+        return false;
+    }
+    let mut i = 0;
+    while i < s.len() {
+        if s[i] != t[i] {
+            return false;
+        }
+        i += 1;
+    }
+    true
+}

@@ -1,0 +1,97 @@
+// `whenread`, on slices: a line to its answer line, and a buffer of lines to their answers. The program adds reading and writing.
+//
+// A line is form, current seconds, current offset and text, with tabs between; its answer is number, seconds and offset, with tabs
+// between and a newline. Every line has an answer, of any length and any bytes, and no answer line is longer than 64 bytes.
+pub mod cut;
+pub mod layout;
+pub mod print;
+
+ghost use mathlib.Core.Path.{_≡_};
+ghost use Prim.Native.Nat.{_≤_, _<_};
+ghost use lib.ListN.{length};
+ghost use Rattle.calendar.specs.Table.{IsMonths};
+ghost use Rattle.time.specs.Answers.{numberOf};
+ghost use Rattle.lines.specs.Answers.{answerBy, rowAt, rowOf, answerLine};
+ghost use Rattle.lines.specs.Rows.{writtenIn, roomWith};
+use layout::Form;
+use layout::Line;
+use print::Row;
+use time::Answer;
+use time::Now;
+use time::Refusal;
+
+// Writes the answer line of `line`, which is without its end, to the front of `out`, and hands back how many bytes that took. Those
+// beyond stay. An answer that does not fit is not written: 0, and `out` holds what it held. 64 bytes are room for every answer.
+pub fn answer_with(months: &[u32; 4800], line: &[u8], out: &mut [u8]) -> usize
+    requires { ⌜ IsMonths (now months) ⌝ }
+    ensures { λ r. ⌜ r ≡ writtenIn (answerLine (now (line .entry))) (now (out .entry)) ⌝ }
+    ensures { λ _. ⌜ now (out .exit) ≡ roomWith (answerLine (now (line .entry))) (now (out .entry)) ⌝ }
+    ensures { λ r. ⌜ (r ≤ 64) × (64 ≤ length (now (out .entry)) → 0 < r) ⌝ }
+{
+    print::write_row(row_of(months, line), out)
+}
+
+// What a line asks, answered; 9 for one of the wrong layout.
+fn row_of(months: &[u32; 4800], line: &[u8]) -> Row
+    requires { ⌜ IsMonths (now months) ⌝ }
+    ensures { λ r. ⌜ r ≡ rowOf (now (line .entry)) ⌝ }
+{
+    let asked = layout::parse_line(line);
+    match asked {
+        Line::Asks(form, current, at) => {
+            let text = layout::from(line, at);
+            told(parse_as(months, form, text, current))
+        }
+        Line::Wrong => Row {
+            number: 9,
+            seconds: 0,
+            offset: 0,
+        },
+    }
+}
+
+fn parse_as(months: &[u32; 4800], form: Form, text: &[u8], current: Now) -> Answer
+    requires { ⌜ IsMonths (now months) ⌝ }
+    ensures { λ r. ⌜ r ≡ answerBy form (now (text .entry)) current ⌝ }
+{
+    match form {
+        Form::Header => header::parse_header(text),
+        Form::Raw => header::raw::parse_raw(text),
+        Form::Iso => iso::parse_git_date_format_with(months, text),
+        Form::Relative => relative::parse_with(months, text, current),
+        Form::Any => dates::parse_with(months, text, current),
+    }
+}
+
+// An answer's number, seconds and offset.
+fn told(a: Answer) -> Row
+    ensures { λ r. ⌜ r ≡ rowAt a ⌝ }
+{
+    match a {
+        Answer::Time(t) => Row {
+            number: 0,
+            seconds: t.seconds,
+            offset: t.offset,
+        },
+        Answer::Refused(why) => Row {
+            number: number_of(why),
+            seconds: 0,
+            offset: 0,
+        },
+    }
+}
+
+fn number_of(why: Refusal) -> u64
+    ensures { λ r. ⌜ r ≡ numberOf why ⌝ }
+{
+    match why {
+        Refusal::NotAscii => 1,
+        Refusal::Form => 2,
+        Refusal::Missing => 3,
+        Refusal::Current => 4,
+        Refusal::Pairs => 5,
+        Refusal::Range => 6,
+        Refusal::Offset => 7,
+        Refusal::Room => 8,
+    }
+}
