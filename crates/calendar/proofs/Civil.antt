@@ -1,5 +1,4 @@
--- Dates with a signed year, over the counts of Calendar: a signed number is moved up and down again (`natAbs-add-sub`), a count
--- down and up (`natAbs-sub-add`); a date that is one has its month and day, and exists (`IsDate-of-IsCivil`,
+-- Dates with a signed year, over the counts of Calendar: a date that is one has its month and day, and exists (`IsDate-of-IsCivil`,
 -- `exists-of-IsCivil`); the date of a counted day, and the day of that date (`civilDate-sub`, `civilDay-civilAt`,
 -- `IsCivil-civilAt`).
 -- Assumes nothing.
@@ -7,26 +6,16 @@ use mathlib.Core.Path.{_≡_, _∙_, refl, ap}
 use mathlib.Core.Bool.{true}
 use Prim.Native.Nat.{ℕ, _+_, _-_, _/_, _%_, _≤_, _<_}
 use native.Mathlib.Omega.{arith}
-use lib.IntN.{ℤ, pos, negsuc, natAbs, _+ℤ_, _-ℤ_, -ℤ-+ℤ-cancel, +ℤ-negℤ-cancel}
+use lib.IntN.{ℤ, pos, negsuc, natAbs, _+ℤ_, _-ℤ_}
 use lib.Signed.{_≤ℤ_, pos-natAbs, yes-nonNeg}
 use borrow.Author.Tests.{lt-ltb, le-leb}
-use Rattle.ints.proofs.Parts.{ints, add-parts}
+use Rattle.ints.proofs.Parts.{ints, add-parts, natAbs-sub-add}
 use Rattle.calendar.specs.Calendar.{yearStart, yearLength, leap, lengths, total, firstDay, monthLength, IsDate, monthOf}
 use Rattle.calendar.specs.Dates.{exists}
 use Rattle.calendar.specs.Civil.{Civil, yearCount, monthCount, IsCivil, civilDay, civilDate}
 use Rattle.calendar.proofs.Lengths.{firstDay-suc}
 use Rattle.calendar.proofs.Cycle.{le-of-firstDay, lt-of-firstDay-in-range}
 use Rattle.calendar.proofs.Dates.{IsDate-monthOf}
-
--- ---- moved up and down
-
--- moved up by k and, where that is not below 0, down again
-pub natAbs-add-sub : (z : ℤ) (k : ℕ) → pos 0 ≤ℤ (z +ℤ pos k) → pos (natAbs (z +ℤ pos k)) -ℤ pos k ≡ z
-natAbs-add-sub z k h = ap (λ (w : ℤ). w -ℤ pos k) (pos-natAbs (z +ℤ pos k) (yes-nonNeg h)) ∙ +ℤ-negℤ-cancel z (pos k)
-
--- moved down and up again
-pub natAbs-sub-add : (n k : ℕ) → natAbs (pos n -ℤ pos k +ℤ pos k) ≡ n
-natAbs-sub-add n k = ap natAbs (-ℤ-+ℤ-cancel (pos n) (pos k))
 
 pub yearCount-lt : (y : ℤ) → negsuc 9998 ≤ℤ y → y ≤ℤ pos 9999 → yearCount y < 20000
 yearCount-lt y l h =

@@ -17,7 +17,8 @@ use Rattle.calendar.specs.Civil.{Civil, yearCount, monthCount, IsCivil, 
 use Rattle.calendar.specs.declared.Found.the-variants.{At}
 use Rattle.calendar.proofs.Cycle.{firstDay-lt, firstDay-add-4800}
 use Rattle.calendar.proofs.Dates.{IsDate-month-unique, IsDate-day-unique, monthOf-of-IsDate}
-use Rattle.calendar.proofs.Civil.{natAbs-add-sub, natAbs-sub-add, IsDate-of-IsCivil, exists-of-IsCivil, civilDate-sub, civilDay-civilAt, IsCivil-civilAt}
+use Rattle.ints.proofs.Parts.{natAbs-add-sub, natAbs-sub-add}
+use Rattle.calendar.proofs.Civil.{IsDate-of-IsCivil, exists-of-IsCivil, civilDate-sub, civilDay-civilAt, IsCivil-civilAt}
 
 pub first-days-rise : (m n : ℕ) → m < n → firstDay m < firstDay n
 first-days-rise = firstDay-lt

@@ -2,13 +2,14 @@
 -- holds of each entry (`walk-getD`). A list that passes it with its entries for first days is the month table
 -- (`IsMonths-of-walk`). `cycle` is such a test with no list, at the 4,800 months of one cycle (`cycle-at`).
 -- Assumes nothing.
-use mathlib.Core.Path.{_≡_, subst, sym}
+use mathlib.Core.Path.{_≡_, subst, sym, _∙_}
 use mathlib.Core.Bool.{Bool, true, _&&_}
 use mathlib.Core.List.{List, [], _∷_}
 use Prim.Native.Nat.{ℕ, zero, suc, _+_, _<_}
 use native.Mathlib.Nat.{add-zero, zero-add, add-suc, suc-add, le-of-suc-le-suc, not-suc-le-zero}
 use lib.Dec.{T, eqb, eqb→eq}
 use lib.ListN.{length, getD, replicate, length-replicate}
+use lib.Seq.{ext-getD}
 use mir.Facts.{and-yes}
 use Rattle.calendar.specs.Calendar.{monthLength, firstDay}
 use Rattle.calendar.specs.Table.{IsMonths}
@@ -48,3 +49,9 @@ cycle f = walk (λ m x y. f m x) 0 0 (replicate 4800 0)
 
 pub cycle-at : (f : ℕ → ℕ → Bool) → T (cycle f) → (m : ℕ) → m < 4800 → T (f m (firstDay m))
 cycle-at f t m h = walk-getD (λ m x y. f m x) (replicate 4800 0) t m (rw length-replicate h)
+
+-- and there is one such list
+pub IsMonths-unique : {t u : List ℕ} → IsMonths t → IsMonths u → t ≡ u
+IsMonths-unique {t} {u} p q =
+    ext-getD 0 t u (p .size ∙ sym (q .size))
+    (λ k h. let l : k < 4800 = subst (λ (m : ℕ). k < m) (p .size) h in p .entry k l ∙ sym (q .entry k l))

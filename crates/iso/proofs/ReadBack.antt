@@ -29,7 +29,7 @@ use Rattle.time.specs.declared.Time.{Time}
 use Rattle.time.specs.declared.Answer.the-variants.{Time as Read}
 use Rattle.time.specs.declared.Written.the-variants.{Length}
 use Rattle.time.specs.declared.range.Instant.{Instant}
-use Rattle.time.proofs.Ranges.{pos-natAbs-add}
+use Rattle.ints.proofs.Parts.{pos-natAbs-add}
 use Rattle.iso.specs.Forms.{saidOf, fieldsOf, isSeparator, flexible}
 use Rattle.iso.specs.Iso.{dayOf, zoned, isoOf}
 use Rattle.iso.specs.declared.forms.Fields.the-variants.{Are}

@@ -25,7 +25,7 @@ use Rattle.text.proofs.Numbers.{Short, signedOf-short, fitSigned-of-length}
 use Rattle.calendar.specs.Calendar.{firstDay}
 use Rattle.calendar.specs.Civil.{Civil, IsCivil, monthCount, civilDay}
 use Rattle.calendar.specs.declared.Found.the-variants.{At as Found}
-use Rattle.calendar.proofs.Civil.{natAbs-sub-add}
+use Rattle.ints.proofs.Parts.{natAbs-sub-add}
 use Rattle.calendar.proofs.Theorems.{day-number-signed}
 use Rattle.time.specs.Answers.{answerNumber}
 use Rattle.time.specs.Range.{since1970}

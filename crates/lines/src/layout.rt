@@ -49,26 +49,26 @@ pub fn parse_line(line: &[u8]) -> Line
     asks(form, current, a + 1 + (b + 1) + (c + 1))
 }
 
-pub fn from(s: &[u8], at: usize) -> &[u8]
+pub(crate) fn from(s: &[u8], at: usize) -> &[u8]
     requires { ⌜ at ≤ length (now s) ⌝ }
     ensures { λ r. ⌜ now r ≡ drop at (now (s .entry)) ⌝ }
 {
     &s[at..]
 }
 
-pub fn up_to(s: &[u8], at: usize) -> &[u8]
+pub(crate) fn up_to(s: &[u8], at: usize) -> &[u8]
     requires { ⌜ at ≤ length (now s) ⌝ }
     ensures { λ r. ⌜ now r ≡ take at (now (s .entry)) ⌝ }
 {
     &s[..at]
 }
 
-pub enum Named {
+pub(crate) enum Named {
     As(Form),
     Unknown,
 }
 
-pub enum Current {
+pub(crate) enum Current {
     Is(Now),
     Neither,
 }

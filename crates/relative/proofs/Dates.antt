@@ -16,14 +16,15 @@ use Rattle.calendar.specs.Calendar.{firstDay, monthLength, monthOf, IsDate}
 use Rattle.calendar.specs.Civil.{Civil, monthCount, civilDay, civilDate}
 use Rattle.calendar.proofs.Lengths.{firstDay-suc, monthLength-ge}
 use Rattle.calendar.proofs.Dates.{IsDate-monthOf, IsDate-day-lt, monthOf-of-IsDate}
-use Rattle.calendar.proofs.Civil.{natAbs-sub-add, civilAt, civilDate-sub, monthCount-civilAt}
+use Rattle.ints.proofs.Parts.{natAbs-sub-add, pos-natAbs-add}
+use Rattle.calendar.proofs.Civil.{civilAt, civilDate-sub, monthCount-civilAt}
 use Rattle.time.specs.Answers.{timeAt}
 use Rattle.time.specs.Range.{leastSeconds, mostSeconds, leastOffset, mostOffset, secondsInRange, offsetInRange, timeInRange, since1970, timeOf, instantOf, InRange}
 use Rattle.time.specs.declared.Time.{Time}
 use Rattle.time.specs.declared.range.Instant.{Instant}
 use Rattle.time.specs.declared.Refusal.the-variants.{Range}
 use Rattle.time.specs.declared.Answer.the-variants.{Refused}
-use Rattle.time.proofs.Ranges.{timeOf-instantOf, pos-natAbs-add}
+use Rattle.time.proofs.Ranges.{timeOf-instantOf}
 use Rattle.relative.specs.Steps.{localSeconds, monthStart, monthsEarlier, landed}
 use Rattle.relative.specs.Months.{dateAt, clockAt, dayOfMonth, earlierDate, secondsAt, Earlier}
 use Rattle.relative.proofs.Landing.{range-of-secondsInRange, pos-sub, local-of, landed-of-month-lt}

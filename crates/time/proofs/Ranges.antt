@@ -5,11 +5,11 @@ use mathlib.Core.Path.{_≡_, refl, sym, ap, _∙_}
 use mathlib.Core.Bool.{Bool, true, false, _&&_}
 use Prim.Native.Nat.{ℕ, _+_, _≤_}
 use native.Mathlib.Omega.{arith}
-use lib.Dec.{T, leb}
+use lib.Dec.{leb}
 use lib.IntN.{ℤ, pos, negsuc, negℤ, natAbs, _+ℤ_, _-ℤ_}
-use lib.Signed.{leZ, nonNeg, _≤ℤ_, pos-natAbs}
+use lib.Signed.{_≤ℤ_}
 use Rattle.ints.specs.Range.{In, isIn}
-use Rattle.ints.proofs.Parts.{add-parts, up-neg, dn-neg, parts-eq, eq-parts, le-parts, parts-le}
+use Rattle.ints.proofs.Parts.{add-parts, le-parts, parts-le, natAbs-add-sub, natAbs-sub-add}
 use Rattle.ints.proofs.Machine.{leZ-sub-sub, isIn-of-In, In-of-isIn}
 use Rattle.text.proofs.Lists.{both}
 use Rattle.time.specs.Range.{leastSeconds, mostSeconds, secondsInRange, leastOffset, mostOffset, offsetInRange, timeInRange, since1970, timeOf, instantOf, movedOf, InRange}
@@ -21,27 +21,6 @@ use Rattle.time.specs.declared.range.Moved.the-variants.{In as Inside, O
 pub secondsInRange-since1970 : (n : ℕ) → secondsInRange (since1970 n) ≡ (leb 31715999 n && leb n 631138946400)
 unfolding secondsInRange
 secondsInRange-since1970 n = rw (leZ-sub-sub 31715999 n 377736739200, leZ-sub-sub n 631138946400 377736739200)
-
--- ---- a number moved up and down by k
-module _ (k : ℕ) where
-  -- up, from -k on: the sum is not below 0
-  pub pos-natAbs-add : (z : ℤ) → negℤ (pos k) ≤ℤ z → pos (natAbs (z +ℤ pos k)) ≡ z +ℤ pos k
-  pos-natAbs-add z h = pos-natAbs (z +ℤ pos k) (nonneg (z +ℤ pos k) (parts-le (pos 0) _ (omega (arith, add-parts z (pos k), le-parts h, up-neg (pos k), dn-neg (pos k)))))
-    where
-      nonneg : (y : ℤ) → pos 0 ≤ℤ y → T (nonNeg y)
-      nonneg (pos n) p = tt
-      nonneg (negsuc n) p = p .le
-
-  pub sub-natAbs-add : (z : ℤ) → negℤ (pos k) ≤ℤ z → pos (natAbs (z +ℤ pos k)) -ℤ pos k ≡ z
-  sub-natAbs-add z h =
-      parts-eq _ _ (omega (arith, eq-parts (pos-natAbs-add z h), add-parts (pos (natAbs (z +ℤ pos k))) (negℤ (pos k)), add-parts z (pos k), up-neg (pos k), dn-neg (pos k)))
-
-  -- down, and up again
-  pub natAbs-add-sub : (n : ℕ) → natAbs (pos n -ℤ pos k +ℤ pos k) ≡ n
-  natAbs-add-sub n = ap natAbs e
-    where
-      e : pos n -ℤ pos k +ℤ pos k ≡ pos n
-      e = parts-eq _ _ (omega (arith, add-parts (pos n -ℤ pos k) (pos k), add-parts (pos n) (negℤ (pos k)), up-neg (pos k), dn-neg (pos k)))
 
 -- ---- what is moved
 movedOf-of-not : (t : Time) → timeInRange t ≡ false → movedOf t ≡ Out
@@ -67,9 +46,9 @@ timeOf-instantOf t e =
     let p = both (secondsInRange (t .seconds)) (offsetInRange (t .offset)) e in
     let s = In-of-isIn leastSeconds mostSeconds (t .seconds) (p .0) in
     let o = In-of-isIn leastOffset mostOffset (t .offset) (p .1) in
-    let a : negsuc 377736739199 ≤ℤ t .seconds = parts-le _ _ (omega (arith, le-parts (s .low))) in
-    let b : negsuc 93599 ≤ℤ t .offset = parts-le _ _ (omega (arith, le-parts (o .low))) in
-    λ i. record { seconds = sub-natAbs-add 377736739200 (t .seconds) a i; offset = sub-natAbs-add 93600 (t .offset) b i }
+    let a : pos 0 ≤ℤ (t .seconds +ℤ pos 377736739200) = parts-le _ _ (omega (arith, le-parts (s .low), add-parts (t .seconds) (pos 377736739200))) in
+    let b : pos 0 ≤ℤ (t .offset +ℤ pos 93600) = parts-le _ _ (omega (arith, le-parts (o .low), add-parts (t .offset) (pos 93600))) in
+    λ i. record { seconds = natAbs-add-sub (t .seconds) 377736739200 a i; offset = natAbs-add-sub (t .offset) 93600 b i }
 
 pub instantOf-timeOf : (i : Instant) → instantOf (timeOf i) ≡ i
-instantOf-timeOf i = λ j. record { seconds = natAbs-add-sub 377736739200 (i .seconds) j; offset = natAbs-add-sub 93600 (i .offset) j }
+instantOf-timeOf i = λ j. record { seconds = natAbs-sub-add (i .seconds) 377736739200 j; offset = natAbs-sub-add (i .offset) 93600 j }

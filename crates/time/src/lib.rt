@@ -4,7 +4,7 @@ pub mod buf;
 pub mod clock;
 mod format;
 pub mod range;
-mod write;
+pub mod write;
 
 ghost use mathlib.Core.Path.{_≡_};
 ghost use Prim.Native.Nat.{_≤_, _<_};

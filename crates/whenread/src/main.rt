@@ -2,8 +2,8 @@
 //
 // Everything that can be said of an answer is said in `lines`; here are the reads and writes alone. A buffer holds the start of a
 // line that has no end yet, at most 4,097 bytes of it, and what was read behind it. No contract can say what is read or written;
-// `lines::cut` says which answers a buffer gives and what of it is kept, and `proofs/Flow.antt` there says that the answers come out
-// the same however the input is cut into reads.
+// `lines::cut` says which answers a buffer gives and what of it is kept, and `output-of-reads` in that crate's `proofs/Run.antt` says
+// that the answers come out the same however the input is cut into reads.
 mod help;
 
 ghost use Prim.Native.Nat.{_≤_};
