@@ -76,7 +76,7 @@ fn put_signed(z: i64, start: usize, end: usize, room: &mut [u8])
     requires { ⌜ (start + sizeOf z ≡ end + 6) × (end ≤ length (now room)) ⌝ }
     ensures { λ _. ⌜ now (room .exit) ≡ take start (now (room .entry)) ++ secondsBefore z (drop end (now (room .entry))) ⌝ }
 {
-    decimal::put_decimal(time::write::magnitude(z), end, room);
+    decimal::put_decimal(time::magnitude(z), end, room);
     if z < 0 {
         decimal::put_byte(45, start + 1, room);
         return;

@@ -57,7 +57,7 @@ pub fn answer(m: Moved) -> Answer
     ensures { λ r. ⌜ r ≡ answerOf m ⌝ }
 {
     match m {
-        Moved::In(i) => Answer::Time(time::range::time_of(i)),
+        Moved::In(i) => time::range::time_of(i),
         Moved::Out => Answer::Refused(Refusal::Range),
     }
 }

@@ -3,8 +3,9 @@
 -- Assumes nothing.
 use mathlib.Core.Path.{_≡_, refl, sym, ap, _∙_}
 use mathlib.Core.Bool.{Bool, true, false, _&&_}
-use Prim.Native.Nat.{ℕ, _+_, _≤_}
+use Prim.Native.Nat.{ℕ, _+_, _≤_, _<_}
 use native.Mathlib.Omega.{arith}
+use borrow.Author.Tests.{le-leb, lt-leb}
 use lib.Dec.{leb}
 use lib.IntN.{ℤ, pos, negsuc, negℤ, natAbs, _+ℤ_, _-ℤ_}
 use lib.Signed.{_≤ℤ_}
@@ -12,8 +13,10 @@ use Rattle.ints.specs.Range.{In, isIn}
 use Rattle.ints.proofs.Parts.{add-parts, le-parts, parts-le, natAbs-add-sub, natAbs-sub-add}
 use Rattle.ints.proofs.Machine.{leZ-sub-sub, isIn-of-In, In-of-isIn}
 use Rattle.text.proofs.Lists.{both}
-use Rattle.time.specs.Range.{leastSeconds, mostSeconds, secondsInRange, leastOffset, mostOffset, offsetInRange, timeInRange, since1970, timeOf, instantOf, movedOf, InRange}
+use Rattle.time.specs.Range.{leastSeconds, mostSeconds, secondsInRange, leastOffset, mostOffset, offsetInRange, timeInRange, since1970, timeOf, instantOf, movedOf, answerAt, InRange}
 use Rattle.time.specs.declared.Time.{Time}
+use Rattle.time.specs.declared.Refusal.the-variants.{Range}
+use Rattle.time.specs.declared.Answer.the-variants.{Time as At, Refused}
 use Rattle.time.specs.declared.range.Instant.{Instant}
 use Rattle.time.specs.declared.range.Moved.the-variants.{In as Inside, Out}
 
@@ -21,6 +24,38 @@ use Rattle.time.specs.declared.range.Moved.the-variants.{In as Inside, O
 pub secondsInRange-since1970 : (n : ℕ) → secondsInRange (since1970 n) ≡ (leb 31715999 n && leb n 631138946400)
 unfolding secondsInRange
 secondsInRange-since1970 n = rw (leZ-sub-sub 31715999 n 377736739200, leZ-sub-sub n 631138946400 377736739200)
+
+offsetInRange-sub : (n : ℕ) → offsetInRange (pos n -ℤ pos 93600) ≡ (leb 1 n && leb n 187199)
+unfolding offsetInRange
+offsetInRange-sub n = rw (leZ-sub-sub 1 n 93600, leZ-sub-sub n 187199 93600)
+
+-- ---- an instant as an answer
+module _ (i : Instant) where
+  pub timeInRange-timeOf : timeInRange (timeOf i) ≡ ((leb 31715999 (i .seconds) && leb (i .seconds) 631138946400) && (leb 1 (i .offset) && leb (i .offset) 187199))
+  unfolding timeInRange
+  timeInRange-timeOf = rw (secondsInRange-since1970 (i .seconds), offsetInRange-sub (i .offset))
+
+  pub answerAt-of-early : i .seconds < 31715999 → answerAt i ≡ Refused Range
+  unfolding answerAt
+  answerAt-of-early h = rw (timeInRange-timeOf, lt-leb 31715999 (i .seconds) h)
+
+  pub answerAt-of-late : 31715999 ≤ i .seconds → 631138946400 < i .seconds → answerAt i ≡ Refused Range
+  unfolding answerAt
+  answerAt-of-late e h = rw (timeInRange-timeOf, le-leb 31715999 (i .seconds) e, lt-leb (i .seconds) 631138946400 h)
+
+  pub answerAt-of-west : 31715999 ≤ i .seconds → i .seconds ≤ 631138946400 → i .offset < 1 → answerAt i ≡ Refused Range
+  unfolding answerAt
+  answerAt-of-west e l h = rw (timeInRange-timeOf, le-leb 31715999 (i .seconds) e, le-leb (i .seconds) 631138946400 l, lt-leb 1 (i .offset) h)
+
+  pub answerAt-of-east : 31715999 ≤ i .seconds → i .seconds ≤ 631138946400 → 1 ≤ i .offset → 187199 < i .offset → answerAt i ≡ Refused Range
+  unfolding answerAt
+  answerAt-of-east e l w h =
+      rw (timeInRange-timeOf, le-leb 31715999 (i .seconds) e, le-leb (i .seconds) 631138946400 l, le-leb 1 (i .offset) w, lt-leb (i .offset) 187199 h)
+
+  pub answerAt-of-InRange : InRange i → answerAt i ≡ At (timeOf i)
+  unfolding answerAt
+  answerAt-of-InRange p =
+      rw (timeInRange-timeOf, le-leb 31715999 (i .seconds) (p .early), le-leb (i .seconds) 631138946400 (p .late), le-leb 1 (i .offset) (p .west), le-leb (i .offset) 187199 (p .east))
 
 -- ---- what is moved
 movedOf-of-not : (t : Time) → timeInRange t ≡ false → movedOf t ≡ Out

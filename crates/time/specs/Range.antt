@@ -7,6 +7,9 @@ use mathlib.Core.Bool.{Bool, cond, _&&_}
 use lib.IntN.{ℤ, pos, negsuc, natAbs, _+ℤ_, _-ℤ_}
 use Rattle.ints.specs.Range.{isIn}
 use Rattle.time.specs.declared.Time.{Time}
+use Rattle.time.specs.declared.Refusal.the-variants.{Range}
+use Rattle.time.specs.declared.Answer.{Answer}
+use Rattle.time.specs.declared.Answer.the-variants.{Time as At, Refused}
 use Rattle.time.specs.declared.range.Instant.{Instant}
 use Rattle.time.specs.declared.range.Moved.{Moved}
 use Rattle.time.specs.declared.range.Moved.the-variants.{In, Out}
@@ -47,6 +50,10 @@ instantOf t = record { seconds = natAbs (t .seconds +ℤ pos 377736739200); offs
 
 unfoldable pub movedOf : Time → Moved
 movedOf t = cond (timeInRange t) (In (instantOf t)) Out
+
+-- an instant as an answer: 6 if its time is out of range
+unfoldable pub answerAt : Instant → Answer
+answerAt i = cond (timeInRange (timeOf i)) (At (timeOf i)) (Refused Range)
 
 -- the range in these numbers
 pub record InRange (i : Instant) : Type 0 where

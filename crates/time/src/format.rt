@@ -4,6 +4,7 @@ ghost use mathlib.Core.List.{_∷_, _++_};
 ghost use Prim.Native.Nat.{_+_, _-_, _≤_, _<_, _/_, _%_};
 ghost use lib.ListN.{length, take, drop};
 ghost use Rattle.calendar.specs.Table.{IsMonths};
+ghost use Rattle.time.specs.Clock.{clockOf};
 ghost use Rattle.time.specs.Header.{roomAfter};
 ghost use Rattle.time.specs.Iso.{fieldBefore, dateBefore, clockBefore, isoBytes, isoWritten, shownOf, ShownInRange};
 ghost use Rattle.time.specs.declared.format.Shown.the-variants.{At};
@@ -11,7 +12,6 @@ ghost use Rattle.time.specs.Range.{InRange};
 use crate::Refusal;
 use crate::Time;
 use crate::Written;
-use crate::clock;
 use crate::clock::Clock;
 use crate::range;
 use crate::range::Instant;
@@ -47,7 +47,7 @@ pub fn write_shown(months: &[u32; 4800], t: Time, i: Instant, room: &mut [u8]) -
     ensures { λ r. ⌜ r ≡ isoWritten t (now (room .entry)) ⌝ }
     ensures { λ _. ⌜ now (room .exit) ≡ roomAfter (isoWritten t (now (room .entry))) (isoBytes t) (now (room .entry)) ⌝ }
 {
-    let c = clock::local_clock(months, i);
+    let c = local_clock(months, i);
     let month = c.date.month;
     if month < 120000 {
         return Written::Refused(Refusal::Range);
@@ -64,6 +64,22 @@ pub fn write_shown(months: &[u32; 4800], t: Time, i: Instant, room: &mut [u8]) -
     put_clock(c, room);
     put_date(c, room);
     Written::Length(25)
+}
+
+// The local clock of an instant in range.
+fn local_clock(months: &[u32; 4800], i: Instant) -> Clock
+    requires table { ⌜ IsMonths (now months) ⌝ }
+    requires range { ⌜ InRange i ⌝ }
+    ensures is { λ r. ⌜ r ≡ clockOf i ⌝ }
+    ensures months { λ r. ⌜ r .date .month < 240000 ⌝ }
+    ensures days { λ r. ⌜ r .date .day < 31 ⌝ }
+    ensures seconds { λ r. ⌜ r .second < 86400 ⌝ }
+{
+    let local = i.seconds + i.offset - 93600;
+    Clock {
+        date: calendar::date_of(months, local / 86400),
+        second: local % 86400,
+    }
 }
 
 // `b` and two digits of n, in front of `end`.

@@ -4,7 +4,7 @@ pub mod buf;
 pub mod clock;
 mod format;
 pub mod range;
-pub mod write;
+mod write;
 
 ghost use mathlib.Core.Path.{_≡_};
 ghost use Prim.Native.Nat.{_≤_, _<_};
@@ -15,6 +15,7 @@ ghost use Rattle.calendar.specs.Table.{IsMonths};
 ghost use Rattle.time.specs.Header.{sizeOf, headerBytes, headerWritten, roomAfter};
 ghost use Rattle.time.specs.Iso.{isoBytes, isoWritten};
 use crate::format::Shown;
+pub use write::magnitude;
 
 pub struct Time {
     pub seconds: i64,

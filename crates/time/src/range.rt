@@ -1,7 +1,9 @@
 // The range, and times as numbers from 0: seconds from 1 January of year -10000, offsets from -93600. Arithmetic on instants is
 // done on these, and signs stay at the edge.
 ghost use mathlib.Core.Path.{_≡_};
-ghost use Rattle.time.specs.Range.{secondsInRange, since1970, movedOf, timeOf, InRange, MovedInRange};
+ghost use Rattle.time.specs.Range.{secondsInRange, since1970, movedOf, answerAt, MovedInRange};
+use crate::Answer;
+use crate::Refusal;
 use crate::Time;
 
 pub struct Instant {
@@ -39,15 +41,28 @@ pub fn instant_of(t: Time) -> Moved
     })
 }
 
-// Back from numbers from 0.
-pub fn time_of(i: Instant) -> Time
-    requires { ⌜ InRange i ⌝ }
-    ensures { λ r. ⌜ r ≡ timeOf i ⌝ }
+// Back from numbers from 0, or 6 where the time would be out of range.
+pub fn time_of(i: Instant) -> Answer
+    ensures { λ r. ⌜ r ≡ answerAt i ⌝ }
 {
-    Time {
-        seconds: (i.seconds as i64) - 377736739200,
-        offset: (i.offset as i32) - 93600,
+    let n = i.seconds;
+    let o = i.offset;
+    if n < 31715999 {
+        return Answer::Refused(Refusal::Range);
     }
+    if 631138946400 < n {
+        return Answer::Refused(Refusal::Range);
+    }
+    if o < 1 {
+        return Answer::Refused(Refusal::Range);
+    }
+    if 187199 < o {
+        return Answer::Refused(Refusal::Range);
+    }
+    Answer::Time(Time {
+        seconds: (n as i64) - 377736739200,
+        offset: (o as i32) - 93600,
+    })
 }
 
 // Whether seconds from 0 are in range.

@@ -1,27 +1,50 @@
--- `time::range::time_of` meets its contract: neither difference wraps.
+-- `time::range::time_of` meets its contract: the four tests are the range, and in it neither difference wraps.
 -- Assumes nothing.
+use mathlib.Core.Path.{sym, _∙_}
 use lib.IntN.{pos}
 use mir.Syntax.{w32, w64}
 use Rattle.ints.proofs.Machine.{cast, sub, lit, fits, read}
+use Rattle.time.specs.Range.{InRange}
+use Rattle.time.specs.declared.Answer.the-variants.{Time as At}
+use Rattle.time.proofs.Ranges.{answerAt-of-early, answerAt-of-late, answerAt-of-west, answerAt-of-east, answerAt-of-InRange}
 use borrow.Author.Needs.{needs}
 use Rattle.time.proofs.range.time_of.Statement.{statement}
 use Rattle.time.proofs.range.time_of.Tie as tie
 
-cast-t2 : tie.Need-cast-t2
-cast-t2 c = search needs
-
-sub-t3 : tie.Need-sub-t3
-sub-t3 c = fits w64 tt (sub (cast w64 _ tt (c .before .pre .late)) (lit (pos 377736739200)))
-
-cast-t4 : tie.Need-cast-t4
-cast-t4 c = search needs
-
-sub-t5 : tie.Need-sub-t5
-sub-t5 c = fits w32 tt (sub (cast w32 _ tt (c .before .before .pre .east)) (lit (pos 93600)))
+-- the instant, past all four tests
+in-range : (c : tie.Else4) → InRange (c .before .before .before .before .args .i)
+in-range c = record { early = c .before .before .before .if1 .left; late = c .before .before .if2 .left; west = c .before .if3 .left; east = c .if4 .left }
 
 returns : tie.Need-returns
-returns c = let p = c .before .before .pre in
-    λ i. record { seconds = read w64 tt (sub (cast w64 _ tt (p .late)) (lit (pos 377736739200))) .is i; offset = read w32 tt (sub (cast w32 _ tt (p .east)) (lit (pos 93600))) .is i }
+returns c = sym (answerAt-of-early (c .before .args .i) (c .if1 .taken))
+
+returns-2 : tie.Need-returns-2
+returns-2 c = sym (answerAt-of-late (c .before .before .args .i) (c .before .if1 .left) (c .if2 .taken))
+
+returns-3 : tie.Need-returns-3
+returns-3 c = sym (answerAt-of-west (c .before .before .before .args .i) (c .before .before .if1 .left) (c .before .if2 .left) (c .if3 .taken))
+
+returns-4 : tie.Need-returns-4
+returns-4 c = sym (answerAt-of-east (c .before .before .before .before .args .i) (c .before .before .before .if1 .left) (c .before .before .if2 .left) (c .before .if3 .left) (c .if4 .taken))
+
+cast-t9 : tie.Need-cast-t9
+cast-t9 c = search needs
+
+sub-t10 : tie.Need-sub-t10
+sub-t10 c = fits w64 tt (sub (cast w64 _ tt (in-range c .late)) (lit (pos 377736739200)))
+
+cast-t11 : tie.Need-cast-t11
+cast-t11 c = search needs
+
+sub-t12 : tie.Need-sub-t12
+sub-t12 c = fits w32 tt (sub (cast w32 _ tt (in-range c .east)) (lit (pos 93600)))
+
+returns-5 : tie.Need-returns-5
+returns-5 c = let p = in-range c in
+    (λ i. At (record { seconds = read w64 tt (sub (cast w64 _ tt (p .late)) (lit (pos 377736739200))) .is i; offset = read w32 tt (sub (cast w32 _ tt (p .east)) (lit (pos 93600))) .is i }))
+    ∙ sym (answerAt-of-InRange _ p)
 
 pub time-of-spec : {M : Type 1} → statement M
-time-of-spec = tie.close (tie.spec cast-t2 sub-t3 cast-t4 sub-t5 returns)
+time-of-spec =
+    tie.close
+    (tie.spec returns returns-2 returns-3 returns-4 cast-t9 sub-t10 cast-t11 sub-t12 returns-5)

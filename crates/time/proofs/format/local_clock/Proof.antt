@@ -1,10 +1,10 @@
--- `time::clock::local_clock` meets its contract: at every offset in range the local day is one of the calendar's.
+-- `time::format::local_clock` meets its contract: at every offset in range the local day is one of the calendar's.
 -- Assumes nothing.
 use Prim.Native.Nat.{_%_}
 use Rattle.time.specs.Clock.{localOf, clockOf}
 use borrow.Author.Needs.{needs}
-use Rattle.time.proofs.clock.local_clock.Statement.{statement}
-use Rattle.time.proofs.clock.local_clock.Tie as tie
+use Rattle.time.proofs.format.local_clock.Statement.{statement}
+use Rattle.time.proofs.format.local_clock.Tie as tie
 
 add-local : tie.Need-add-local
 add-local c = search needs
