@@ -1,0 +1,120 @@
+#![doc = include_str!("../README.md")]
+#![no_std]
+#![deny(missing_docs)]
+
+pub mod entries;
+mod refusal;
+mod time;
+
+pub use refusal::Refusal;
+pub use time::{Time, TimeBuf, ISO_SIZE, MAX_SIZE};
+
+/// Reads a header date, as it stands in a commit: `1745582210 +0200`.
+///
+/// Lenient as gix-date is: a first word that is no number is read as its leading digits, and an offset that cannot be
+/// read is 0. For a reader that refuses these see [`parse_raw`].
+///
+/// # Errors
+/// [`Refusal::NotAscii`]; [`Refusal::Form`] for a text with a `:` or without a number in front.
+///
+/// ```
+/// use chowderbell::{parse_header, Refusal, Time};
+///
+/// assert_eq!(parse_header("1745582210 +0200"), Ok(Time::new(1745582210, 7200)));
+/// assert_eq!(parse_header("12abc"), Ok(Time::new(12, 0)));
+/// assert_eq!(parse_header("5 +01:00"), Err(Refusal::Form));
+/// ```
+pub fn parse_header(text: impl AsRef<[u8]>) -> Result<Time, Refusal> {
+    answer(|seconds, offset| entries::header(text.as_ref(), seconds, offset))
+}
+
+/// Reads a raw date: a header date with an offset that is in use somewhere, and nothing else.
+///
+/// Hours are at most 14, minutes 0, 15, 30 or 45, seconds 0.
+///
+/// # Errors
+/// [`Refusal::NotAscii`], [`Refusal::Form`].
+///
+/// ```
+/// use chowderbell::{parse_raw, Refusal, Time};
+///
+/// assert_eq!(parse_raw("5 +1445"), Ok(Time::new(5, 53100)));
+/// assert_eq!(parse_raw("5 +1500"), Err(Refusal::Form));
+/// ```
+pub fn parse_raw(text: impl AsRef<[u8]>) -> Result<Time, Refusal> {
+    answer(|seconds, offset| entries::raw(text.as_ref(), seconds, offset))
+}
+
+/// Reads an ISO date with a time, in one of three forms: dotted, compact, flexible.
+///
+/// # Errors
+/// [`Refusal::NotAscii`]; [`Refusal::Form`], also for a date that does not exist and for an instant out of range.
+///
+/// ```
+/// use chowderbell::{parse_iso, Refusal, Time};
+///
+/// assert_eq!(parse_iso("2008.02.14 20:30:45 -0500"), Ok(Time::new(1203039045, -18000)));
+/// assert_eq!(parse_iso("20080214T203045.019-04:00"), Ok(Time::new(1203035445, -14400)));
+/// assert_eq!(parse_iso("2008-02-14T20:30:45Z"), Ok(Time::new(1203021045, 0)));
+/// assert_eq!(parse_iso("2008-02-30 20:30:45"), Err(Refusal::Form));
+/// ```
+pub fn parse_iso(text: impl AsRef<[u8]>) -> Result<Time, Refusal> {
+    answer(|seconds, offset| entries::iso(text.as_ref(), seconds, offset))
+}
+
+/// Reads a relative date, `2 weeks ago`, as seen from `now`; the offset is that of `now`.
+///
+/// The current time is the caller's to give: this library asks no clock. It is looked at only if the text is relative.
+///
+/// # Errors
+/// In the order in which they are tested: [`Refusal::NotAscii`], [`Refusal::Form`], [`Refusal::Pairs`],
+/// [`Refusal::Missing`], [`Refusal::Current`], [`Refusal::Range`].
+///
+/// ```
+/// use chowderbell::{parse_relative, Refusal, Time};
+///
+/// let now = Time::new(1622462400, 0); // 31 May 2021, noon
+/// assert_eq!(parse_relative("2 days 3 hours ago", Some(now)), Ok(Time::new(1622278800, 0)));
+/// // not 30 April: the 31st day of April is 1 May
+/// assert_eq!(parse_relative("1 month ago", Some(now)), Ok(Time::new(1619870400, 0)));
+/// assert_eq!(parse_relative("now", None), Err(Refusal::Missing));
+/// ```
+pub fn parse_relative(text: impl AsRef<[u8]>, now: Option<Time>) -> Result<Time, Refusal> {
+    let (has_now, at) = current(now);
+    answer(|seconds, offset| entries::relative(text.as_ref(), has_now, at.seconds, at.offset, seconds, offset))
+}
+
+/// Reads a date of any form: `@` and seconds, seconds from 100000000 on, ISO, relative, raw.
+///
+/// # Errors
+/// As [`parse_relative`] for a relative text, otherwise [`Refusal::NotAscii`] or [`Refusal::Form`].
+///
+/// ```
+/// use chowderbell::{parse, Refusal, Time};
+///
+/// assert_eq!(parse("@5", None), Ok(Time::new(5, 0)));
+/// assert_eq!(parse("100000000", None), Ok(Time::new(100000000, 0)));
+/// assert_eq!(parse("99999999", None), Err(Refusal::Form));
+/// assert_eq!(parse("yesterday", Some(Time::new(86400, 3600))), Ok(Time::new(0, 3600)));
+/// ```
+pub fn parse(text: impl AsRef<[u8]>, now: Option<Time>) -> Result<Time, Refusal> {
+    let (has_now, at) = current(now);
+    answer(|seconds, offset| entries::any(text.as_ref(), has_now, at.seconds, at.offset, seconds, offset))
+}
+
+/// The current time as the entries take it.
+fn current(now: Option<Time>) -> (u8, Time) {
+    match now {
+        Some(time) => (1, time),
+        None => (0, Time::new(0, 0)),
+    }
+}
+
+/// The answer of a reader.
+fn answer(entry: impl FnOnce(&mut i64, &mut i32) -> u8) -> Result<Time, Refusal> {
+    let mut time = Time::new(0, 0);
+    match entry(&mut time.seconds, &mut time.offset) {
+        0 => Ok(time),
+        number => Err(Refusal::of(number)),
+    }
+}

@@ -1,0 +1,91 @@
+//! The writers: bytes written, bytes not written, rooms of every length.
+
+use chowderbell::Refusal::*;
+use chowderbell::{entries, Time, TimeBuf, ISO_SIZE, MAX_SIZE};
+
+#[test]
+fn header() {
+    let mut buf = TimeBuf::default();
+    for (seconds, offset, wanted) in [
+        (1745582210, 7200, Ok("1745582210 +0200")),
+        (0, 0, Ok("0 +0000")),
+        (0, -30, Ok("0 -0000")),
+        (-1, 359999, Ok("-1 +9959")),
+        (5, 360000, Err(Offset)),
+        (5, -360000, Err(Offset)),
+        (5, i32::MIN, Err(Offset)),
+        (i64::MIN, -359999, Ok("-9223372036854775808 -9959")),
+        (i64::MAX, 359999, Ok("9223372036854775807 +9959")),
+    ] {
+        let time = Time::new(seconds, offset);
+        assert_eq!(time.to_str(&mut buf), wanted, "{time:?}");
+        if let Ok(text) = wanted {
+            assert_eq!(time.size(), text.len(), "{time:?}");
+        }
+    }
+    assert_eq!(Time::MIN.size(), MAX_SIZE);
+    // size has an answer also where the offset is too wide
+    assert_eq!(Time::new(10, i32::MIN).size(), 8);
+}
+
+#[test]
+fn iso() {
+    let mut buf = TimeBuf::default();
+    for (seconds, offset, wanted) in [
+        (1203039045, -18000, Ok("2008-02-14T20:30:45-05:00")),
+        (-62167219200, 0, Ok("0000-01-01T00:00:00+00:00")),
+        (-62167219201, 0, Err(Range)),
+        (253402207200, 86399, Ok("9999-12-31T21:59:59+23:59")),
+        (253402207201, 0, Err(Range)),
+        (0, 86400, Err(Offset)),
+        (i64::MAX, 86400, Err(Offset)),
+        (0, i32::MIN, Err(Offset)),
+    ] {
+        assert_eq!(Time::new(seconds, offset).to_iso(&mut buf), wanted, "{seconds} {offset}");
+    }
+}
+
+#[test]
+fn rooms_of_every_length() {
+    let time = Time::new(-1745582210, -7200);
+    for length in 0..=MAX_SIZE + 1 {
+        let mut room = vec![b'.'; length];
+        let header = b"-1745582210 -0200";
+        let wanted = if length < header.len() { Err(Room) } else { Ok(header.len()) };
+        assert_eq!(time.write_to(&mut room), wanted, "room of {length}");
+        let written = wanted.unwrap_or(0);
+        assert_eq!(room[..written], header[..written], "room of {length}");
+        assert!(room[written..].iter().all(|byte| *byte == b'.'), "room of {length}: bytes beyond were written");
+
+        let mut room = vec![b'.'; length];
+        let iso = b"1914-09-08T10:03:10-02:00";
+        let wanted = if length < ISO_SIZE { Err(Room) } else { Ok(ISO_SIZE) };
+        assert_eq!(time.write_iso(&mut room), wanted, "room of {length}");
+        let written = wanted.unwrap_or(0);
+        assert_eq!(room[..written], iso[..written], "room of {length}");
+        assert!(room[written..].iter().all(|byte| *byte == b'.'), "room of {length}: bytes beyond were written");
+    }
+}
+
+#[test]
+fn a_refusal_leaves_zeros() {
+    let (mut seconds, mut offset, mut length) = (77, 77, 77);
+    assert_eq!(entries::header(b"x", &mut seconds, &mut offset), 2);
+    assert_eq!((seconds, offset), (0, 0));
+    (seconds, offset) = (77, 77);
+    assert_eq!(entries::relative(b"now", 0, 1, 1, &mut seconds, &mut offset), 3);
+    assert_eq!((seconds, offset), (0, 0));
+    assert_eq!(entries::write_header(0, 360000, &mut [0; 30], &mut length), 7);
+    assert_eq!(length, 0);
+    // any value but 0 says that the current time is there
+    assert_eq!(entries::relative(b"now", 255, 1, 2, &mut seconds, &mut offset), 0);
+    assert_eq!((seconds, offset), (1, 2));
+}
+
+#[test]
+fn refusals_have_numbers_and_words() {
+    for (number, refusal) in [NotAscii, Form, Missing, Current, Pairs, Range, Offset, Room].into_iter().enumerate() {
+        assert_eq!(usize::from(refusal.number()), number + 1);
+        assert!(!refusal.to_string().is_empty());
+    }
+}

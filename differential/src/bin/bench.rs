@@ -1,0 +1,357 @@
+//! Measures the proved library and gix-date 0.18.1 in one process, on the same inputs. See `--help`.
+
+use std::hint::black_box;
+use std::process::ExitCode;
+use std::time::Instant;
+
+use chowderbell::entries;
+use differential::oracle::{self, Form, Now};
+use gix_date::parse::{TimeBuf, visible};
+
+const HELP: &str = "\
+Usage: bench [--rounds N] [WORD...]
+       bench --names
+       bench --run ours|gix-date N NAME
+Measure the proved library and gix-date 0.18.1 in one process, on the same inputs. Prints tables in Markdown:
+nanoseconds for one call, the best of N rounds (default 40), in which the two sides take turns.
+
+  WORD      measure only what has this word in its name
+  --names   the rows of the first table
+  --run     make N passes over the 64 inputs of a row by one side and print nothing: for counting instructions";
+
+/// 31 May 2021, noon.
+const NOW: (i64, i32) = (1622462400, 3600);
+/// Nanoseconds that one round of one side is to take.
+const ROUND: f64 = 2e6;
+/// The inputs of a row: several of a kind, so that no branch is learned by heart.
+const INPUTS: i64 = 64;
+
+/// One pass of one side over all inputs of a row.
+type Pass<'a> = Box<dyn FnMut() + 'a>;
+
+/// Something to be measured: both sides, on the same inputs.
+struct Row<'a> {
+    name: String,
+    inputs: usize,
+    gix: Pass<'a>,
+    ours: Pass<'a>,
+}
+
+impl Row<'_> {
+    /// Nanoseconds for one call, of gix-date and of ours: the best of `rounds`, in turns.
+    fn measure(&mut self, rounds: u32) -> (f64, f64) {
+        let counts = (passes(&mut self.gix), passes(&mut self.ours));
+        let mut least = (f64::MAX, f64::MAX);
+        for _ in 0..rounds {
+            least.0 = least.0.min(time_of(counts.0, &mut self.gix));
+            least.1 = least.1.min(time_of(counts.1, &mut self.ours));
+        }
+        (least.0 / self.inputs as f64, least.1 / self.inputs as f64)
+    }
+}
+
+/// How many passes make a round.
+fn passes(pass: &mut Pass) -> u64 {
+    let once = time_of(3, pass).max(1.0);
+    ((ROUND / once) as u64).clamp(1, 1_000_000)
+}
+
+/// The nanoseconds of one pass, over `count` of them.
+fn time_of(count: u64, pass: &mut Pass) -> f64 {
+    let start = Instant::now();
+    for _ in 0..count {
+        pass();
+    }
+    start.elapsed().as_nanos() as f64 / count as f64
+}
+
+/// The proved library's answer.
+fn our_answer(form: Form, text: &[u8]) -> (u8, i64, i32) {
+    let (mut seconds, mut offset) = (0, 0);
+    let (now, zone) = black_box(NOW);
+    let number = match form {
+        Form::Header => entries::header(text, &mut seconds, &mut offset),
+        Form::Raw => entries::raw(text, &mut seconds, &mut offset),
+        Form::Iso => entries::iso(text, &mut seconds, &mut offset),
+        Form::Relative => entries::relative(text, 1, now, zone, &mut seconds, &mut offset),
+        Form::Any => entries::any(text, 1, now, zone, &mut seconds, &mut offset),
+    };
+    (number, seconds, offset)
+}
+
+/// A reader on some texts. Both sides must read them alike.
+fn reader<'a>(name: &str, form: Form, texts: Vec<String>) -> Row<'a> {
+    let current = Now::at(NOW.0, NOW.1);
+    for text in &texts {
+        let (wanted, _) = oracle::wanted(form, text.as_bytes(), &current);
+        let got = our_answer(form, text.as_bytes());
+        assert_eq!(got, (wanted.number, wanted.seconds, wanted.offset), "{} {text:?}", form.name());
+    }
+    let now = current.zoned().expect("a current time in range");
+    let ours_texts = texts.clone();
+    Row {
+        name: name.to_string(),
+        inputs: texts.len(),
+        gix: Box::new(move || {
+            for text in &texts {
+                let text = black_box(text.as_str());
+                match form {
+                    Form::Header => drop(black_box(gix_date::parse_header(text))),
+                    Form::Raw => drop(black_box(visible::raw(text))),
+                    Form::Iso => drop(black_box(visible::iso(text))),
+                    // the current time is taken by value
+                    Form::Relative => drop(black_box(visible::relative(text, Some(now.clone())))),
+                    Form::Any => drop(black_box(visible::any(text, Some(now.clone())))),
+                }
+            }
+        }),
+        ours: Box::new(move || {
+            for text in &ours_texts {
+                black_box(our_answer(form, black_box(text.as_bytes())));
+            }
+        }),
+    }
+}
+
+/// The readers on texts as they are met.
+fn readers<'a>() -> Vec<Row<'a>> {
+    let seconds = |k: i64| 1745582210 - k * 12_345_678;
+    let offset = |k: i64| ["+0200", "-0500", "+0000", "+0530"][(k % 4) as usize];
+    let date = |k: i64| format!("{}-{:02}-{:02}", 1990 + k % 40, 1 + k % 12, 1 + k % 28);
+    let clock = |k: i64| format!("{:02}:{:02}:{:02}", k % 24, k % 60, (k * 7) % 60);
+    let unit = |k: i64| ["seconds", "minutes", "hours", "days", "weeks"][(k % 5) as usize];
+    let header = |k: i64| format!("{} {}", seconds(k), offset(k));
+    let flexible = |k: i64| format!("{} {} {}", date(k), clock(k), offset(k));
+    let compact = |k: i64| format!("{}T{}{}", date(k).replace('-', ""), clock(k).replace(':', ""), offset(k));
+    let ago = |k: i64| format!("{} {} ago", 1 + k % 30, unit(k));
+    let of_seconds = |k: i64| (0..32).map(|p| format!("{} {} ", 1 + (k + p) % 9, unit(k + p))).collect::<String>();
+    let with_months = |k: i64| {
+        (0..32)
+            .map(|p| format!("{} {} ", 1 + (k + p) % 3, ["months", "days"][((k + p) % 2) as usize]))
+            .collect::<String>()
+    };
+    let row =
+        |name: &str, form: Form, text: &dyn Fn(i64) -> String| reader(name, form, (0..INPUTS).map(text).collect());
+    vec![
+        row("header", Form::Header, &header),
+        row("header, no offset", Form::Header, &|k| seconds(k).to_string()),
+        row("raw", Form::Raw, &header),
+        row("raw, refused", Form::Raw, &|k| format!("{} +{:02}20", seconds(k), k % 24)),
+        row("ISO flexible", Form::Iso, &flexible),
+        row("ISO flexible, `T` and `Z`", Form::Iso, &|k| format!("{}T{}Z", date(k), clock(k))),
+        row("ISO dotted", Form::Iso, &|k| format!("{} {} {}", date(k).replace('-', "."), clock(k), offset(k))),
+        row("ISO compact", Form::Iso, &compact),
+        row("ISO, refused", Form::Iso, &|k| format!("{} {} x", date(k), clock(k))),
+        row("relative, `now`", Form::Relative, &|k| ["now", "today", "yesterday", "Now"][(k % 4) as usize].to_string()),
+        row("relative, seconds only", Form::Relative, &ago),
+        row("relative, one month", Form::Relative, &|k| format!("{} months ago", 1 + k % 30)),
+        row("relative, one year", Form::Relative, &|k| format!("{} years ago", 1 + k % 30)),
+        row("relative, month and days", Form::Relative, &|k| format!("{} months {} days ago", 1 + k % 12, 1 + k % 30)),
+        row("relative, 32 pairs of seconds", Form::Relative, &of_seconds),
+        row("relative, 32 pairs with months", Form::Relative, &with_months),
+        row("relative, refused", Form::Relative, &|k| format!("{} things", 1 + k % 30)),
+        row("any, `@` and seconds", Form::Any, &|k| format!("@{}", seconds(k))),
+        row("any, seconds", Form::Any, &|k| seconds(k).to_string()),
+        row("any, ISO", Form::Any, &flexible),
+        row("any, relative", Form::Any, &ago),
+        row("any, raw", Form::Any, &header),
+        row("any, refused", Form::Any, &|k| format!("no date at all {k}x")),
+    ]
+}
+
+/// The header writer and `size`, on times as a history has them, and on 19 digits.
+fn writers<'a>() -> Vec<Row<'a>> {
+    let met = |k: i64| (1745582210 - k * 12_345_678, [7200, -18000, 0, 19800][(k % 4) as usize]);
+    let long = |k: i64| (-5_000_000_000_000_000_000 + k * 12_345_678, met(k).1);
+    let mut rows = Vec::new();
+    for (kind, times) in
+        [("", (0..INPUTS).map(met).collect::<Vec<(i64, i32)>>()), (", 19 digits", (0..INPUTS).map(long).collect())]
+    {
+        let gix_times: Vec<gix_date::Time> = times.iter().map(|time| gix_date::Time::new(time.0, time.1)).collect();
+        let mut row = |name: &str, gix: Pass<'a>, ours: Pass<'a>| {
+            rows.push(Row { name: format!("{name}{kind}"), inputs: times.len(), gix, ours });
+        };
+        let we_write = || -> Pass<'a> {
+            let times = times.clone();
+            Box::new(move || {
+                for (seconds, offset) in &times {
+                    let (mut room, mut length) = ([0; 26], 0);
+                    let number = entries::write_header(black_box(*seconds), black_box(*offset), &mut room, &mut length);
+                    black_box((number, length, &room));
+                }
+            })
+        };
+        let gix = gix_times.clone();
+        row(
+            "header writer, by `to_str`",
+            Box::new(move || {
+                for time in &gix {
+                    let mut buf = TimeBuf::default();
+                    black_box(black_box(*time).to_str(&mut buf).len());
+                    black_box(&buf);
+                }
+            }),
+            we_write(),
+        );
+        let gix = gix_times.clone();
+        row(
+            "header writer, by `write_to`",
+            Box::new(move || {
+                for time in &gix {
+                    let mut room = [0; 26];
+                    let mut rest = &mut room[..];
+                    let _ = black_box(black_box(*time).write_to(&mut rest));
+                    black_box(&room);
+                }
+            }),
+            we_write(),
+        );
+        let sizes = times.clone();
+        row(
+            "`size`",
+            Box::new(move || {
+                for time in &gix_times {
+                    black_box(black_box(*time).size());
+                }
+            }),
+            Box::new(move || {
+                for (seconds, offset) in &sizes {
+                    black_box(entries::size(black_box(*seconds), black_box(*offset)));
+                }
+            }),
+        );
+    }
+    rows
+}
+
+/// A text that can be made longer at one place.
+struct Growing {
+    name: &'static str,
+    form: Form,
+    before: &'static str,
+    repeated: &'static str,
+    after: &'static str,
+}
+
+const fn growing(
+    name: &'static str,
+    form: Form,
+    before: &'static str,
+    repeated: &'static str,
+    after: &'static str,
+) -> Growing {
+    Growing { name, form, before, repeated, after }
+}
+
+const GROWING: &[Growing] = &[
+    growing("header, leading zeros", Form::Header, "", "0", "1745582210 +0200"),
+    growing("header, spaces between", Form::Header, "1745582210 ", " ", "+0200"),
+    growing("header, further words", Form::Header, "1745582210 +0200", " x", ""),
+    growing("header, letters after digits", Form::Header, "1745582210", "x", " +0200"),
+    growing("header, a colon at the end", Form::Header, "1745582210 +0200 ", "x", ":"),
+    growing("raw, leading zeros", Form::Raw, "", "0", "1745582210 +0200"),
+    growing("raw, spaces after", Form::Raw, "1745582210 +0200", " ", ""),
+    growing("ISO flexible, fraction", Form::Iso, "2008-02-14 20:30:45.", "0", " +0100"),
+    growing("ISO flexible, no offset", Form::Iso, "2008-02-14 20:30:45.", "0", ""),
+    growing("ISO flexible, parts of time", Form::Iso, "2008-02-14 20:30:45", ":0", ""),
+    growing("ISO flexible, signs", Form::Iso, "2008-02-14 20:30:45.", "+", ""),
+    growing("ISO flexible, spaces", Form::Iso, "2008-02-14 20:30:45", " ", "+0100"),
+    growing("ISO flexible, offset of colons", Form::Iso, "2008-02-14 20:30:45 +01", ":", "00"),
+    growing("ISO dotted, fraction", Form::Iso, "2008.02.14 20:30:45.", "0", " +0100"),
+    growing("ISO compact, fraction", Form::Iso, "20080214T203045.", "0", "+0100"),
+    growing("ISO, trimmed", Form::Iso, "", " ", "2008-02-14 20:30:45"),
+    growing("relative, words passed over", Form::Relative, "2 days", " and", " ago"),
+    growing("relative, separators", Form::Relative, "2", ".", "days ago"),
+    growing("relative, leading zeros", Form::Relative, "", "0", "2 days ago"),
+    growing("relative, a long word", Form::Relative, "2 days ", "x", " ago"),
+    growing("relative, `ago`", Form::Relative, "2 months", " ago", ""),
+    growing("relative, trimmed", Form::Relative, "", " ", "now"),
+    growing("any, words passed over", Form::Any, "2 days", " and", " ago"),
+    growing("any, fraction", Form::Any, "2008-02-14 20:30:45.", "0", " +0100"),
+    growing("any, leading zeros", Form::Any, "@", "0", "5"),
+    growing("any, refused", Form::Any, "no date", " x", ""),
+];
+
+impl Growing {
+    /// The text at `times` its first length.
+    fn text(&self, times: usize) -> String {
+        let fixed = self.before.len() + self.after.len();
+        let first = fixed + self.repeated.len();
+        let count = (first * times - fixed) / self.repeated.len();
+        format!("{}{}{}", self.before, self.repeated.repeat(count), self.after)
+    }
+}
+
+fn main() -> ExitCode {
+    let words: Vec<String> = std::env::args().skip(1).collect();
+    let words: Vec<&str> = words.iter().map(String::as_str).collect();
+    match words.as_slice() {
+        ["--help"] => println!("{HELP}"),
+        ["--names"] => readers().iter().chain(&writers()).for_each(|row| println!("{}", row.name)),
+        ["--run", side @ ("ours" | "gix-date"), passes, name] => {
+            let row = readers().into_iter().chain(writers()).find(|row| row.name == *name);
+            let (Some(mut row), Ok(passes)) = (row, passes.parse::<u64>()) else {
+                return usage("--run needs a number and the name of a row");
+            };
+            let pass = if *side == "ours" { &mut row.ours } else { &mut row.gix };
+            (0..passes).for_each(|_| pass());
+        }
+        ["--rounds", rounds, chosen @ ..] => match rounds.parse() {
+            Ok(rounds) if rounds > 0 => tables(rounds, chosen),
+            _ => return usage("--rounds needs a number"),
+        },
+        [word, ..] if word.starts_with("--") => return usage("unknown option, or its words are missing"),
+        chosen => tables(40, chosen),
+    }
+    ExitCode::SUCCESS
+}
+
+fn usage(what: &str) -> ExitCode {
+    eprintln!("bench: {what}\n{HELP}");
+    ExitCode::from(2)
+}
+
+fn tables(rounds: u32, chosen: &[&str]) {
+    let is_chosen = |name: &str| chosen.is_empty() || chosen.iter().any(|word| name.contains(word));
+    println!("{}; {}; best of {rounds} rounds\n", jiff::Zoned::now().date(), processor());
+    println!("| what | gix-date, ns | ours, ns | times as fast |\n|---|---:|---:|---:|");
+    for mut row in readers().into_iter().chain(writers()).filter(|row| is_chosen(&row.name)) {
+        let (gix, ours) = row.measure(rounds);
+        println!("| {} | {} | {} | {:.1} |", row.name, shown(gix), shown(ours), gix / ours);
+    }
+
+    println!(
+        "\nLonger texts: nanoseconds at 1, 10, 100 and 1000 times the length; growth is from 100 to 1000 times.\n"
+    );
+    println!(
+        "| what | bytes at first | gix-date, ns | ours, ns | gix-date grows | ours grows | times as fast at 1000 |"
+    );
+    println!("|---|---:|---:|---:|---:|---:|---:|");
+    for row in GROWING.iter().filter(|row| is_chosen(row.name)) {
+        let times = [1, 10, 100, 1000].map(|times| reader(row.name, row.form, vec![row.text(times)]).measure(rounds));
+        let list = |side: fn(&(f64, f64)) -> f64| times.each_ref().map(|pair| shown(side(pair))).join(" · ");
+        let [.., (gix_100, ours_100), (gix_1000, ours_1000)] = times;
+        println!(
+            "| {} | {} | {} | {} | {:.1} | {:.1} | {:.1} |",
+            row.name,
+            row.text(1).len(),
+            list(|pair| pair.0),
+            list(|pair| pair.1),
+            gix_1000 / gix_100,
+            ours_1000 / ours_100,
+            gix_1000 / ours_1000
+        );
+    }
+}
+
+/// Nanoseconds, to three digits or so.
+fn shown(time: f64) -> String {
+    if time < 100.0 { format!("{time:.1}") } else { format!("{time:.0}") }
+}
+
+/// The kind of machine, as it tells.
+fn processor() -> String {
+    let told = std::fs::read_to_string("/proc/cpuinfo").unwrap_or_default();
+    let model = told.lines().find_map(|line| line.strip_prefix("model name")?.split_once(": "));
+    model.map_or("an unknown processor", |(_, model)| model).to_string()
+}

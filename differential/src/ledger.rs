@@ -1,0 +1,371 @@
+//! Compares answers, keeps count, and tells what differs.
+
+use std::fmt;
+use std::io::{IsTerminal, Write as _};
+use std::time::{Duration, Instant};
+
+use crate::fence::Fence;
+use crate::oracle::{self, Answer, By, Bytes, FORMS, Form, Now, Writer};
+use crate::side::Side;
+
+/// The longest text that is asked.
+pub const LONGEST: usize = 1 << 16;
+/// How many differences of a row are told as they are met. The rest is counted.
+const TOLD: u64 = 3;
+/// What outputs and rooms hold before a call, so that a byte left alone can be told from a byte written.
+const SECONDS_BEFORE: i64 = 0x5a5a_5a5a_5a5a_5a5a;
+const OFFSET_BEFORE: i32 = 0x5a5a_5a5a;
+const LENGTH_BEFORE: usize = 0x5a5a;
+const ROOM_BEFORE: u8 = 0xa5;
+
+/// One question, to print and to compare by size.
+#[derive(Clone, PartialEq, Eq)]
+pub enum Question {
+    Read { form: Form, text: Vec<u8>, now: Option<(i64, i32)> },
+    Size { seconds: i64, offset: i32 },
+    Write { writer: Writer, seconds: i64, offset: i32, room: usize },
+}
+
+impl Question {
+    /// Smaller questions come first: short texts, few bytes of room, small numbers.
+    fn rank(&self) -> (usize, u64, u32, Vec<u8>) {
+        match self {
+            Question::Read { text, now, .. } => {
+                let (seconds, offset) = now.unwrap_or((0, 0));
+                (text.len(), seconds.unsigned_abs(), offset.unsigned_abs(), text.clone())
+            }
+            Question::Size { seconds, offset } => (0, seconds.unsigned_abs(), offset.unsigned_abs(), Vec::new()),
+            Question::Write { seconds, offset, room, .. } => {
+                (*room, seconds.unsigned_abs(), offset.unsigned_abs(), Vec::new())
+            }
+        }
+    }
+}
+
+impl fmt::Display for Question {
+    fn fmt(&self, f: &mut fmt::Formatter<'_>) -> fmt::Result {
+        match self {
+            Question::Read { form, text, now } => {
+                write!(f, "{} \"{}\"", form.name(), text.escape_ascii())?;
+                match now {
+                    Some((seconds, offset)) if matches!(form, Form::Relative | Form::Any) => {
+                        write!(f, ", current time {seconds} {offset}")
+                    }
+                    _ => Ok(()),
+                }
+            }
+            Question::Size { seconds, offset } => write!(f, "size of {seconds} {offset}"),
+            Question::Write { writer, seconds, offset, room } => {
+                write!(f, "{}, {seconds} {offset}, room of {room}", writer.name())
+            }
+        }
+    }
+}
+
+/// A question with both answers, as they are printed.
+#[derive(Clone)]
+pub struct Difference {
+    pub question: Question,
+    pub wanted: String,
+    pub got: String,
+}
+
+impl fmt::Display for Difference {
+    fn fmt(&self, f: &mut fmt::Formatter<'_>) -> fmt::Result {
+        write!(f, "{}\n  wanted {}\n  got    {}", self.question, self.wanted, self.got)
+    }
+}
+
+/// The count of one reader or writer.
+#[derive(Default)]
+pub struct Row {
+    pub compared: u64,
+    /// Answered 0.
+    pub accepted: u64,
+    /// Answers that are document 01's alone: by intent, or where gix-date cannot be asked.
+    pub by_document: u64,
+    pub differ: u64,
+    pub smallest: Option<Difference>,
+}
+
+const SIZE_ROW: usize = FORMS.len();
+const ROWS: usize = FORMS.len() + 3;
+
+/// Everything that was compared.
+pub struct Ledger<'a> {
+    side: &'a dyn Side,
+    fence: Fence,
+    at_last: bool,
+    rows: [Row; ROWS],
+    /// No more questions after the first difference.
+    stop_at_first: bool,
+    suite: String,
+    begun: Instant,
+    told: Instant,
+    show: bool,
+    until_told: u32,
+}
+
+impl<'a> Ledger<'a> {
+    pub fn new(side: &'a dyn Side) -> Ledger<'a> {
+        Ledger {
+            side,
+            fence: Fence::new(LONGEST),
+            at_last: false,
+            rows: Default::default(),
+            stop_at_first: false,
+            suite: String::new(),
+            begun: Instant::now(),
+            told: Instant::now(),
+            show: true,
+            until_told: 0,
+        }
+    }
+
+    /// For a side that is known to be wrong: stops at the first difference and prints nothing.
+    pub fn until_first(side: &'a dyn Side) -> Ledger<'a> {
+        Ledger { stop_at_first: true, show: false, ..Ledger::new(side) }
+    }
+
+    /// True once there is nothing more to ask.
+    pub fn is_over(&self) -> bool {
+        self.stop_at_first && self.differ() > 0
+    }
+
+    pub fn compared(&self) -> u64 {
+        self.rows.iter().map(|row| row.compared).sum()
+    }
+
+    pub fn differ(&self) -> u64 {
+        self.rows.iter().map(|row| row.differ).sum()
+    }
+
+    /// Names what is compared next.
+    pub fn begin(&mut self, suite: String) {
+        self.suite = suite;
+        self.begun = Instant::now();
+        self.tell();
+    }
+
+    /// One line for a suite that is done.
+    pub fn end(&mut self, compared: u64) {
+        if self.show {
+            self.clear();
+            let seconds = self.begun.elapsed().as_secs_f64();
+            println!("{:<34} {:>13} compared  {seconds:>6.1} s", self.suite, grouped(compared));
+        }
+    }
+
+    /// Asks every reader.
+    pub fn ask_all(&mut self, text: &[u8], now: &Now) {
+        for form in FORMS {
+            self.ask(form, text, now);
+        }
+    }
+
+    /// Asks one reader, and compares number, seconds and offset, on a refusal also that both are 0.
+    pub fn ask(&mut self, form: Form, text: &[u8], now: &Now) {
+        if self.is_over() {
+            return;
+        }
+        let (wanted, by) = oracle::wanted(form, text, now);
+        let got = self.read(form, text, now);
+        let row = &mut self.rows[form as usize];
+        row.compared += 1;
+        row.accepted += u64::from(wanted.number == 0);
+        row.by_document += u64::from(by == By::Document);
+        if got != wanted {
+            let question = Question::Read { form, text: text.to_vec(), now: now.time };
+            self.note(form as usize, question, shown(wanted), shown(got));
+        }
+        self.tick();
+    }
+
+    /// Asks `size`.
+    pub fn ask_size(&mut self, seconds: i64, offset: i32) {
+        if self.is_over() {
+            return;
+        }
+        let (wanted, got) = (oracle::size(seconds, offset), self.side.size(seconds, offset));
+        let row = &mut self.rows[SIZE_ROW];
+        row.compared += 1;
+        row.accepted += 1;
+        if got != wanted {
+            self.note(SIZE_ROW, Question::Size { seconds, offset }, wanted.to_string(), got.to_string());
+        }
+        self.tick();
+    }
+
+    /// Asks a writer, in rooms of every length from 0 to one more than is needed.
+    pub fn ask_rooms(&mut self, writer: Writer, seconds: i64, offset: i32) {
+        let longest = match oracle::written(writer, seconds, offset) {
+            Bytes::Written(_, length) => length + 1,
+            Bytes::Refused(_) => 28,
+        };
+        for room in 0..=longest {
+            self.ask_write(writer, seconds, offset, room);
+        }
+    }
+
+    /// Asks a writer, and compares number, length and every byte of the room, those before it and those beyond what was
+    /// written among them.
+    pub fn ask_write(&mut self, writer: Writer, seconds: i64, offset: i32, room: usize) {
+        if self.is_over() {
+            return;
+        }
+        let at_row = SIZE_ROW + 1 + writer as usize;
+        let (mut bytes, mut number, mut length) = ([ROOM_BEFORE; 64], 0, 0);
+        match oracle::written(writer, seconds, offset) {
+            Bytes::Refused(refusal) => number = refusal,
+            Bytes::Written(_, needed) if room < needed => number = 8,
+            Bytes::Written(written, needed) => {
+                length = needed;
+                bytes[32..][..length].copy_from_slice(&written[..length]);
+            }
+        }
+        // the room ends at the fence; 32 bytes before it are watched
+        let lent = self.fence.last(32 + room);
+        lent.fill(ROOM_BEFORE);
+        let mut got_length = LENGTH_BEFORE;
+        let got = self.side.write(writer, seconds, offset, &mut lent[32..], &mut got_length);
+        let row = &mut self.rows[at_row];
+        row.compared += 1;
+        row.accepted += u64::from(number == 0);
+        if got != number || got_length != length || lent != &bytes[..32 + room] {
+            let wanted = format!("{number} {length} \"{}\"", bytes[32..32 + room].escape_ascii());
+            let got = format!("{got} {got_length} \"{}\"", lent[32..].escape_ascii());
+            self.note(at_row, Question::Write { writer, seconds, offset, room }, wanted, got);
+        }
+        self.tick();
+    }
+
+    /// What the side answers. The text lies at a fence, and has to be as it was afterwards.
+    fn read(&mut self, form: Form, text: &[u8], now: &Now) -> Answer {
+        self.at_last = !self.at_last;
+        let lent = if self.at_last { self.fence.last(text.len()) } else { self.fence.first(text.len()) };
+        lent.copy_from_slice(text);
+        let (mut seconds, mut offset) = (SECONDS_BEFORE, OFFSET_BEFORE);
+        let number = self.side.read(form, lent, now, &mut seconds, &mut offset);
+        assert!(lent == text, "{} changed its text \"{}\"", form.name(), text.escape_ascii());
+        Answer { number, seconds, offset }
+    }
+
+    fn note(&mut self, row: usize, question: Question, wanted: String, got: String) {
+        let difference = Difference { question, wanted, got };
+        let row = &mut self.rows[row];
+        row.differ += 1;
+        let tell = self.show && row.differ <= TOLD;
+        if row.smallest.as_ref().is_none_or(|smallest| difference.question.rank() < smallest.question.rank()) {
+            row.smallest = Some(difference.clone());
+        }
+        if tell {
+            self.clear();
+            println!("differs: {difference}");
+        }
+    }
+
+    /// Tells how far it is, a few times a second.
+    fn tick(&mut self) {
+        if self.until_told > 0 {
+            self.until_told -= 1;
+            return;
+        }
+        self.until_told = 1 << 12;
+        if self.told.elapsed() > Duration::from_millis(200) {
+            self.tell();
+        }
+    }
+
+    fn tell(&mut self) {
+        self.told = Instant::now();
+        if self.show && std::io::stderr().is_terminal() {
+            eprint!("\r\x1b[K{}: {} compared, {} differ", self.suite, grouped(self.compared()), grouped(self.differ()));
+            let _ = std::io::stderr().flush();
+        }
+    }
+
+    fn clear(&self) {
+        if std::io::stderr().is_terminal() {
+            eprint!("\r\x1b[K");
+        }
+    }
+
+    /// The smallest difference, its text cut down as far as it still differs.
+    pub fn smallest(&mut self) -> Option<Difference> {
+        (0..ROWS).filter_map(|row| self.smallest_of(row)).min_by_key(|difference| difference.question.rank())
+    }
+
+    fn smallest_of(&mut self, row: usize) -> Option<Difference> {
+        let difference = self.rows[row].smallest.clone()?;
+        let Question::Read { form, text, now } = difference.question else { return Some(difference) };
+        let current = now.map_or(Now::missing(), |(seconds, offset)| Now::at(seconds, offset));
+        let text = self.cut_down(form, text, &current);
+        let (wanted, _) = oracle::wanted(form, &text, &current);
+        let got = self.read(form, &text, &current);
+        Some(Difference { question: Question::Read { form, text, now }, wanted: shown(wanted), got: shown(got) })
+    }
+
+    /// Takes away runs of bytes, long ones first, as long as the answers still differ.
+    fn cut_down(&mut self, form: Form, mut text: Vec<u8>, now: &Now) -> Vec<u8> {
+        let mut run = text.len();
+        while run > 0 {
+            let mut at = 0;
+            while at + run <= text.len() {
+                let mut shorter = text.clone();
+                shorter.drain(at..at + run);
+                if oracle::wanted(form, &shorter, now).0 != self.read(form, &shorter, now) {
+                    text = shorter;
+                } else {
+                    at += 1;
+                }
+            }
+            run = if run > text.len() { text.len() } else { run - 1 };
+        }
+        text
+    }
+
+    /// The summary: a row for each reader and writer, and what differs.
+    pub fn summary(&mut self) {
+        println!();
+        println!(
+            "{:<14} {:>14} {:>14} {:>14} {:>16} {:>8}",
+            "", "compared", "accepted", "refused", "document 01's", "differ"
+        );
+        for (name, row) in ROW_NAMES.iter().zip(&self.rows) {
+            println!(
+                "{name:<14} {:>14} {:>14} {:>14} {:>16} {:>8}",
+                grouped(row.compared),
+                grouped(row.accepted),
+                grouped(row.compared - row.accepted),
+                grouped(row.by_document),
+                grouped(row.differ)
+            );
+        }
+        println!("{:<14} {:>14} {:>62}", "all", grouped(self.compared()), grouped(self.differ()));
+        println!("\"document 01's\": answers that gix-date cannot give (4) or gives otherwise by intent (1, 5).");
+        for (row, name) in ROW_NAMES.iter().enumerate() {
+            if let Some(difference) = self.smallest_of(row) {
+                println!("\nsmallest of {name}: {difference}");
+            }
+        }
+    }
+}
+
+const ROW_NAMES: [&str; ROWS] = ["header", "raw", "iso", "relative", "any", "size", "header writer", "ISO writer"];
+
+fn shown(answer: Answer) -> String {
+    format!("{} {} {}", answer.number, answer.seconds, answer.offset)
+}
+
+/// A number with a comma after every third digit from the right.
+pub fn grouped(number: u64) -> String {
+    let digits = number.to_string();
+    let mut out = String::new();
+    for (place, digit) in digits.chars().enumerate() {
+        if place > 0 && (digits.len() - place).is_multiple_of(3) {
+            out.push(',');
+        }
+        out.push(digit);
+    }
+    out
+}

@@ -1,0 +1,241 @@
+//! What gix-date answers, in the numbers of document 01.
+//!
+//! gix-date says "read" or "not read"; which number a text that is not read has follows from the reader that failed and
+//! from the current time. Three answers are document 01's alone, since the Rust has none of the kind: 1 for a byte of 128
+//! or more, 4 for a current time out of range, 5 for more than 32 pairs.
+
+use gix_date::Time;
+use gix_date::parse::visible;
+use jiff::tz::Offset;
+use jiff::{Timestamp, Zoned};
+
+/// The smallest and the largest second in range.
+pub const MIN_SECONDS: i64 = -377705023201;
+pub const MAX_SECONDS: i64 = 253402207200;
+/// The widest offset of a current time.
+pub const MAX_OFFSET: i32 = 93599;
+/// The most pairs that are read.
+pub const MAX_PAIRS: usize = 32;
+
+/// A form of text, each with its reader.
+#[derive(Clone, Copy, PartialEq, Eq, PartialOrd, Ord, Debug)]
+pub enum Form {
+    Header,
+    Raw,
+    Iso,
+    Relative,
+    Any,
+}
+
+pub const FORMS: [Form; 5] = [Form::Header, Form::Raw, Form::Iso, Form::Relative, Form::Any];
+
+impl Form {
+    /// Its name in a line of `whenread`.
+    pub fn name(self) -> &'static str {
+        match self {
+            Form::Header => "header",
+            Form::Raw => "raw",
+            Form::Iso => "iso",
+            Form::Relative => "relative",
+            Form::Any => "any",
+        }
+    }
+}
+
+/// What a reader answers.
+#[derive(Clone, Copy, PartialEq, Eq, Debug)]
+pub struct Answer {
+    pub number: u8,
+    pub seconds: i64,
+    pub offset: i32,
+}
+
+impl Answer {
+    fn read(time: Time) -> Answer {
+        Answer { number: 0, seconds: time.seconds, offset: time.offset }
+    }
+
+    fn refused(number: u8) -> Answer {
+        Answer { number, seconds: 0, offset: 0 }
+    }
+}
+
+/// Who gave the answer.
+#[derive(Clone, Copy, PartialEq, Eq, Debug)]
+pub enum By {
+    /// gix-date read the text, or did not.
+    Rust,
+    /// Document 01, where it differs by intent or where the Rust cannot be asked.
+    Document,
+}
+
+/// A current time, made ready for gix-date.
+#[derive(Clone)]
+pub struct Now {
+    /// Seconds and offset, if it is there.
+    pub time: Option<(i64, i32)>,
+    /// The same for gix-date, if it is there and in range.
+    zoned: Option<Zoned>,
+}
+
+impl Now {
+    pub fn missing() -> Now {
+        Now { time: None, zoned: None }
+    }
+
+    pub fn at(seconds: i64, offset: i32) -> Now {
+        Now { time: Some((seconds, offset)), zoned: Time::new(seconds, offset).to_zoned().ok() }
+    }
+
+    /// The number of a relative text that leads to no time from here.
+    fn refusal(&self) -> u8 {
+        match (&self.time, &self.zoned) {
+            (None, _) => 3,
+            (Some(_), None) => 4,
+            (Some(_), Some(_)) => 6,
+        }
+    }
+
+    /// The current time as gix-date takes it; `None` also where it is out of range.
+    pub fn zoned(&self) -> Option<Zoned> {
+        self.zoned.clone()
+    }
+}
+
+/// What is to be answered to `text`.
+pub fn wanted(form: Form, text: &[u8], now: &Now) -> (Answer, By) {
+    let Some(text) = text.is_ascii().then(|| std::str::from_utf8(text).expect("ASCII is UTF-8")) else {
+        return (Answer::refused(1), By::Document);
+    };
+    match form {
+        Form::Header => plain(gix_date::parse_header(text)),
+        Form::Raw => plain(visible::raw(text)),
+        Form::Iso => plain(visible::iso(text)),
+        Form::Relative => match visible::relative(text, now.zoned()) {
+            None => (Answer::refused(2), By::Rust),
+            Some(_) if has_too_many_pairs(text) => (Answer::refused(5), By::Document),
+            Some(Ok(zoned)) => (landed(&zoned), By::Rust),
+            Some(Err(_)) => unread(now),
+        },
+        Form::Any => match visible::any(text, now.zoned()) {
+            Ok(_) if has_too_many_pairs(text) && is_read_as_relative(text) => (Answer::refused(5), By::Document),
+            Ok(time) => (Answer::read(time), By::Rust),
+            Err(_) => match visible::relative(text, None) {
+                None => (Answer::refused(2), By::Rust),
+                Some(_) if has_too_many_pairs(text) => (Answer::refused(5), By::Document),
+                Some(_) => unread(now),
+            },
+        },
+    }
+}
+
+/// The answer of a reader that asks for no current time.
+fn plain(time: Option<Time>) -> (Answer, By) {
+    (time.map_or(Answer::refused(2), Answer::read), By::Rust)
+}
+
+/// The answer to a relative text that leads to no time.
+fn unread(now: &Now) -> (Answer, By) {
+    let number = now.refusal();
+    (Answer::refused(number), if number == 4 { By::Document } else { By::Rust })
+}
+
+fn landed(zoned: &Zoned) -> Answer {
+    Answer { number: 0, seconds: zoned.timestamp().as_second(), offset: zoned.offset().seconds() }
+}
+
+/// Whether a relative text has more pairs than are read. The shortest that has is `1 x`, 33 times, parted by one byte.
+fn has_too_many_pairs(text: &str) -> bool {
+    const SHORTEST: usize = (MAX_PAIRS + 1) * 4 - 1;
+    text.len() >= SHORTEST && visible::pairs(text).is_some_and(|count| count > MAX_PAIRS)
+}
+
+/// Whether "any" gets as far as its relative step. Asked of texts with many pairs only.
+fn is_read_as_relative(text: &str) -> bool {
+    let at = text.strip_prefix('@').is_some_and(|rest| visible::raw(rest).is_some() || rest.parse::<i64>().is_ok());
+    let number = text.parse::<i64>().is_ok_and(|number| number >= 100_000_000);
+    !at && !number && visible::iso(text).is_none() && visible::relative(text, None).is_some()
+}
+
+/// A form that is written.
+#[derive(Clone, Copy, PartialEq, Eq, PartialOrd, Ord, Debug)]
+pub enum Writer {
+    Header,
+    Iso,
+}
+
+impl Writer {
+    pub fn name(self) -> &'static str {
+        match self {
+            Writer::Header => "header writer",
+            Writer::Iso => "ISO writer",
+        }
+    }
+}
+
+/// The bytes of a time, or the number of the refusal. Room is not its concern.
+pub enum Bytes {
+    Written([u8; 32], usize),
+    Refused(u8),
+}
+
+/// What is to be written for a time.
+///
+/// gix-date has no ISO writer of this shape: fields are jiff's, the line is put together by document 01's sentences.
+pub fn written(writer: Writer, seconds: i64, offset: i32) -> Bytes {
+    let mut bytes = [0; 32];
+    let mut rest = &mut bytes[..];
+    match writer {
+        Writer::Header => match Time::new(seconds, offset).write_to(&mut rest) {
+            Ok(()) => {
+                let length = 32 - rest.len();
+                Bytes::Written(bytes, length)
+            }
+            Err(_) => Bytes::Refused(7),
+        },
+        Writer::Iso => {
+            if offset.unsigned_abs() >= 86400 {
+                return Bytes::Refused(7);
+            }
+            let Ok(instant) = Timestamp::from_second(seconds) else { return Bytes::Refused(6) };
+            let local = Offset::from_seconds(offset).expect("less than a day").to_datetime(instant);
+            if local.year() < 0 {
+                return Bytes::Refused(6);
+            }
+            let minutes = offset.unsigned_abs() / 60;
+            for (value, digits, before) in [
+                (local.year() as u32, 4, None),
+                (local.month() as u32, 2, Some(b'-')),
+                (local.day() as u32, 2, Some(b'-')),
+                (local.hour() as u32, 2, Some(b'T')),
+                (local.minute() as u32, 2, Some(b':')),
+                (local.second() as u32, 2, Some(b':')),
+                (minutes / 60, 2, Some(if offset < 0 { b'-' } else { b'+' })),
+                (minutes % 60, 2, Some(b':')),
+            ] {
+                put(&mut rest, value, digits, before);
+            }
+            Bytes::Written(bytes, 25)
+        }
+    }
+}
+
+/// Puts a number of `digits` digits, with a byte before it.
+fn put(rest: &mut &mut [u8], value: u32, digits: usize, before: Option<u8>) {
+    let count = digits + usize::from(before.is_some());
+    let (here, beyond) = std::mem::take(rest).split_at_mut(count);
+    let mut value = value;
+    for place in (count - digits..count).rev() {
+        here[place] = b'0' + (value % 10) as u8;
+        value /= 10;
+    }
+    if let Some(before) = before {
+        here[0] = before;
+    }
+    *rest = beyond;
+}
+
+/// What `size` is to answer.
+pub fn size(seconds: i64, offset: i32) -> usize {
+    Time::new(seconds, offset).size()
+}

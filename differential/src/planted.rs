@@ -1,0 +1,273 @@
+//! Wrong sides: gix-date's own answers with one mistake each. A comparison that finds no difference is worth as much as
+//! the mistakes that it would have found, so each of these has to be found.
+
+use jiff::ToSpan as _;
+
+use crate::oracle::{self, Answer, Bytes, Form, MAX_SECONDS, MIN_SECONDS, Now, Writer};
+use crate::side::Side;
+
+/// A side with one mistake.
+pub struct Mistake {
+    /// The mistake, as a sentence.
+    pub name: &'static str,
+    /// Whether a writer or `size` makes it, and no reader.
+    pub of_writers: bool,
+    read: fn(Form, &[u8], &Now) -> Option<Answer>,
+    size: fn(i64, i32) -> usize,
+    write: fn(Writer, i64, i32, &mut [u8], &mut usize) -> u8,
+    leaves_outputs: bool,
+}
+
+const RIGHT: Mistake =
+    Mistake { name: "", of_writers: false, read: |_, _, _| None, size: oracle::size, write, leaves_outputs: false };
+const WRITERS: Mistake = Mistake { of_writers: true, ..RIGHT };
+
+/// The mistakes: the shortcuts and the worthless programs that document 01 names, and others of their kind.
+pub const MISTAKES: &[Mistake] = &[
+    Mistake { name: "everything is refused", read: |_, _, _| Some(refused(2)), ..RIGHT },
+    Mistake { name: "every time is the same", read: |_, _, _| Some(time(0, 0)), ..RIGHT },
+    Mistake { name: "only the first pair is applied", read: first_pair_only, ..RIGHT },
+    Mistake { name: "31 May less a month is 30 April", read: last_day_of_shorter_month, ..RIGHT },
+    Mistake { name: "all months are summed before they are applied", read: months_summed, ..RIGHT },
+    Mistake { name: "months are stepped by the clock at offset 0", read: months_at_offset_0, ..RIGHT },
+    Mistake { name: "byte 11 is no white space", read: byte_11_is_no_space, ..RIGHT },
+    Mistake { name: "byte 31 is white space", read: byte_31_is_space, ..RIGHT },
+    Mistake { name: "a bad offset refuses the header", read: bad_offset_refuses, ..RIGHT },
+    Mistake { name: "signs inside two-byte fields are refused", read: no_signs_in_fields, ..RIGHT },
+    Mistake { name: "`ago` counts only where it comes last", read: ago_only_last, ..RIGHT },
+    Mistake { name: "33 pairs are read", read: no_bound_of_pairs, ..RIGHT },
+    Mistake { name: "the current time is looked at first", read: current_time_first, ..RIGHT },
+    Mistake { name: "the first second is out of range", read: |f, t, n| range_less(f, t, n, MIN_SECONDS), ..RIGHT },
+    Mistake { name: "the last second is out of range", read: |f, t, n| range_less(f, t, n, MAX_SECONDS), ..RIGHT },
+    Mistake { name: "29 February 1900 exists", read: |f, t, _| reads_as(f, t, b"1900-02-29", time(0, 0)), ..RIGHT },
+    Mistake { name: "year 0 has no 29 February", read: |f, t, _| reads_as(f, t, b"0000-02-29", refused(2)), ..RIGHT },
+    Mistake { name: "second 60 is read", read: second_60, ..RIGHT },
+    Mistake { name: "\"any\" trims", read: any_trims, ..RIGHT },
+    Mistake { name: "\"any\" reads numbers from 99999999 on", read: any_reads_99999999, ..RIGHT },
+    Mistake { name: "a refusal leaves what was in seconds and offset", leaves_outputs: true, ..RIGHT },
+    Mistake { name: "size is always 26", size: |_, _| 26, ..WRITERS },
+    Mistake { name: "size miscounts 1000000000000000000", size: miscounts, ..WRITERS },
+    Mistake { name: "the writer writes nothing", write: writes_nothing, ..WRITERS },
+    Mistake { name: "the writer writes a byte beyond", write: writes_beyond, ..WRITERS },
+    Mistake { name: "the writer writes before it refuses", write: writes_first, ..WRITERS },
+    Mistake { name: "the smallest second is written as the largest", write: negates_smallest, ..WRITERS },
+    Mistake { name: "offsets under a minute are written with +", write: plus_under_a_minute, ..WRITERS },
+    Mistake { name: "the ISO writer shows the clock at the cut offset", write: clock_at_cut_offset, ..WRITERS },
+];
+
+impl Side for Mistake {
+    fn read(&self, form: Form, text: &[u8], now: &Now, seconds: &mut i64, offset: &mut i32) -> u8 {
+        let answer = (self.read)(form, text, now).unwrap_or_else(|| right(form, text, now));
+        if answer.number == 0 || !self.leaves_outputs {
+            (*seconds, *offset) = (answer.seconds, answer.offset);
+        }
+        answer.number
+    }
+
+    fn size(&self, seconds: i64, offset: i32) -> usize {
+        (self.size)(seconds, offset)
+    }
+
+    fn write(&self, writer: Writer, seconds: i64, offset: i32, room: &mut [u8], length: &mut usize) -> u8 {
+        (self.write)(writer, seconds, offset, room, length)
+    }
+}
+
+fn right(form: Form, text: &[u8], now: &Now) -> Answer {
+    oracle::wanted(form, text, now).0
+}
+
+fn refused(number: u8) -> Answer {
+    Answer { number, seconds: 0, offset: 0 }
+}
+
+fn time(seconds: i64, offset: i32) -> Answer {
+    Answer { number: 0, seconds, offset }
+}
+
+fn is_relative(form: Form) -> bool {
+    matches!(form, Form::Relative | Form::Any)
+}
+
+/// The words of a relative text.
+fn words(text: &[u8]) -> Vec<String> {
+    let words = text.split(|byte| !byte.is_ascii_alphanumeric()).filter(|word| !word.is_empty());
+    words.map(|word| String::from_utf8_lossy(word).into_owned()).collect()
+}
+
+fn first_pair_only(form: Form, text: &[u8], now: &Now) -> Option<Answer> {
+    let words = words(text);
+    if !is_relative(form) || words.len() < 4 || right(form, text, now).number != 0 {
+        return None;
+    }
+    let first = format!("{} {}", words[0], words[1]);
+    Some(right(form, first.as_bytes(), now)).filter(|answer| answer.number == 0)
+}
+
+fn is_months(unit: &str) -> bool {
+    unit.to_ascii_lowercase().starts_with("month")
+}
+
+fn last_day_of_shorter_month(form: Form, text: &[u8], now: &Now) -> Option<Answer> {
+    let words = words(text);
+    if !is_relative(form) || words.len() != 2 || !is_months(&words[1]) || right(form, text, now).number != 0 {
+        return None;
+    }
+    let months: i32 = words[0].parse().ok()?;
+    let zoned = now.zoned()?;
+    let landed = zoned.checked_sub(months.months()).ok()?;
+    Some(time(landed.timestamp().as_second(), landed.offset().seconds()))
+}
+
+fn months_summed(form: Form, text: &[u8], now: &Now) -> Option<Answer> {
+    let words = words(text);
+    if !is_relative(form) || words.len() < 4 || !words.chunks(2).all(|pair| pair.len() == 2 && is_months(&pair[1])) {
+        return None;
+    }
+    let sum: i64 = words.iter().step_by(2).filter_map(|count| count.parse::<i64>().ok()).sum();
+    Some(right(form, format!("{sum} months").as_bytes(), now))
+}
+
+fn months_at_offset_0(form: Form, text: &[u8], now: &Now) -> Option<Answer> {
+    let (seconds, offset) = now.time?;
+    if !is_relative(form) || right(form, text, now).number != 0 || !words(text).iter().any(|word| is_months(word)) {
+        return None;
+    }
+    let answer = right(form, text, &Now::at(seconds, 0));
+    Some(Answer { offset, ..answer }).filter(|answer| answer.number == 0)
+}
+
+fn byte_11_is_no_space(form: Form, text: &[u8], now: &Now) -> Option<Answer> {
+    let text: Vec<u8> = text.iter().map(|byte| if *byte == 11 { 1 } else { *byte }).collect();
+    Some(right(form, &text, now))
+}
+
+fn byte_31_is_space(form: Form, text: &[u8], now: &Now) -> Option<Answer> {
+    let text: Vec<u8> = text.iter().map(|byte| if *byte == 31 { 32 } else { *byte }).collect();
+    Some(right(form, &text, now))
+}
+
+/// The second of two words, parted by white space.
+fn second_word(text: &[u8]) -> Option<&str> {
+    let text = std::str::from_utf8(text).ok()?;
+    let mut words = text.split_whitespace().skip(1);
+    words.next().filter(|_| words.next().is_none())
+}
+
+fn bad_offset_refuses(form: Form, text: &[u8], now: &Now) -> Option<Answer> {
+    let answer = right(form, text, now);
+    let bad = form == Form::Header && answer.number == 0 && answer.offset == 0;
+    let second = second_word(text).filter(|_| bad)?;
+    (!second.starts_with("+00") && !second.starts_with("-00")).then_some(refused(2))
+}
+
+fn no_signs_in_fields(form: Form, text: &[u8], now: &Now) -> Option<Answer> {
+    let second = second_word(text)?;
+    if !matches!(form, Form::Header | Form::Raw) || !second.get(1..)?.contains(['+', '-']) {
+        return None;
+    }
+    let answer = right(form, text, now);
+    Some(if form == Form::Raw || answer.number != 0 { refused(2) } else { time(answer.seconds, 0) })
+}
+
+fn ago_only_last(form: Form, text: &[u8], now: &Now) -> Option<Answer> {
+    let words = words(text);
+    let is_ago = |word: &String| word.eq_ignore_ascii_case("ago");
+    if !is_relative(form) || !words.iter().any(is_ago) || words.last().is_some_and(is_ago) {
+        return None;
+    }
+    let without: Vec<&str> = words.iter().filter(|word| !is_ago(word)).map(String::as_str).collect();
+    Some(right(form, without.join(" ").as_bytes(), now))
+}
+
+fn no_bound_of_pairs(form: Form, text: &[u8], now: &Now) -> Option<Answer> {
+    if right(form, text, now).number != 5 {
+        return None;
+    }
+    let text = std::str::from_utf8(text).ok()?;
+    let landed = gix_date::parse::visible::relative(text, now.zoned())?.ok()?;
+    Some(time(landed.timestamp().as_second(), landed.offset().seconds()))
+}
+
+fn current_time_first(form: Form, text: &[u8], now: &Now) -> Option<Answer> {
+    (is_relative(form) && now.time.is_some() && now.zoned().is_none() && text.is_ascii()).then_some(refused(4))
+}
+
+fn range_less(form: Form, text: &[u8], now: &Now, end: i64) -> Option<Answer> {
+    let answer = right(form, text, now);
+    let number = if form == Form::Relative { 6 } else { 2 };
+    (matches!(form, Form::Relative | Form::Iso) && answer.number == 0 && answer.seconds == end)
+        .then_some(refused(number))
+}
+
+fn reads_as(form: Form, text: &[u8], start: &[u8], answer: Answer) -> Option<Answer> {
+    (form == Form::Iso && text.starts_with(start)).then_some(answer)
+}
+
+fn second_60(form: Form, text: &[u8], now: &Now) -> Option<Answer> {
+    let text = std::str::from_utf8(text).ok().filter(|text| form == Form::Iso && text.contains(":60"))?;
+    let answer = right(form, text.replace(":60", ":59").as_bytes(), now);
+    Some(answer).filter(|answer| answer.number == 0)
+}
+
+fn any_trims(form: Form, text: &[u8], now: &Now) -> Option<Answer> {
+    (form == Form::Any).then(|| right(form, text.trim_ascii(), now))
+}
+
+fn any_reads_99999999(form: Form, text: &[u8], _: &Now) -> Option<Answer> {
+    (form == Form::Any && text == b"99999999").then_some(time(99999999, 0))
+}
+
+fn miscounts(seconds: i64, offset: i32) -> usize {
+    oracle::size(seconds, offset) - usize::from(seconds == 1_000_000_000_000_000_000)
+}
+
+/// Writes as it should be.
+fn write(writer: Writer, seconds: i64, offset: i32, room: &mut [u8], length: &mut usize) -> u8 {
+    *length = 0;
+    match oracle::written(writer, seconds, offset) {
+        Bytes::Refused(number) => number,
+        Bytes::Written(_, needed) if room.len() < needed => 8,
+        Bytes::Written(bytes, needed) => {
+            room[..needed].copy_from_slice(&bytes[..needed]);
+            *length = needed;
+            0
+        }
+    }
+}
+
+fn writes_nothing(writer: Writer, seconds: i64, offset: i32, room: &mut [u8], length: &mut usize) -> u8 {
+    write(writer, seconds, offset, &mut room.to_vec(), length)
+}
+
+fn writes_beyond(writer: Writer, seconds: i64, offset: i32, room: &mut [u8], length: &mut usize) -> u8 {
+    let number = write(writer, seconds, offset, room, length);
+    if number == 0 && *length < room.len() {
+        room[*length] = 0;
+    }
+    number
+}
+
+fn writes_first(writer: Writer, seconds: i64, offset: i32, room: &mut [u8], length: &mut usize) -> u8 {
+    let number = write(writer, seconds, offset, room, length);
+    if number == 8 && !room.is_empty() {
+        room[0] = b'-';
+    }
+    number
+}
+
+fn negates_smallest(writer: Writer, seconds: i64, offset: i32, room: &mut [u8], length: &mut usize) -> u8 {
+    let number = write(writer, seconds, offset, room, length);
+    if number == 0 && seconds == i64::MIN {
+        room[19] = b'7';
+    }
+    number
+}
+
+fn plus_under_a_minute(writer: Writer, seconds: i64, offset: i32, room: &mut [u8], length: &mut usize) -> u8 {
+    write(writer, seconds, if (-59..0).contains(&offset) { 0 } else { offset }, room, length)
+}
+
+fn clock_at_cut_offset(writer: Writer, seconds: i64, offset: i32, room: &mut [u8], length: &mut usize) -> u8 {
+    write(writer, seconds, if writer == Writer::Iso { offset / 60 * 60 } else { offset }, room, length)
+}
