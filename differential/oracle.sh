@@ -31,7 +31,7 @@ stop() {
 }
 usage() { sed -n 's/^# \{0,1\}//; /^Usage/,/^$/p' "$0"; }
 
-debs= sources= any_version=
+debs='' sources='' any_version=''
 while [ $# -gt 0 ]; do
     case $1 in
         --debs | --sources)
@@ -127,7 +127,7 @@ download() {
         wanted=${package#*=}
         found=$(apt-cache "$@" show "$name" 2>/dev/null | sed -n 's/^Version: //p' | sort -V)
         [ -n "$found" ] || stop 3 "sid has no package $name"
-        version=$(printf '%s\n' "$found" | sed -n "/^$wanted[-+]/p" | tail -n 1)
+        version=$(printf '%s\n' "$found" | sed -n "/^${wanted}[-+]/p" | tail -n 1)
         if [ -z "$version" ]; then
             version=$(printf '%s\n' "$found" | tail -n 1)
             [ -n "$any_version" ] ||

@@ -5,7 +5,7 @@
 use jiff::ToSpan as _;
 
 use crate::ledger::Ledger;
-use crate::oracle::{FORMS, Form, MAX_OFFSET, MAX_SECONDS, MIN_SECONDS, Now, Writer};
+use crate::oracle::{Form, MAX_OFFSET, MAX_SECONDS, MIN_SECONDS, Now, Writer};
 use crate::rng::Rng;
 use crate::texts::{self, TELLING, month_length, seconds_of};
 
@@ -733,9 +733,4 @@ fn write_random(ledger: &mut Ledger, size: Size) {
             return;
         }
     }
-}
-
-/// The forms, for those who ask by name.
-pub fn form_named(name: &str) -> Option<Form> {
-    FORMS.into_iter().find(|form| form.name() == name)
 }
