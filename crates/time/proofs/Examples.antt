@@ -66,6 +66,15 @@ iso-line : isoBytes (timeAt (pos 1203039045) (negsuc 17999)) ≡ bytes "2008-02-
 unfolding isoBytes clockOf signByte wholeMinutes dateOf monthOf yearOf spanOf monthLength yearLength firstDay yearStart total lengths leap
 iso-line = refl
 
+-- Git's published writer tests, t0006, but for offset 0, where Git prints `Z`
+git-writers : (isoBytes (timeAt (pos 1466000000) (pos 7200)) ≡ bytes "2016-06-15T16:13:20+02:00") × (isoBytes (timeAt (pos 1466000000) (negsuc 7199)) ≡ bytes "2016-06-15T12:13:20-02:00")
+unfolding isoBytes clockOf signByte wholeMinutes dateOf monthOf yearOf spanOf monthLength yearLength firstDay yearStart total lengths leap
+git-writers = (refl, refl)
+
+git-header-writers : (headerBytes (timeAt (pos 1466000000) (pos 7200)) ≡ bytes "1466000000 +0200") × (headerBytes (timeAt (pos 1466000000) (negsuc 7199)) ≡ bytes "1466000000 -0200")
+unfolding headerBytes secondsBefore offsetBytes signByte wholeMinutes decimalBefore decimalBy
+git-header-writers = (refl, refl)
+
 -- "The fields show the clock at the full offset, the offset is printed cut to minutes, with `-` if it is negative"
 iso-of-odd-offset : isoBytes (timeAt (pos 0) (negsuc 89)) ≡ bytes "1969-12-31T23:58:30-00:01"
 unfolding isoBytes clockOf signByte wholeMinutes dateOf monthOf yearOf spanOf monthLength yearLength firstDay yearStart total lengths leap
