@@ -41,18 +41,18 @@ pub fn lower(b: u8) -> u8
     b + 32
 }
 
-// Whether no byte is 128 or more; so it is of the empty text.
+// Whether no byte is 128 or more; so it is of the empty text. The loop does not stop at such a byte: they are rare, and without
+// a way out the compiler tests many bytes at once.
 pub fn is_ascii(s: &[u8]) -> bool
     ensures { λ r. ⌜ r ≡ ascii (now (s .entry)) ⌝ }
 {
+    let mut all = true;
     let mut i = 0;
     while i < s.len() {
-        if s[i] >= 128 {
-            return false;
-        }
+        all = all & (s[i] < 128);
         i += 1;
     }
-    true
+    all
 }
 
 // Whether two texts are the same but for the case of their letters.
