@@ -1,85 +1,26 @@
--- Digits, as the ISO writer writes them. In order: what a digit is not; two digits and four as numbers; a text with no b in it; a
--- text that white space neither opens nor ends; an ASCII text.
+-- Digits, as the ISO writer writes them: two of them and four as 32-bit numbers; an ASCII text.
 -- Assumes nothing.
-use mathlib.Core.Path.{_≡_, refl, sym, ap, _∙_}
-use mathlib.Core.Bool.{true, false, false≢true}
-use mathlib.Core.List.{List, [], _∷_, _++_}
-use Prim.Native.Nat.{ℕ, suc, _+_, _-_, _*_, _/_, _%_, _^_, _≤_, _<_}
+use mathlib.Core.Path.{_≡_, refl, ap, _∙_}
+use mathlib.Core.Bool.{true}
+use mathlib.Core.List.{List, [], _∷_}
+use Prim.Native.Nat.{ℕ, _+_, _-_, _*_, _/_, _%_, _^_, _<_}
 use native.Mathlib.Omega.{arith}
-use borrow.Author.Tests.{ne-eqb, le-leb, lt-leb, lt-ltb}
-use lib.Dec.{eqb}
+use borrow.Author.Tests.{lt-ltb}
 use lib.IntN.{pos}
 use lib.ListN.{length}
-use Rattle.text.specs.Bytes.{isDigit, isSpace, isSign, ascii}
+use Rattle.text.specs.Bytes.{ascii}
 use Rattle.text.specs.Decimal.{twoBefore}
 use Rattle.text.specs.Number.{readFrom, digitsOf, unsignedOf, signedOf, plus}
-use Rattle.text.specs.Places.{run, firstPlace, lastWhere, lastPlace, opensWith}
-use Rattle.text.specs.Trim.{trimStart, trim}
-use Rattle.text.specs.declared.number.Number.the-variants.{Value}
 use Rattle.text.specs.declared.number.Integer.the-variants.{Is}
-use Rattle.text.proofs.Numbers.{digit-range, isDigit-of-le, fitSigned-of-length}
-use Rattle.text.proofs.Runs.{lastWhere-none}
-use Rattle.text.proofs.Trimming.{trimEnd-snoc}
+use Rattle.text.proofs.Digits.{no-plus, no-dash, tens, ones, unsignedOf-two}
+use Rattle.text.proofs.Numbers.{fitSigned-of-length}
 use Rattle.iso.specs.Parts.{int32}
 
--- ---- what a digit is not
-pub eqb-of-digit : (b x : ℕ) → isDigit b ≡ true → isDigit x ≡ false → eqb b x ≡ false
-eqb-of-digit b x p q = ne-eqb b x (λ e. false≢true (sym q ∙ ap isDigit (sym e) ∙ p))
-
-pub isSign-of-digit : (b : ℕ) → isDigit b ≡ true → isSign b ≡ false
-unfolding isSign isDigit
-isSign-of-digit b p = rw (eqb-of-digit b 43 p refl, eqb-of-digit b 45 p refl)
-
-pub isSpace-of-digit : (b : ℕ) → isDigit b ≡ true → isSpace b ≡ false
-unfolding isSpace
-isSpace-of-digit b p =
-    let r = digit-range b p in
-    let l : 13 < b = omega (arith, r .0) in
-    let n : 9 ≤ b = omega (arith, r .0) in
-    rw (le-leb 9 b n, lt-leb b 13 l, ne-eqb b 32 (λ e. omega (arith, r .0, e)))
-
-module _ (b : ℕ) (p : isDigit b ≡ true) where
-  pub no-space : eqb b 32 ≡ false
-  unfolding isDigit
-  no-space = eqb-of-digit b 32 p refl
-
-  pub no-plus : eqb b 43 ≡ false
-  unfolding isDigit
-  no-plus = eqb-of-digit b 43 p refl
-
-  pub no-dash : eqb b 45 ≡ false
-  unfolding isDigit
-  no-dash = eqb-of-digit b 45 p refl
-
-  pub no-dot : eqb b 46 ≡ false
-  unfolding isDigit
-  no-dot = eqb-of-digit b 46 p refl
-
-  pub no-colon : eqb b 58 ≡ false
-  unfolding isDigit
-  no-colon = eqb-of-digit b 58 p refl
-
-  pub no-Z : eqb b 90 ≡ false
-  unfolding isDigit
-  no-Z = eqb-of-digit b 90 p refl
-
--- ---- two digits of a number below 100
-pub tens : (n : ℕ) → n < 100 → isDigit (48 + n / 10) ≡ true
-tens n h = isDigit-of-le (48 + n / 10) (omega arith) (omega arith)
-
-pub ones : (n : ℕ) → isDigit (48 + n % 10) ≡ true
-ones n = isDigit-of-le (48 + n % 10) (omega arith) (omega arith)
-
+-- two digits of a number below 100
 module _ (n : ℕ) (h : n < 100) where
-  pub unsignedOf-two : unsignedOf (twoBefore n []) ≡ Value n
-  unfolding unsignedOf digitsOf readFrom
-  unsignedOf-two =
-      let e : 10 * (10 * 0 + (48 + n / 10 - 48)) + (48 + n % 10 - 48) ≡ n = omega arith in
-      rw (no-plus (48 + n / 10) (tens n h), tens n h, ones n) (ap Value e)
-
   pub int32-two : int32 (twoBefore n []) ≡ Is (pos n)
   unfolding int32 signedOf
-  int32-two = fitSigned-of-length (2 ^ 31) (twoBefore n []) (omega arith) ∙ rw (no-dash (48 + n / 10) (tens n h)) (ap plus unsignedOf-two)
+  int32-two = fitSigned-of-length (2 ^ 31) (twoBefore n []) (omega arith) ∙ rw (no-dash (48 + n / 10) (tens n h)) (ap plus (unsignedOf-two n h))
 
 -- four digits of a number below 10,000
 module _ (n : ℕ) (h : n < 10000) where
@@ -96,26 +37,6 @@ module _ (n : ℕ) (h : n < 10000) where
       let e : 10 * (10 * (10 * (10 * 0 + (48 + n / 100 / 10 - 48)) + (48 + n / 100 % 10 - 48)) + (48 + n % 100 / 10 - 48)) + (48 + n % 100 % 10 - 48) ≡ n = omega arith in
       fitSigned-of-length (2 ^ 31) (twoBefore (n / 100) (twoBefore (n % 100) [])) (omega arith)
       ∙ rw (no-dash b (tens (n / 100) high), no-plus b (tens (n / 100) high), tens (n / 100) high, ones (n / 100), tens (n % 100) low, ones (n % 100)) (ap (λ (v : ℕ). Is (pos v)) e)
-
--- ---- a text with no b in it
-abbrev pub Free : ℕ → List ℕ → Type 0
-Free b [] = Unit {0}
-Free b (x ∷ s) = (eqb x b ≡ false) × Free b s
-
-pub firstPlace-of-Free : (b : ℕ) (s : List ℕ) → Free b s → firstPlace b s ≡ length s
-unfolding firstPlace run
-firstPlace-of-Free b [] f = refl
-firstPlace-of-Free b (x ∷ s) f = rw (f .0) (ap suc (firstPlace-of-Free b s (f .1)))
-
-pub lastPlace-of-Free : (b : ℕ) (s : List ℕ) → Free b s → lastPlace b s ≡ length s
-unfolding lastPlace lastWhere
-lastPlace-of-Free b [] f = refl
-lastPlace-of-Free b (x ∷ s) f = lastWhere-none (opensWith b) x s (lastPlace-of-Free b s (f .1)) (f .0)
-
--- ---- a text that white space neither opens nor ends
-pub trim-of-ends : (b : ℕ) (s : List ℕ) (e : ℕ) → isSpace b ≡ false → isSpace e ≡ false → trim (b ∷ (s ++ (e ∷ []))) ≡ b ∷ (s ++ (e ∷ []))
-unfolding trim trimStart
-trim-of-ends b s e p q = rw p (trimEnd-snoc (b ∷ s) e ∙ rw q)
 
 -- ---- ASCII
 abbrev pub Narrow : List ℕ → Type 0

@@ -29,7 +29,10 @@ use Rattle.iso.specs.Cut.{endsWithZ, isSigned, isOffset, spaced, signPla
 use Rattle.iso.specs.Clock.{colonTime, timeOf}
 use Rattle.iso.specs.Offset.{upTo, secondsOf, hoursMinutes, turned, offsetOf}
 use Rattle.iso.proofs.Times.{clock-value}
-use Rattle.iso.proofs.Digits.{no-space, no-dot, no-colon, no-Z, isSign-of-digit, isSpace-of-digit, tens, ones, unsignedOf-two, int32-two, firstPlace-of-Free, lastPlace-of-Free, trim-of-ends}
+use Rattle.text.proofs.Digits.{no-space, no-dot, no-colon, no-Z, isSign-of-digit, isSpace-of-digit, tens, ones, unsignedOf-two}
+use Rattle.text.proofs.FirstPlaces.{firstPlace-of-Free, lastPlace-of-Free}
+use Rattle.text.proofs.Trimming.{trim-of-ends}
+use Rattle.iso.proofs.Digits.{int32-two}
 
 -- `HH:MM:SS`, and `HH:MM` behind a sign
 abbrev clockText : ℕ → ℕ → ℕ → List ℕ → List ℕ

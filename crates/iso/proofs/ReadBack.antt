@@ -33,7 +33,9 @@ use Rattle.ints.proofs.Parts.{pos-natAbs-add}
 use Rattle.iso.specs.Forms.{saidOf, fieldsOf, isSeparator, flexible}
 use Rattle.iso.specs.Iso.{dayOf, zoned, isoOf}
 use Rattle.iso.specs.declared.forms.Fields.the-variants.{Are}
-use Rattle.iso.proofs.Digits.{isSpace-of-digit, tens, ones, int32-two, int32-four, trim-of-ends, ascii-of-Narrow}
+use Rattle.text.proofs.Digits.{isSpace-of-digit, tens, ones}
+use Rattle.text.proofs.Trimming.{trim-of-ends}
+use Rattle.iso.proofs.Digits.{int32-two, int32-four, ascii-of-Narrow}
 use Rattle.iso.proofs.Lines.{timeOf-clockText, trim-tail, timeText-tail, offsetText-tail, offsetOf-line, dayNumber-of-IsDate}
 use Rattle.iso.proofs.Instants.{dayOf-value, momentOf-in}
 use Rattle.iso.proofs.Theorems.{iso-of-flexible}

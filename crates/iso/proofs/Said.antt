@@ -16,7 +16,7 @@ use Rattle.text.specs.declared.number.Number.{Number}
 use Rattle.text.specs.declared.number.Number.the-variants.{Value, Not}
 use Rattle.text.specs.declared.number.Integer.{Integer}
 use Rattle.text.specs.declared.number.Integer.the-variants.{Is, NotOne}
-use Rattle.text.proofs.Lists.{by-test, both, take-length-sub-drop}
+use Rattle.text.proofs.Lists.{by-test, both, take-length-sub-drop, getD-of-length-le}
 use Rattle.iso.specs.Parts.{two, before, int32}
 use Rattle.iso.specs.Cut.{cut, timeText, offsetText}
 use Rattle.iso.specs.Clock.{timeOf}
@@ -25,7 +25,7 @@ use Rattle.iso.specs.Forms.{saidOf, fieldsOf, isSeparator, flexible, fir
 use Rattle.iso.specs.declared.forms.Local.{Local}
 use Rattle.iso.specs.declared.forms.Fields.{Fields}
 use Rattle.iso.specs.declared.forms.Fields.the-variants.{Are, Missing}
-use Rattle.iso.proofs.Places.{getD-of-length-le, getD-firstPlace, firstPlace-is, firstPlace-is-not}
+use Rattle.text.proofs.FirstPlaces.{getD-firstPlace, firstPlace-is, firstPlace-is-not}
 
 -- ---- all five, or none
 module _ (y m d : Integer) (t : Number) (o : Integer) where

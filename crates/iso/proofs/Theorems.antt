@@ -37,7 +37,8 @@ use Rattle.iso.specs.Forms.{fieldsOf, isSeparator, flexible, firstAt, co
 use Rattle.iso.specs.Iso.{dayOf, zoned, isoOf}
 use Rattle.iso.specs.declared.forms.Fields.{Fields}
 use Rattle.iso.specs.declared.forms.Fields.the-variants.{Are, Missing}
-use Rattle.iso.proofs.Places.{two-getD, getD-firstPlace}
+use Rattle.text.proofs.FirstPlaces.{getD-firstPlace}
+use Rattle.iso.proofs.Places.{two-getD}
 use Rattle.iso.proofs.Said.{saidOf-of-month, saidOf-of-day, flexible-short, flexible-four, dotted-four}
 
 -- ---- at most one form

@@ -18,7 +18,7 @@ use Rattle.text.specs.declared.number.Number.the-variants.{Value, Not}
 use Rattle.text.proofs.Lists.{by-test, take-length-sub-drop}
 use Rattle.iso.specs.Parts.{before}
 use Rattle.iso.specs.Clock.{timePart, secondOf, clock, isColon, colonTime, plainTime, timeOf}
-use Rattle.iso.proofs.Places.{pieces-of-lt, pieces-of-le}
+use Rattle.text.proofs.FirstPlaces.{pieces-of-lt, pieces-of-le}
 
 -- ---- a part
 -- what fits the smaller limit fits the larger one too

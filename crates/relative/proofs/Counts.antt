@@ -15,18 +15,15 @@ use Rattle.text.specs.Number.{digitsOf, readFrom, fit}
 use Rattle.text.specs.declared.number.Number.{Number}
 use Rattle.text.specs.declared.number.Number.the-variants.{Value, Not}
 use Rattle.text.proofs.Lists.{by-test}
+use Rattle.text.proofs.LowerCase.{lowerOf-digit}
 use Rattle.text.proofs.Numbers.{digit-range}
 use Rattle.relative.specs.Words.{spelled}
 
 -- a text that opens with a digit is not one that opens with a letter
 module _ (b : ℕ) (w : List ℕ) (d : isDigit b ≡ true) where
-  pub lowerOf-digit : lowerOf b ≡ b
-  unfolding lowerOf
-  lowerOf-digit = let h : b < 65 = omega (arith, digit-range b d) in rw (lt-leb 65 b h)
-
   not-same : (c : ℕ) (t : List ℕ) → 58 ≤ lowerOf c → sameLetters (b ∷ w) (c ∷ t) ≡ false
   unfolding sameLetters
-  not-same c t h = rw (lowerOf-digit, ne-eqb b (lowerOf c) (λ e. omega (arith, digit-range b d)))
+  not-same c t h = rw (lowerOf-digit b d, ne-eqb b (lowerOf c) (λ e. omega (arith, digit-range b d)))
 
   spelled-digit : (x : Number) → spelled (b ∷ w) x ≡ x
   unfolding spelled lowerOf

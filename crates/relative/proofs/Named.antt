@@ -17,6 +17,7 @@ use Rattle.text.specs.Words.{separator, pieces, full, words}
 use Rattle.text.specs.declared.words.Separator.the-variants.{Mark}
 use Rattle.text.specs.declared.number.Number.the-variants.{Not}
 use Rattle.text.proofs.Lists.{by-test, both}
+use Rattle.text.proofs.LowerCase.{isAlphanumeric-lowerOf}
 use Rattle.text.proofs.Taking.{words-cons-separator, words-snoc-separator}
 use Rattle.time.specs.declared.Now.{Now}
 use Rattle.relative.specs.Words.{wordsOf}
@@ -71,17 +72,6 @@ no-pair [] h = rw (one-piece [] h)
 no-pair (b ∷ s) h = rw (one-piece (b ∷ s) h)
 
 -- in any letter case
-pub isAlphanumeric-lowerOf : (b : ℕ) → isAlphanumeric (lowerOf b) ≡ isAlphanumeric b
-unfolding isAlphanumeric lowerOf
-isAlphanumeric-lowerOf b =
-    by-test (between 65 90 b)
-    (λ e.
-    let k = both (leb 65 b) (leb b 90) e in
-    let l : 65 ≤ b = leb-true _ _ (k .0) in
-    let m : b ≤ 90 = leb-true _ _ (k .1) in
-    rw (e, le-leb 48 b (omega arith), lt-leb b 57 (omega arith), le-leb 48 (b + 32) (omega arith), lt-leb (b + 32) 57 (omega arith), le-leb 65 (b + 32) (omega arith), lt-leb (b + 32) 90 (omega arith), le-leb 97 (b + 32) (omega arith), le-leb (b + 32) 122 (omega arith)))
-    (λ e. rw (e, e))
-
 same-one : (s t : List ℕ) → sameLetters s t ≡ true → one t ≡ true → one s ≡ true
 unfolding sameLetters
 same-one [] t e h = refl

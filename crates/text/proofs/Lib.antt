@@ -2,11 +2,14 @@
 -- what a walker owns; numbers; decimal digits; bytes put in front of a place; the document's examples.
 pub mod Lists
 pub mod Runs
+pub mod FirstPlaces
 pub mod Trimming
 pub mod Taking
 pub mod Walking
 pub mod Held
 pub mod Numbers
+pub mod Digits
 pub mod Decimals
 pub mod Putting
+pub mod LowerCase
 pub mod Examples

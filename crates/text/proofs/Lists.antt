@@ -4,7 +4,7 @@
 use mathlib.Core.Path.{_≡_, refl, ap}
 use mathlib.Core.Bool.{Bool, true, false, _&&_, false≢true, and-false}
 use mathlib.Core.List.{List, [], _∷_, _++_}
-use Prim.Native.Nat.{ℕ, suc, _+_, _-_, _≤_, _<_}
+use Prim.Native.Nat.{ℕ, zero, suc, _+_, _-_, _≤_, _<_}
 use native.Mathlib.Numerals.{add-one}
 use native.Mathlib.Omega.{arith}
 use lib.ListN.{length, getD, take, drop, length-drop}
@@ -43,3 +43,9 @@ sameLetters-of-length [] [] h = absurd (h refl)
 sameLetters-of-length [] (y ∷ t) h = refl
 sameLetters-of-length (x ∷ s) [] h = refl
 sameLetters-of-length (x ∷ s) (y ∷ t) h = rw (sameLetters-of-length s t (λ e. h (ap suc e)), and-false)
+
+-- beyond the end
+pub getD-of-length-le : (s : List ℕ) (i : ℕ) → length s ≤ i → getD s i 0 ≡ 0
+getD-of-length-le [] i h = refl
+getD-of-length-le (b ∷ s) zero h = absurd (omega arith)
+getD-of-length-le (b ∷ s) (suc i) h = getD-of-length-le s i (omega arith)

@@ -59,3 +59,8 @@ trimEnd-trimEnd s = rw (reverse-reverse, trimStart-trimStart)
 pub trim-trim : (s : List ℕ) → trim (trim s) ≡ trim s
 unfolding trim
 trim-trim s = rw (trimStart-trimEnd (trimStart s) (trimStart-trimStart s), trimEnd-trimEnd)
+
+-- ---- a text that white space neither opens nor ends
+pub trim-of-ends : (b : ℕ) (s : List ℕ) (e : ℕ) → isSpace b ≡ false → isSpace e ≡ false → trim (b ∷ (s ++ (e ∷ []))) ≡ b ∷ (s ++ (e ∷ []))
+unfolding trim trimStart
+trim-of-ends b s e p q = rw p (trimEnd-snoc (b ∷ s) e ∙ rw q)

@@ -20,7 +20,7 @@ use Rattle.calendar.proofs.Dates.{IsDate-of-dateOf, IsDate-day-lt}
 use Rattle.calendar.specs.Dates.{dateOf}
 use Rattle.text.proofs.Decimals.{length-decimal-le}
 use Rattle.text.proofs.Lists.{by-test, both}
-use Rattle.text.proofs.Numbers.{isDigit-of-le}
+use Rattle.text.proofs.Digits.{tens, ones}
 use Rattle.text.specs.Bytes.{isDigit, isSign}
 use Rattle.text.specs.Decimal.{decimal, twoBefore, decimalBy, decimalBefore}
 use Rattle.text.specs.Quote.{bytes}
@@ -91,12 +91,6 @@ isLike (p ∷ ps) [] = false
 isLike (p ∷ ps) (b ∷ s) = likeByte p b && isLike ps s
 
 -- two digits of a number below 100
-tens : (n : ℕ) → n < 100 → isDigit (48 + n / 10) ≡ true
-tens n h = isDigit-of-le (48 + n / 10) (omega arith) (omega arith)
-
-ones : (n : ℕ) → isDigit (48 + n % 10) ≡ true
-ones n = isDigit-of-le (48 + n % 10) (omega arith) (omega arith)
-
 sign : (z : ℤ) → isSign (signByte z) ≡ true
 unfolding isSign signByte
 sign (pos n) = refl

@@ -1,0 +1,68 @@
+-- Digits. In order: what a digit is not; two digits of a number below 100, and their value.
+-- Assumes nothing.
+use mathlib.Core.Path.{_≡_, refl, sym, ap, _∙_}
+use mathlib.Core.Bool.{true, false, false≢true}
+use mathlib.Core.List.{[]}
+use Prim.Native.Nat.{ℕ, _+_, _-_, _*_, _/_, _%_, _≤_, _<_}
+use native.Mathlib.Omega.{arith}
+use borrow.Author.Tests.{ne-eqb, le-leb, lt-leb}
+use lib.Dec.{eqb}
+use Rattle.text.specs.Bytes.{isDigit, isSpace, isSign}
+use Rattle.text.specs.Decimal.{twoBefore}
+use Rattle.text.specs.Number.{readFrom, digitsOf, unsignedOf}
+use Rattle.text.specs.declared.number.Number.the-variants.{Value}
+use Rattle.text.proofs.Numbers.{digit-range, isDigit-of-le}
+
+-- ---- what a digit is not
+pub eqb-of-digit : (b x : ℕ) → isDigit b ≡ true → isDigit x ≡ false → eqb b x ≡ false
+eqb-of-digit b x p q = ne-eqb b x (λ e. false≢true (sym q ∙ ap isDigit (sym e) ∙ p))
+
+pub isSign-of-digit : (b : ℕ) → isDigit b ≡ true → isSign b ≡ false
+unfolding isSign isDigit
+isSign-of-digit b p = rw (eqb-of-digit b 43 p refl, eqb-of-digit b 45 p refl)
+
+pub isSpace-of-digit : (b : ℕ) → isDigit b ≡ true → isSpace b ≡ false
+unfolding isSpace
+isSpace-of-digit b p =
+    let r = digit-range b p in
+    let l : 13 < b = omega (arith, r .0) in
+    let n : 9 ≤ b = omega (arith, r .0) in
+    rw (le-leb 9 b n, lt-leb b 13 l, ne-eqb b 32 (λ e. omega (arith, r .0, e)))
+
+module _ (b : ℕ) (p : isDigit b ≡ true) where
+  pub no-space : eqb b 32 ≡ false
+  unfolding isDigit
+  no-space = eqb-of-digit b 32 p refl
+
+  pub no-plus : eqb b 43 ≡ false
+  unfolding isDigit
+  no-plus = eqb-of-digit b 43 p refl
+
+  pub no-dash : eqb b 45 ≡ false
+  unfolding isDigit
+  no-dash = eqb-of-digit b 45 p refl
+
+  pub no-dot : eqb b 46 ≡ false
+  unfolding isDigit
+  no-dot = eqb-of-digit b 46 p refl
+
+  pub no-colon : eqb b 58 ≡ false
+  unfolding isDigit
+  no-colon = eqb-of-digit b 58 p refl
+
+  pub no-Z : eqb b 90 ≡ false
+  unfolding isDigit
+  no-Z = eqb-of-digit b 90 p refl
+
+-- ---- two digits of a number below 100
+pub tens : (n : ℕ) → n < 100 → isDigit (48 + n / 10) ≡ true
+tens n h = isDigit-of-le (48 + n / 10) (omega arith) (omega arith)
+
+pub ones : (n : ℕ) → isDigit (48 + n % 10) ≡ true
+ones n = isDigit-of-le (48 + n % 10) (omega arith) (omega arith)
+
+pub unsignedOf-two : (n : ℕ) → n < 100 → unsignedOf (twoBefore n []) ≡ Value n
+unfolding unsignedOf digitsOf readFrom
+unsignedOf-two n h =
+    let e : 10 * (10 * 0 + (48 + n / 10 - 48)) + (48 + n % 10 - 48) ≡ n = omega arith in
+    rw (no-plus (48 + n / 10) (tens n h), tens n h, ones n) (ap Value e)
