@@ -1,10 +1,9 @@
 // The entries for C: each reader, each writer and `size`, on numbers and byte slices. A slice is passed as a pointer and a length, a
 // number through a pointer. They keep no pointer and no state.
 ghost use mathlib.Core.Path.{_≡_};
-ghost use Rattle.time.specs.Answers.{numberOf, answerNumber, answerTime, writtenNumber, writtenLength};
+ghost use Rattle.time.specs.Answers.{timeAt, answerNumber, answerTime, writtenNumber, writtenLength};
 ghost use Rattle.time.specs.Header.{sizeOf, headerBytes, headerWritten, roomAfter};
 ghost use Rattle.time.specs.Iso.{isoBytes, isoWritten};
-ghost use Rattle.time.specs.Answers.{timeAt};
 ghost use Rattle.header.specs.Header.{headerOf};
 ghost use Rattle.header.specs.Raw.{rawOf, rule1};
 ghost use Rattle.iso.specs.Iso.{isoOf};
@@ -13,7 +12,6 @@ ghost use Rattle.dates.specs.Any.{anyOf};
 ghost use Rattle.dates.specs.Entries.{nowOf};
 use time::Answer;
 use time::Now;
-use time::Refusal;
 use time::Time;
 use time::Written;
 
@@ -146,7 +144,7 @@ fn hand_out(a: Answer, seconds: &mut i64, offset: &mut i32) -> u8
         Answer::Refused(r) => {
             *seconds = 0;
             *offset = 0;
-            number(r)
+            time::number_of(r)
         }
     }
 }
@@ -163,22 +161,7 @@ fn hand_length(w: Written, length: &mut usize) -> u8
         }
         Written::Refused(r) => {
             *length = 0;
-            number(r)
+            time::number_of(r)
         }
-    }
-}
-
-fn number(r: Refusal) -> u8
-    ensures { λ n. ⌜ n ≡ numberOf r ⌝ }
-{
-    match r {
-        Refusal::NotAscii => 1,
-        Refusal::Form => 2,
-        Refusal::Missing => 3,
-        Refusal::Current => 4,
-        Refusal::Pairs => 5,
-        Refusal::Range => 6,
-        Refusal::Offset => 7,
-        Refusal::Room => 8,
     }
 }

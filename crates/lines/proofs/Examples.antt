@@ -5,7 +5,7 @@ use Prim.Native.String.{String}
 use mathlib.Core.Path.{_≡_, refl}
 use mathlib.Core.List.{List, [], _∷_, _++_}
 use lib.IntN.{pos, negsuc}
-use Rattle.text.specs.Bytes.{isDigit}
+use Rattle.text.specs.Bytes.{isDigit, same}
 use Rattle.text.specs.Quote.{bytes}
 use Rattle.text.specs.Decimal.{decimalBefore, decimalBy}
 use Rattle.text.specs.Number.{signedOf, fitSigned, unsignedOf, digitsOf, readFrom}
@@ -13,7 +13,7 @@ use Rattle.text.specs.Places.{firstPlace, has, run}
 use Rattle.time.specs.Answers.{timeAt}
 use Rattle.time.specs.Header.{secondsBefore}
 use Rattle.time.specs.declared.Now.the-variants.{Missing, At}
-use Rattle.lines.specs.Layout.{same, formOf, currentOf, textOf, lineOf}
+use Rattle.lines.specs.Layout.{formOf, currentOf, textOf, lineOf}
 use Rattle.lines.specs.Rows.{rowBytes}
 use Rattle.lines.specs.Lines.{linesOf, endedLines}
 use Rattle.lines.specs.declared.layout.Form.the-variants.{Header, Raw, Iso, Relative, Any}

@@ -19,7 +19,7 @@ use Rattle.text.specs.declared.number.Integer.{Integer}
 use Rattle.text.specs.declared.number.Integer.the-variants.{Is, NotOne}
 use Rattle.text.proofs.Lists.{by-test, both}
 use Rattle.time.specs.declared.Now.{Now}
-use Rattle.lines.specs.Layout.{same, tab, rest, textOf, textPlace, asks, lineOf, formOf, currentOf, field, Fits32}
+use Rattle.lines.specs.Layout.{tab, rest, textOf, textPlace, asks, lineOf, formOf, currentOf, field, Fits32}
 use Rattle.lines.specs.declared.layout.Form.{Form}
 use Rattle.lines.specs.declared.layout.Named.{Named}
 use Rattle.lines.specs.declared.layout.Named.the-variants.{As, Unknown}
@@ -27,14 +27,6 @@ use Rattle.lines.specs.declared.layout.Current.{Current}
 use Rattle.lines.specs.declared.layout.Current.the-variants.{Is as Known, Neither}
 use Rattle.lines.specs.declared.layout.Line.{Line}
 use Rattle.lines.specs.declared.layout.Line.the-variants.{Asks, Wrong}
-
--- texts of two lengths are not the same
-pub same-of-length : (s t : List ℕ) → (length s ≡ length t → ⊥) → same s t ≡ false
-unfolding same
-same-of-length [] [] h = absurd (h refl)
-same-of-length [] (y ∷ t) h = refl
-same-of-length (x ∷ s) [] h = refl
-same-of-length (x ∷ s) (y ∷ t) h = rw (same-of-length s t (λ e. h (ap suc e)), and-false)
 
 -- what was fitted to 32 bits
 pub Fits32-of-fitSigned : (x r : Integer) → r ≡ fitSigned (2 ^ 31) x → Fits32 r

@@ -8,6 +8,7 @@ use lib.Dec.{leb, eqb}
 use lib.IntN.{pos, negsuc}
 use lib.ListN.{length, take, drop}
 use Rattle.ints.specs.Range.{In}
+use Rattle.text.specs.Bytes.{same}
 use Rattle.text.specs.Quote.{bytes}
 use Rattle.text.specs.Places.{firstPlace, has}
 use Rattle.text.specs.Number.{signedOf, fitSigned}
@@ -22,13 +23,6 @@ use Rattle.lines.specs.declared.layout.Current.{Current}
 use Rattle.lines.specs.declared.layout.Current.the-variants.{Is as Known, Neither}
 use Rattle.lines.specs.declared.layout.Line.{Line}
 use Rattle.lines.specs.declared.layout.Line.the-variants.{Asks, Wrong}
-
--- the same bytes
-unfoldable pub same : List ℕ → List ℕ → Bool
-same [] [] = true
-same [] (y ∷ t) = false
-same (x ∷ s) [] = false
-same (x ∷ s) (y ∷ t) = eqb x y && same s t
 
 -- form (`header`, `raw`, `iso`, `relative`, `any`)
 unfoldable pub formOf : List ℕ → Named

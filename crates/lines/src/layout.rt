@@ -2,7 +2,8 @@
 ghost use mathlib.Core.Path.{_≡_};
 ghost use Prim.Native.Nat.{_≤_};
 ghost use lib.ListN.{length, take, drop};
-ghost use Rattle.lines.specs.Layout.{same as sameBytes, formOf, currentAt, currentOf, asks as asksOf, lineOf, Fits32};
+ghost use Rattle.lines.specs.Layout.{formOf, currentAt, currentOf, asks as asksOf, lineOf, Fits32};
+use text::bytes;
 use text::number;
 use text::number::Integer;
 use text::places;
@@ -89,19 +90,19 @@ fn asks(form: Named, current: Current, at: usize) -> Line
 fn form_of(s: &[u8]) -> Named
     ensures { λ r. ⌜ r ≡ formOf (now (s .entry)) ⌝ }
 {
-    if same(s, b"header") {
+    if bytes::same(s, b"header") {
         return Named::As(Form::Header);
     }
-    if same(s, b"raw") {
+    if bytes::same(s, b"raw") {
         return Named::As(Form::Raw);
     }
-    if same(s, b"iso") {
+    if bytes::same(s, b"iso") {
         return Named::As(Form::Iso);
     }
-    if same(s, b"relative") {
+    if bytes::same(s, b"relative") {
         return Named::As(Form::Relative);
     }
-    if same(s, b"any") {
+    if bytes::same(s, b"any") {
         return Named::As(Form::Any);
     }
     Named::Unknown
@@ -111,7 +112,7 @@ fn form_of(s: &[u8]) -> Named
 fn current_of(seconds: &[u8], offset: &[u8]) -> Current
     ensures { λ r. ⌜ r ≡ currentOf (now (seconds .entry)) (now (offset .entry)) ⌝ }
 {
-    if same(seconds, b"-") & same(offset, b"-") {
+    if bytes::same(seconds, b"-") & bytes::same(offset, b"-") {
         return Current::Is(Now::Missing);
     }
     let z = number::signed_number(seconds, 9223372036854775808);
@@ -133,21 +134,4 @@ fn current_at(seconds: Integer, offset: Integer) -> Current
         },
         Integer::NotOne => Current::Neither,
     }
-}
-
-// Whether two texts are the same, byte for byte.
-pub fn same(s: &[u8], t: &[u8]) -> bool
-    ensures { λ r. ⌜ r ≡ sameBytes (now (s .entry)) (now (t .entry)) ⌝ }
-{
-    if s.len() != t.len() {
-        return false;
-    }
-    let mut i = 0;
-    while i < s.len() {
-        if s[i] != t[i] {
-            return false;
-        }
-        i += 1;
-    }
-    true
 }

@@ -10,7 +10,6 @@ ghost use mathlib.Core.Path.{_≡_};
 ghost use Prim.Native.Nat.{_≤_, _<_};
 ghost use lib.ListN.{length};
 ghost use Rattle.calendar.specs.Table.{IsMonths};
-ghost use Rattle.time.specs.Answers.{numberOf};
 ghost use Rattle.lines.specs.Answers.{answerBy, rowAt, rowOf, answerLine};
 ghost use Rattle.lines.specs.Rows.{writtenIn, roomWith};
 use layout::Form;
@@ -18,7 +17,6 @@ use layout::Line;
 use print::Row;
 use time::Answer;
 use time::Now;
-use time::Refusal;
 
 // Writes the answer line of `line`, which is without its end, to the front of `out`, and hands back how many bytes that took. Those
 // beyond stay. An answer that does not fit is not written: 0, and `out` holds what it held. 64 bytes are room for every answer.
@@ -74,24 +72,9 @@ fn told(a: Answer) -> Row
             offset: t.offset,
         },
         Answer::Refused(why) => Row {
-            number: number_of(why),
+            number: time::number_of(why) as u64,
             seconds: 0,
             offset: 0,
         },
-    }
-}
-
-fn number_of(why: Refusal) -> u64
-    ensures { λ r. ⌜ r ≡ numberOf why ⌝ }
-{
-    match why {
-        Refusal::NotAscii => 1,
-        Refusal::Form => 2,
-        Refusal::Missing => 3,
-        Refusal::Current => 4,
-        Refusal::Pairs => 5,
-        Refusal::Range => 6,
-        Refusal::Offset => 7,
-        Refusal::Room => 8,
     }
 }

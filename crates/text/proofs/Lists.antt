@@ -8,7 +8,7 @@ use Prim.Native.Nat.{ℕ, zero, suc, _+_, _-_, _≤_, _<_}
 use native.Mathlib.Numerals.{add-one}
 use native.Mathlib.Omega.{arith}
 use lib.ListN.{length, getD, take, drop, length-drop}
-use Rattle.text.specs.Bytes.{sameLetters}
+use Rattle.text.specs.Bytes.{same, sameLetters}
 use lib.Seq.{drop-cons, take-all, take-suc}
 
 -- by a test: each case may rewrite by what the test says there
@@ -37,6 +37,13 @@ take-snoc s e p h =
     rw k at (take-suc s (e - 1) 0 l)
 
 -- texts of two lengths are not the same
+pub same-of-length : (s t : List ℕ) → (length s ≡ length t → ⊥) → same s t ≡ false
+unfolding same
+same-of-length [] [] h = absurd (h refl)
+same-of-length [] (y ∷ t) h = refl
+same-of-length (x ∷ s) [] h = refl
+same-of-length (x ∷ s) (y ∷ t) h = rw (same-of-length s t (λ e. h (ap suc e)), and-false)
+
 pub sameLetters-of-length : (s t : List ℕ) → (length s ≡ length t → ⊥) → sameLetters s t ≡ false
 unfolding sameLetters
 sameLetters-of-length [] [] h = absurd (h refl)

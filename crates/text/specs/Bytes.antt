@@ -34,6 +34,13 @@ unfoldable pub ascii : List ℕ → Bool
 ascii [] = true
 ascii (b ∷ s) = ltb b 128 && ascii s
 
+-- the same bytes
+unfoldable pub same : List ℕ → List ℕ → Bool
+same [] [] = true
+same [] (y ∷ t) = false
+same (x ∷ s) [] = false
+same (x ∷ s) (y ∷ t) = eqb x y && same s t
+
 -- the same in any letter case
 unfoldable pub sameLetters : List ℕ → List ℕ → Bool
 sameLetters [] [] = true

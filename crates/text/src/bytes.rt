@@ -1,7 +1,7 @@
 // What a byte is, and what a text is made of. The tests are written with `&` and `|`: they have no branch, and compute as
 // their definitions do.
 ghost use mathlib.Core.Path.{_≡_};
-ghost use Rattle.text.specs.Bytes.{isSpace, isDigit, isSign, isAlphanumeric, lowerOf, ascii, sameLetters};
+ghost use Rattle.text.specs.Bytes.{isSpace, isDigit, isSign, isAlphanumeric, lowerOf, ascii, same as sameBytes, sameLetters};
 
 // White space: bytes 9 to 13, byte 11 among them, and 32.
 pub fn is_space(b: u8) -> bool
@@ -53,6 +53,23 @@ pub fn is_ascii(s: &[u8]) -> bool
         i += 1;
     }
     all
+}
+
+// Whether two texts are the same, byte for byte.
+pub fn same(s: &[u8], t: &[u8]) -> bool
+    ensures { λ r. ⌜ r ≡ sameBytes (now (s .entry)) (now (t .entry)) ⌝ }
+{
+    if s.len() != t.len() {
+        return false;
+    }
+    let mut i = 0;
+    while i < s.len() {
+        if s[i] != t[i] {
+            return false;
+        }
+        i += 1;
+    }
+    true
 }
 
 // Whether two texts are the same but for the case of their letters.

@@ -90,7 +90,6 @@ isLike [] (b ∷ s) = false
 isLike (p ∷ ps) [] = false
 isLike (p ∷ ps) (b ∷ s) = likeByte p b && isLike ps s
 
--- two digits of a number below 100
 sign : (z : ℤ) → isSign (signByte z) ≡ true
 unfolding isSign signByte
 sign (pos n) = refl

@@ -10,7 +10,7 @@ ghost use mathlib.Core.Path.{_≡_};
 ghost use Prim.Native.Nat.{_≤_, _<_};
 ghost use lib.ListN.{length};
 ghost use Rattle.text.specs.Decimal.{decimal};
-ghost use Rattle.time.specs.Answers.{timeAt};
+ghost use Rattle.time.specs.Answers.{timeAt, numberOf};
 ghost use Rattle.calendar.specs.Table.{IsMonths};
 ghost use Rattle.time.specs.Header.{sizeOf, headerBytes, headerWritten, roomAfter};
 ghost use Rattle.time.specs.Iso.{isoBytes, isoWritten};
@@ -106,7 +106,7 @@ impl Time {
     }
 }
 
-// Why a text is not read, or a time not written. Document 01's number of each is `numberOf`.
+// Why a text is not read, or a time not written.
 pub enum Refusal {
     // 1: the text holds a byte of 128 or more.
     NotAscii,
@@ -124,6 +124,22 @@ pub enum Refusal {
     Offset,
     // 8: the room lent is shorter than the bytes to be written.
     Room,
+}
+
+// The number of a refusal in document 01.
+pub fn number_of(r: Refusal) -> u8
+    ensures { λ n. ⌜ n ≡ numberOf r ⌝ }
+{
+    match r {
+        Refusal::NotAscii => 1,
+        Refusal::Form => 2,
+        Refusal::Missing => 3,
+        Refusal::Current => 4,
+        Refusal::Pairs => 5,
+        Refusal::Range => 6,
+        Refusal::Offset => 7,
+        Refusal::Room => 8,
+    }
 }
 
 // What a reader answers.

@@ -1,4 +1,4 @@
--- `lines::layout::same` meets its contract. The invariant: the answer for what is left of both is the answer for the whole. The measure
+-- `text::bytes::same` meets its contract. The invariant: the answer for what is left of both is the answer for the whole. The measure
 -- is what is left.
 -- Assumes nothing.
 use mathlib.Core.Path.{_≡_, refl, sym}
@@ -6,11 +6,10 @@ use Prim.Native.Nat.{_-_, _<_, _≤_}
 use borrow.Author.Needs.{needs}
 use borrow.Author.Tests.{eq-eqb, ne-eqb}
 use lib.ListN.{length, drop, drop-of-length-le}
-use Rattle.text.proofs.Lists.{drop-cons-add-one}
-use Rattle.lines.specs.Layout.{same}
-use Rattle.lines.proofs.Layouts.{same-of-length}
-use Rattle.lines.proofs.layout.same.Statement.{statement}
-use Rattle.lines.proofs.layout.same.Tie as tie
+use Rattle.text.specs.Bytes.{same}
+use Rattle.text.proofs.Lists.{drop-cons-add-one, same-of-length}
+use Rattle.text.proofs.bytes.same.Statement.{statement}
+use Rattle.text.proofs.bytes.same.Tie as tie
 
 abbrev Inv-loop : tie.InvT-loop
 Inv-loop s t i₀ i = same s t ≡ same (drop i s) (drop i t)
