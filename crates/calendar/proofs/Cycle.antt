@@ -1,15 +1,16 @@
 -- The calendar goes by cycles of 400 years, which are 4,800 months and 146,097 days (`yearStart-add-400`, `firstDay-add-4800`,
 -- `firstDay-by-cycle`). So what a test shows of one cycle holds of every month: a first day is within three days of what the mean
--- length of a month gives (`firstDay-lower`, `firstDay-upper`), and first days strictly rise (`firstDay-lt`, `firstDay-le`).
+-- length of a month gives (`firstDay-lower`, `firstDay-upper`), and first days strictly rise (`firstDay-lt`, `firstDay-le`). The
+-- same pass tests the days that the code counts by rule (`fromMarch-firstDay`).
 -- Assumes nothing.
 use mathlib.Core.Path.{_≡_, _∙_, refl, ap}
 use mathlib.Core.Logic.{⊎-elim}
 use mathlib.Core.Bool.{Bool, _&&_}
-use Prim.Native.Nat.{ℕ, zero, suc, _+_, _*_, _/_, _%_, _≤_, _<_}
+use Prim.Native.Nat.{ℕ, zero, suc, _+_, _*_, _-_, _/_, _%_, _≤_, _<_}
 use native.Mathlib.Nat.{zero-mul, zero-add, suc-add, eq-or-lt-of-le, not-suc-le-zero}
 use native.Mathlib.Decide.{decLe}
 use native.Mathlib.Omega.{arith}
-use lib.Dec.{T, leb, leb→le}
+use lib.Dec.{T, leb, eqb, leb→le, eqb→eq}
 use mir.Facts.{and-yes}
 use Rattle.calendar.specs.Calendar.{leap, lengths, monthLength, yearLength, total, yearStart, firstDay}
 use Rattle.calendar.proofs.Lengths.{firstDay-suc}
@@ -70,19 +71,43 @@ firstDay-by-cycle m =
     let e : m ≡ m / 4800 * 4800 + m % 4800 = omega arith in
     ap firstDay e ∙ firstDay-mul-4800-add (m / 4800) (m % 4800)
 
--- ---- first days by the mean length of a month, 48699 / 1600 days
+-- ---- one pass along a cycle
+
+-- the days from 1 March of a year that divides by 400 to the first of a month: whole years y, and m months from March
+abbrev pub sinceMarch : ℕ → ℕ → ℕ
+sinceMarch y m = y * 365 + y / 4 - y / 100 + y / 400 + (153 * m + 2) / 5
+
+-- of month k, from the March that comes 4,798 months before month 0
+abbrev pub fromMarch : ℕ → ℕ
+fromMarch k = sinceMarch ((k + 4798) / 12) ((k + 4798) % 12)
 
 near : ℕ → ℕ → Bool
 near m x = leb (48699 * m) (1600 * x + 4800) && leb (1600 * x) (48699 * m + 4800)
 
-cycle-near : T (cycle near)
-unfolding near monthLength lengths leap
-cycle-near = tt
+counted : ℕ → ℕ → Bool
+counted m x = eqb (fromMarch m) (x + 146037)
+
+tested : ℕ → ℕ → Bool
+tested m x = near m x && counted m x
+
+cycle-tested : T (cycle tested)
+unfolding tested near counted monthLength lengths leap
+cycle-tested = tt
+
+tested-at : (m : ℕ) → m < 4800 → T (near m (firstDay m)) × T (counted m (firstDay m))
+unfolding tested
+tested-at m h = and-yes (near m (firstDay m)) (counted m (firstDay m)) (cycle-at tested cycle-tested m h)
+
+pub fromMarch-firstDay : (k : ℕ) → k < 4800 → fromMarch k ≡ firstDay k + 146037
+unfolding counted
+fromMarch-firstDay k h = eqb→eq (fromMarch k) (firstDay k + 146037) (tested-at k h .1)
+
+-- ---- first days by the mean length of a month, 48699 / 1600 days
 
 near-at : (m : ℕ) → m < 4800 → T (leb (48699 * m) (1600 * firstDay m + 4800)) × T (leb (1600 * firstDay m) (48699 * m + 4800))
 unfolding near
 near-at m h =
-    and-yes (leb (48699 * m) (1600 * firstDay m + 4800)) (leb (1600 * firstDay m) (48699 * m + 4800)) (cycle-at near cycle-near m h)
+    and-yes (leb (48699 * m) (1600 * firstDay m + 4800)) (leb (1600 * firstDay m) (48699 * m + 4800)) (tested-at m h .0)
 
 pub firstDay-lower : (m : ℕ) → 48699 * m ≤ 1600 * firstDay m + 4800
 firstDay-lower m =

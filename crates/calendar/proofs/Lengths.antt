@@ -1,11 +1,12 @@
 -- Years and months one after the other: a year is its twelve months (`firstDay-year`), a month's days lead to the next month's
--- first (`firstDay-suc`), and a month has 28 to 31 days (`monthLength-ge`, `monthLength-le`).
+-- first (`firstDay-suc`, `firstDay-add-one`), and a month has 28 to 31 days (`monthLength-ge`, `monthLength-le`).
 -- Assumes nothing.
-use mathlib.Core.Path.{_≡_, refl}
+use mathlib.Core.Path.{_≡_, refl, ap, _∙_}
 use mathlib.Core.Bool.{Bool, true, false, cond, _&&_}
 use mathlib.Core.List.{List, [], _∷_}
 use Prim.Native.Nat.{ℕ, zero, suc, _+_, _*_, _/_, _%_, _≤_, _<_}
 use native.Mathlib.Nat.{le-of-suc-le-suc, not-suc-le-zero}
+use native.Mathlib.Numerals.{add-one}
 use native.Mathlib.Decide.{decLt}
 use native.Mathlib.Omega.{arith}
 use lib.Dec.{T, leb, leb→le}
@@ -54,6 +55,9 @@ firstDay-suc m =
           let c : m % 12 ≡ 11 = omega arith in
           rw (a, b, c) (omega (arith, total-lengths (m / 12)))
     ]
+
+pub firstDay-add-one : (m : ℕ) → firstDay (m + 1) ≡ firstDay m + monthLength m
+firstDay-add-one m = ap firstDay (add-one m) ∙ firstDay-suc m
 
 pub firstDay-zero : firstDay 0 ≡ 0
 unfolding firstDay yearStart total

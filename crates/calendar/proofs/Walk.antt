@@ -1,8 +1,9 @@
 -- A test that runs along the months in one pass, the first day carried on from month to month: what antt computes of a whole list
--- holds of each entry (`walk-getD`). A list that passes it with its entries for first days is the month table
--- (`IsMonths-of-walk`). `cycle` is such a test with no list, at the 4,800 months of one cycle (`cycle-at`).
+-- holds of each entry (`walk-getD`). A list that passes it with its entries for first days is the month table, or opens it
+-- (`IsMonths-of-walk`; the empty one, `IsMonths-nil`), and of each length there is one (`IsMonths-unique`). `cycle` is such a test
+-- with no list, at the 4,800 months of one cycle (`cycle-at`).
 -- Assumes nothing.
-use mathlib.Core.Path.{_≡_, subst, sym, _∙_}
+use mathlib.Core.Path.{_≡_, sym, _∙_}
 use mathlib.Core.Bool.{Bool, true, _&&_}
 use mathlib.Core.List.{List, [], _∷_}
 use Prim.Native.Nat.{ℕ, zero, suc, _+_, _<_}
@@ -36,12 +37,16 @@ walk-getD f ys t k h =
 abbrev pub isFirst : ℕ → ℕ → ℕ → Bool
 isFirst m x y = eqb y x
 
-pub IsMonths-of-walk : {t : List ℕ} → length t ≡ 4800 → T (walk isFirst 0 0 t) → IsMonths t
-IsMonths-of-walk {t} n w =
-    record {
-      size = n;
-      entry = λ k h. eqb→eq (getD t k 0) (firstDay k) (walk-getD isFirst t w k (subst (λ (m : ℕ). k < m) (sym n) h));
-    }
+pub IsMonths-of-walk : {t : List ℕ} → T (walk isFirst 0 0 t) → IsMonths t
+IsMonths-of-walk {t} w = record { entry = λ k h. eqb→eq (getD t k 0) (firstDay k) (walk-getD isFirst t w k h) }
+
+-- no table at all
+pub IsMonths-nil : IsMonths []
+IsMonths-nil = IsMonths-of-walk tt
+
+-- two of one length are the same
+pub IsMonths-unique : {t u : List ℕ} → length t ≡ length u → IsMonths t → IsMonths u → t ≡ u
+IsMonths-unique {t} {u} e p q = ext-getD 0 t u e (λ k h. p .entry k h ∙ sym (q .entry k (rw e at h)))
 
 -- a test of a month and its first day, at the months of one cycle
 abbrev pub cycle : (ℕ → ℕ → Bool) → Bool
@@ -49,9 +54,3 @@ cycle f = walk (λ m x y. f m x) 0 0 (replicate 4800 0)
 
 pub cycle-at : (f : ℕ → ℕ → Bool) → T (cycle f) → (m : ℕ) → m < 4800 → T (f m (firstDay m))
 cycle-at f t m h = walk-getD (λ m x y. f m x) (replicate 4800 0) t m (rw length-replicate h)
-
--- and there is one such list
-pub IsMonths-unique : {t u : List ℕ} → IsMonths t → IsMonths u → t ≡ u
-IsMonths-unique {t} {u} p q =
-    ext-getD 0 t u (p .size ∙ sym (q .size))
-    (λ k h. let l : k < 4800 = subst (λ (m : ℕ). k < m) (p .size) h in p .entry k l ∙ sym (q .entry k l))

@@ -4,8 +4,10 @@
 // is day 4,371,953, of month 143,640. Days end with year 9999, before day 7,304,850. No number here
 // is signed: who has a signed year adds 10000 to it, and to a signed day 4,371,953.
 //
-// `months` builds the table, some 19 KB. Each other function is lent it, and asks that it is the
-// months' (`IsMonths`). A day or a time that there may not be is a `Found`.
+// `months` builds the table, some 19 KB: for who asks many times. Each other function is lent it, or
+// a part that opens it, and asks that it is the months' (`IsMonths`). Who asks once lends none, `&[]`:
+// first days beyond what is lent come from the leap rule. A day or a time that there may not be is a
+// `Found`.
 mod table;
 
 pub use table::months;
@@ -28,19 +30,45 @@ pub enum Found {
     Nothing,
 }
 
-// The first day of month m: the whole cycles before it, and its entry of the table.
-pub fn first_day(t: &[u32; 4800], m: u64) -> u64
+// The first day of month m: the whole cycles before it, and its place in its own.
+pub fn first_day(t: &[u32], m: u64) -> u64
     requires table { ⌜ IsMonths (now t) ⌝ }
     requires month { ⌜ m ≤ 240000 ⌝ }
     ensures is { λ r. ⌜ r ≡ firstDay m ⌝ }
     ensures range { λ r. ⌜ r ≤ 7304850 ⌝ }
 {
-    let i = (m % 4800) as usize;
-    m / 4800 * 146097 + t[i] as u64
+    m / 4800 * 146097 + entry(t, m % 4800)
+}
+
+// The first day of month k of a cycle: by the table as far as it goes, and beyond by the rule.
+fn entry(t: &[u32], k: u64) -> u64
+    requires table { ⌜ IsMonths (now t) ⌝ }
+    requires month { ⌜ k < 4800 ⌝ }
+    ensures { λ r. ⌜ r ≡ firstDay k ⌝ }
+{
+    let i = k as usize;
+    if i < t.len() {
+        return t[i] as u64;
+    }
+    by_rule(k)
+}
+
+// The same by the leap rule alone, since to build the table takes as long as a whole answer. Years
+// are counted from the March of 400 years before, so that a leap day is the last of its year, and
+// what comes before a month in its year is always as long. From that March to day 0 of the cycle are
+// 146,037 days.
+fn by_rule(k: u64) -> u64
+    requires { ⌜ k < 4800 ⌝ }
+    ensures { λ r. ⌜ r ≡ firstDay k ⌝ }
+{
+    let j = k + 4798;
+    let y = j / 12;
+    let m = j % 12;
+    y * 365 + y / 4 - y / 100 + y / 400 + (153 * m + 2) / 5 - 146037
 }
 
 // The days of month m: from its first day to that of the next month.
-pub fn month_length(t: &[u32; 4800], m: u64) -> u64
+pub fn month_length(t: &[u32], m: u64) -> u64
     requires table { ⌜ IsMonths (now t) ⌝ }
     requires month { ⌜ m < 240000 ⌝ }
     ensures is { λ r. ⌜ r ≡ monthLength m ⌝ }
@@ -52,7 +80,7 @@ pub fn month_length(t: &[u32; 4800], m: u64) -> u64
 
 // The date of day d. A month has 48699 / 1600 days on the mean, and no first day is more than three
 // days from what that gives; so the month of d + 3 by the mean is d's month, or the one after it.
-pub fn date_of(t: &[u32; 4800], d: u64) -> Date
+pub fn date_of(t: &[u32], d: u64) -> Date
     requires table { ⌜ IsMonths (now t) ⌝ }
     requires day { ⌜ d < 7304850 ⌝ }
     ensures is { λ r. ⌜ r ≡ dateOf d ⌝ }
@@ -76,7 +104,7 @@ pub fn date_of(t: &[u32; 4800], d: u64) -> Date
 }
 
 // The day of a date, which its month must have.
-pub fn day_of(t: &[u32; 4800], x: Date) -> u64
+pub fn day_of(t: &[u32], x: Date) -> u64
     requires table { ⌜ IsMonths (now t) ⌝ }
     requires month { ⌜ x .month < 240000 ⌝ }
     requires day { ⌜ x .day < monthLength (x .month) ⌝ }
@@ -88,7 +116,7 @@ pub fn day_of(t: &[u32; 4800], x: Date) -> u64
 
 // The day of year y (from -10000), month m from 1 and day k from 1; Nothing if there is no such
 // date, as 29 February 1900, or none to the end of year 9999.
-pub fn day_number(t: &[u32; 4800], y: u64, m: u64, k: u64) -> Found
+pub fn day_number(t: &[u32], y: u64, m: u64, k: u64) -> Found
     requires { ⌜ IsMonths (now t) ⌝ }
     ensures is { λ r. ⌜ r ≡ dayNumber y m k ⌝ }
     ensures range { λ r. ⌜ Below 7304850 r ⌝ }
@@ -106,16 +134,17 @@ pub fn day_number(t: &[u32; 4800], y: u64, m: u64, k: u64) -> Found
         return Found::Nothing;
     }
     let n = y * 12 + (m - 1);
-    if month_length(t, n) < k {
+    let f = first_day(t, n);
+    if first_day(t, n + 1) - f < k {
         return Found::Nothing;
     }
-    Found::At(first_day(t, n) + (k - 1))
+    Found::At(f + (k - 1))
 }
 
 // A local time, in seconds from day 0, n months earlier: on the same day of the month by the same
 // clock. Not 30 April for 31 May: surplus days run on into the next month, to 1 May. Nothing if
 // that is before month 0. It is never later than the time it starts from.
-pub fn months_back(t: &[u32; 4800], local: u64, n: u64) -> Found
+pub fn months_back(t: &[u32], local: u64, n: u64) -> Found
     requires table { ⌜ IsMonths (now t) ⌝ }
     requires time { ⌜ local < 7304850 * 86400 ⌝ }
     ensures is { λ r. ⌜ r ≡ backOf local n ⌝ }

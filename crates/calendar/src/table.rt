@@ -1,6 +1,7 @@
 // The month table: the first days of the 4,800 months of four hundred years, from a January of a
 // year that divides by 400. `months` alone names it, since a constant array is built on the stack
-// wherever it is named: build it once, and lend it to the functions of the crate.
+// wherever it is named: who asks many times builds it once, and lends it to the functions of the
+// crate.
 ghost use Rattle.calendar.specs.Table.{IsMonths};
 
 const MONTHS: [u32; 4800] = [

@@ -15,26 +15,11 @@ use time::Time;
 pub fn parse(s: &[u8], current: Now) -> Answer
     ensures { λ r. ⌜ r ≡ anyOf (now (s .entry)) current ⌝ }
 {
-    if text::bytes::is_ascii(s) {
-        let plain = parse_plain(s);
-        if is_settled(plain) {
-            return plain;
-        }
-        let iso = iso::parse_git_date_format(s);
-        if is_settled(iso) {
-            return iso;
-        }
-        let relative = relative::parse(s, current);
-        if is_settled(relative) {
-            return relative;
-        }
-        return header::raw::parse_raw(s);
-    }
-    Answer::Refused(Refusal::NotAscii)
+    parse_with(&[], s, current)
 }
 
-// The same with the table of months lent, for callers that read many texts.
-pub fn parse_with(months: &[u32; 4800], s: &[u8], current: Now) -> Answer
+// The same with the table of months lent, or a part that opens it, for callers that read many texts.
+pub fn parse_with(months: &[u32], s: &[u8], current: Now) -> Answer
     requires { ⌜ IsMonths (now months) ⌝ }
     ensures { λ r. ⌜ r ≡ anyOf (now (s .entry)) current ⌝ }
 {

@@ -2,8 +2,8 @@
 // `2008-02-14 20:30:45 +01:00`. Every text has an answer: a time; NotAscii (1) for a byte of 128 or
 // more; else Form (2), also for a date that does not exist and for an instant out of range.
 //
-// The table of months is built once, and only for a text with a date, a time and an offset in it.
-// `parse_git_date_format_with` is lent it, for callers that read many texts.
+// `parse_git_date_format` reads no table of months; `parse_git_date_format_with` is lent it, for
+// callers that read many texts.
 mod clock;
 mod cut;
 mod forms;
@@ -29,18 +29,11 @@ use time::Time;
 pub fn parse_git_date_format(s: &[u8]) -> Answer
     ensures { λ r. ⌜ r ≡ isoOf (now (s .entry)) ⌝ }
 {
-    if text::bytes::is_ascii(s) {
-        let Fields::Are(f) = forms::parse(text::trim::trimmed(s)) else {
-            return Answer::Refused(Refusal::Form);
-        };
-        let months = calendar::months();
-        return new_zoned(&months, f);
-    }
-    Answer::Refused(Refusal::NotAscii)
+    parse_git_date_format_with(&[], s)
 }
 
-// The same, with the table of months lent.
-pub fn parse_git_date_format_with(months: &[u32; 4800], s: &[u8]) -> Answer
+// The same, with the table of months lent, or a part that opens it.
+pub fn parse_git_date_format_with(months: &[u32], s: &[u8]) -> Answer
     requires { ⌜ IsMonths (now months) ⌝ }
     ensures { λ r. ⌜ r ≡ isoOf (now (s .entry)) ⌝ }
 {
@@ -54,7 +47,7 @@ pub fn parse_git_date_format_with(months: &[u32; 4800], s: &[u8]) -> Answer
 }
 
 // What the fields of a text mean, if their date exists and their instant is in range.
-fn new_zoned(months: &[u32; 4800], f: Local) -> Answer
+fn new_zoned(months: &[u32], f: Local) -> Answer
     requires table { ⌜ IsMonths (now months) ⌝ }
     requires second { ⌜ f .second ≤ 86399 ⌝ }
     requires offset { ⌜ In (negℤ (pos 362340)) (pos 362340) (f .offset) ⌝ }
@@ -69,7 +62,7 @@ fn new_zoned(months: &[u32; 4800], f: Local) -> Answer
 }
 
 // The day of a date that exists, in the years -9999 to 9999.
-fn date(months: &[u32; 4800], y: i64, m: i64, d: i64) -> Found
+fn date(months: &[u32], y: i64, m: i64, d: i64) -> Found
     requires { ⌜ IsMonths (now months) ⌝ }
     ensures is { λ r. ⌜ r ≡ dayOf y m d ⌝ }
     ensures range { λ r. ⌜ Below 7304850 r ⌝ }

@@ -5,7 +5,7 @@ use mathlib.Core.Path.{_≡_, refl, sym, _∙_}
 use mathlib.Core.Bool.{true}
 use Prim.Native.Nat.{ℕ, suc, _+_, _-_, _*_, _/_, _%_, _≤_, _<_}
 use native.Mathlib.Omega.{arith}
-use native.Mathlib.Nat.{div-lt-iff-lt-mul, le-div-iff-mul-le, mul-one}
+use native.Mathlib.Nat.{div-lt-iff-lt-mul, le-div-iff-mul-le}
 use borrow.Author.Tests.{leb-true, leb-false}
 use lib.Dec.{leb}
 use lib.IntN.{ℤ, pos, negsuc, negℤ, _+ℤ_, _-ℤ_, _*ℤ_}
@@ -21,16 +21,11 @@ use Rattle.calendar.proofs.Lengths.{firstDay-zero}
 use Rattle.calendar.proofs.Cycle.{firstDay-le, firstDay-add-4800}
 use Rattle.calendar.proofs.Dates.{IsDate-monthOf, IsDate-day-lt, IsDate-month-lt}
 use Rattle.time.specs.Range.{leastSeconds, mostSeconds, secondsInRange, since1970, timeOf, InRange}
-use Rattle.text.specs.declared.number.Number.the-variants.{Value}
-use Rattle.time.specs.declared.Time.{Time}
 use Rattle.time.specs.declared.range.Instant.{Instant}
 use Rattle.time.specs.declared.Refusal.the-variants.{Range}
-use Rattle.time.specs.declared.Answer.the-variants.{Time as Answered, Refused}
+use Rattle.time.specs.declared.Answer.the-variants.{Refused}
 use Rattle.time.proofs.Ranges.{secondsInRange-since1970}
-use Rattle.relative.specs.Steps.{localSeconds, monthStart, monthsEarlier, landing, landed, step}
-use Rattle.relative.specs.Held.{Sized, secondsIn}
-use Rattle.relative.specs.declared.Unit.{Unit}
-use Rattle.relative.specs.declared.Unit.the-variants.{Seconds, Months, Unknown}
+use Rattle.relative.specs.Steps.{localSeconds, monthStart, monthsEarlier, landed}
 
 -- ---- below the range
 pub landed-of-lt : (z o : ℤ) → z <ℤ leastSeconds → landed z o ≡ Refused Range
@@ -155,14 +150,3 @@ pub landed-local-lt : (l o : ℕ) (x : ℤ) → l + 93600 < o → o ≤ 187199 �
 landed-local-lt l o x h k =
     let z : ℤ = pos o -ℤ pos 93600 in
     landed-of-lt _ x (parts-lt _ _ (omega (arith, add-parts (since1970 l) (negℤ z), add-parts (pos l) (negsuc 377736739199), add-parts (pos o) (negsuc 93599), up-neg z, dn-neg z)))
-
--- ---- a unit's seconds
-pub landing-secondsIn : (u : Unit) (k : ℕ) → Sized u → secondsIn u ≡ Value k → (1 ≤ k) × ((x : Time) (n : ℕ) → landing x n u ≡ x .seconds -ℤ pos (n * k))
-unfolding landing
-landing-secondsIn (Seconds j) k h e = let i : j ≡ k = cc in (rw i at h, λ x n. rw i)
-landing-secondsIn (Months j) k h e = let z : _≡_ {A = ℕ} 0 1 = cc in absurd (omega arith)
-landing-secondsIn Unknown k h e = let i : _≡_ {A = ℕ} 1 k = cc in (omega arith, λ x n. rw (← i, mul-one))
-
-pub step-secondsIn : (u : Unit) (k n : ℕ) (x : Time) → Sized u → secondsIn u ≡ Value k → step (record { count = n; unit = u }) (Answered x) ≡ landed (x .seconds -ℤ pos (n * k)) (x .offset)
-unfolding step
-step-secondsIn u k n x h e = rw (landing-secondsIn u k h e .1 x n)

@@ -8,8 +8,6 @@ use mathlib.Core.Bool.{Bool, cond}
 use mathlib.Core.List.{List, [], _∷_}
 use lib.Dec.{leb, eqb}
 use lib.ListN.{take}
-use Rattle.text.specs.declared.number.Number.{Number}
-use Rattle.text.specs.declared.number.Number.the-variants.{Value, Not as NoNumber}
 use Rattle.time.specs.Range.{timeInRange, timeOf, instantOf, InRange}
 use Rattle.time.specs.declared.range.Moved.{Moved}
 use Rattle.time.specs.declared.range.Moved.the-variants.{In, Out}
@@ -36,12 +34,6 @@ abbrev pub Sized : PairUnit → Type 0
 Sized (Seconds k) = 1 ≤ k
 Sized (Months k) = 1 ≤ k
 Sized Unknown = Unit {0}
-
--- the seconds of a unit that is no month: an unknown one counts as seconds
-abbrev pub secondsIn : PairUnit → Number
-secondsIn (Seconds k) = Value k
-secondsIn (Months k) = NoNumber
-secondsIn Unknown = Value 1
 
 unfoldable pub zipped : List ℕ → List ℕ → List Pair
 zipped [] us = []

@@ -2,8 +2,7 @@
 // time at a fixed offset.
 //
 // Every text has an answer: a time, or the refusal 1, 2, 5, 3, 4 or 6 that comes first. `parse`
-// builds the month table only when it comes to a month or a year, and then once; `parse_with` is
-// lent it.
+// reads no month table; `parse_with` is lent it, for callers that read many texts.
 mod pairs;
 mod steps;
 mod words;
@@ -44,25 +43,18 @@ pub struct Pair {
 pub fn parse(s: &[u8], current: Now) -> Answer
     ensures { λ r. ⌜ r ≡ relativeOf maxPairs (now (s .entry)) current ⌝ }
 {
-    if text::bytes::is_ascii(s) {
-        let named = parse_named(s);
-        let Number::Value(k) = named else {
-            return parse_pairs(s, current);
-        };
-        return seconds_before(current, k);
-    }
-    Answer::Refused(Refusal::NotAscii)
+    parse_with(&[], s, current)
 }
 
-// The same by a month table that is lent: for many texts in a row.
-pub fn parse_with(months: &[u32; 4800], s: &[u8], current: Now) -> Answer
+// The same by a month table that is lent, or a part that opens it: for many texts in a row.
+pub fn parse_with(months: &[u32], s: &[u8], current: Now) -> Answer
     requires { ⌜ IsMonths (now months) ⌝ }
     ensures { λ r. ⌜ r ≡ relativeOf maxPairs (now (s .entry)) current ⌝ }
 {
     if text::bytes::is_ascii(s) {
         let named = parse_named(s);
         let Number::Value(k) = named else {
-            return parse_pairs_with(months, s, current);
+            return parse_pairs(months, s, current);
         };
         return seconds_before(current, k);
     }
@@ -99,23 +91,7 @@ fn seconds_before(current: Now, k: u64) -> Answer
 
 // Pairs go into two lent arrays, which are filled only here: a named text does without. Only a text
 // with a count and its unit goes on to the calendar.
-fn parse_pairs(s: &[u8], current: Now) -> Answer
-    ensures { λ r. ⌜ r ≡ byPairs maxPairs (now (s .entry)) current ⌝ }
-{
-    let mut counts = [0u64; MAX_PAIRS];
-    let mut units = [0u64; MAX_PAIRS];
-    let told = pairs::parse_ago(s, &mut counts, &mut units);
-    let Told::Pairs(n) = told else {
-        return Answer::Refused(pairs::told_refusal(told));
-    };
-    let start = steps::start_of(current);
-    let Start::From(i) = start else {
-        return Answer::Refused(steps::start_refusal(start));
-    };
-    steps::answer(steps::subtract_pairs(&counts, &units, n, i))
-}
-
-fn parse_pairs_with(months: &[u32; 4800], s: &[u8], current: Now) -> Answer
+fn parse_pairs(months: &[u32], s: &[u8], current: Now) -> Answer
     requires { ⌜ IsMonths (now months) ⌝ }
     ensures { λ r. ⌜ r ≡ byPairs maxPairs (now (s .entry)) current ⌝ }
 {
@@ -129,5 +105,5 @@ fn parse_pairs_with(months: &[u32; 4800], s: &[u8], current: Now) -> Answer
     let Start::From(i) = start else {
         return Answer::Refused(steps::start_refusal(start));
     };
-    steps::answer(steps::subtract_pairs_with(months, &counts, &units, 0, n, i))
+    steps::answer(steps::subtract_pairs(months, &counts, &units, n, i))
 }

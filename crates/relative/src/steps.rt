@@ -3,18 +3,17 @@
 ghost use mathlib.Core.Path.{_≡_};
 ghost use Prim.Native.Nat.{_*_, _≤_};
 ghost use lib.IntN.{pos, _-ℤ_};
-ghost use lib.ListN.{length, take, drop};
+ghost use lib.ListN.{length, take};
 ghost use Rattle.calendar.specs.Table.{IsMonths};
 ghost use Rattle.time.specs.Range.{since1970, timeOf, InRange, MovedInRange};
 ghost use Rattle.time.specs.declared.Answer.the-variants.{Time as TimeAt};
-ghost use Rattle.relative.specs.Held.{unitAt, Sized, secondsIn, zipped, startOf, startRefusal, StartInRange, answerOf};
+ghost use Rattle.relative.specs.Held.{unitAt, Sized, zipped, startOf, startRefusal, StartInRange, answerOf};
 ghost use Rattle.relative.specs.Relative.{maxPairs};
 ghost use Rattle.relative.specs.Steps.{monthsEarlier, landed, step, steps};
 use crate::MAX_PAIRS;
 use crate::Pair;
 use crate::Unit;
 use calendar::Found;
-use text::number::Number;
 use time::Answer;
 use time::Now;
 use time::Refusal;
@@ -62,53 +61,21 @@ pub fn answer(m: Moved) -> Answer
     }
 }
 
-// The first n pairs, each from where the one before landed. The table is built where the first
-// month or year is met, and lent to all that follow; second to week units do without.
+// The first n pairs, each from where the one before landed.
 pub fn subtract_pairs(
+    months: &[u32],
     counts: &[u64; MAX_PAIRS],
     units: &[u64; MAX_PAIRS],
     n: usize,
     i: Instant,
 ) -> Moved
-    requires { ⌜ (length (now counts) ≡ maxPairs) × (length (now units) ≡ maxPairs) ⌝ }
+    requires { ⌜ IsMonths (now months) × (length (now counts) ≡ maxPairs) × (length (now units) ≡ maxPairs) ⌝ }
     requires { ⌜ (n ≤ maxPairs) × InRange i ⌝ }
     ensures is { λ r. ⌜ answerOf r ≡ steps (take n (zipped (now (counts .entry)) (now (units .entry)))) (TimeAt (timeOf i)) ⌝ }
     ensures range { λ r. ⌜ MovedInRange r ⌝ }
 {
     let mut at = i;
     let mut k: usize = 0;
-    while k < n {
-        let size = seconds_in(unit_at(units[k]));
-        let Number::Value(size) = size else {
-            let months = calendar::months();
-            return subtract_pairs_with(&months, counts, units, k, n, at);
-        };
-        let moved = seconds_back(at, counts[k], size);
-        let Moved::In(landed) = moved else {
-            return Moved::Out;
-        };
-        at = landed;
-        k += 1;
-    }
-    Moved::In(at)
-}
-
-// The pairs from `first` up to n, by a table that is lent.
-pub fn subtract_pairs_with(
-    months: &[u32; 4800],
-    counts: &[u64; MAX_PAIRS],
-    units: &[u64; MAX_PAIRS],
-    first: usize,
-    n: usize,
-    i: Instant,
-) -> Moved
-    requires { ⌜ IsMonths (now months) × (length (now counts) ≡ maxPairs) × (length (now units) ≡ maxPairs) ⌝ }
-    requires { ⌜ (first ≤ n) × (n ≤ maxPairs) × InRange i ⌝ }
-    ensures is { λ r. ⌜ answerOf r ≡ steps (drop first (take n (zipped (now (counts .entry)) (now (units .entry))))) (TimeAt (timeOf i)) ⌝ }
-    ensures range { λ r. ⌜ MovedInRange r ⌝ }
-{
-    let mut at = i;
-    let mut k = first;
     while k < n {
         let unit = unit_at(units[k]);
         let pair = Pair {
@@ -139,18 +106,7 @@ fn unit_at(n: u64) -> Unit
     Unit::Months(n - 1000000)
 }
 
-// The seconds of a unit; months have none. An unknown unit counts as seconds.
-fn seconds_in(u: Unit) -> Number
-    ensures { λ r. ⌜ r ≡ secondsIn u ⌝ }
-{
-    match u {
-        Unit::Seconds(size) => Number::Value(size),
-        Unit::Months(_) => Number::Not,
-        Unit::Unknown => Number::Value(1),
-    }
-}
-
-fn subtract_pair(months: &[u32; 4800], p: Pair, i: Instant) -> Moved
+fn subtract_pair(months: &[u32], p: Pair, i: Instant) -> Moved
     requires { ⌜ IsMonths (now months) × InRange i × Sized (p .unit) ⌝ }
     ensures is { λ r. ⌜ answerOf r ≡ step p (TimeAt (timeOf i)) ⌝ }
     ensures range { λ r. ⌜ MovedInRange r ⌝ }
@@ -179,7 +135,7 @@ pub fn seconds_back(i: Instant, n: u64, k: u64) -> Moved
 
 // n times k months earlier, on the local clock. Not the month's first day is tested, but the
 // landing.
-fn months_earlier(months: &[u32; 4800], i: Instant, n: u64, k: u64) -> Moved
+fn months_earlier(months: &[u32], i: Instant, n: u64, k: u64) -> Moved
     requires { ⌜ IsMonths (now months) × InRange i × (1 ≤ k) ⌝ }
     ensures is { λ r. ⌜ answerOf r ≡ landed (monthsEarlier (timeOf i) (n * k)) (timeOf i .offset) ⌝ }
     ensures range { λ r. ⌜ MovedInRange r ⌝ }

@@ -41,7 +41,7 @@ pub fn shown_of(t: Time) -> Shown
 }
 
 // Writes the line of a time whose instant is i.
-pub fn write_shown(months: &[u32; 4800], t: Time, i: Instant, room: &mut [u8]) -> Written
+pub fn write_shown(months: &[u32], t: Time, i: Instant, room: &mut [u8]) -> Written
     requires table { ⌜ IsMonths (now months) ⌝ }
     requires instant { ⌜ (shownOf t ≡ At i) × InRange i ⌝ }
     ensures { λ r. ⌜ r ≡ isoWritten t (now (room .entry)) ⌝ }
@@ -67,7 +67,7 @@ pub fn write_shown(months: &[u32; 4800], t: Time, i: Instant, room: &mut [u8]) -
 }
 
 // The local clock of an instant in range.
-fn local_clock(months: &[u32; 4800], i: Instant) -> Clock
+fn local_clock(months: &[u32], i: Instant) -> Clock
     requires table { ⌜ IsMonths (now months) ⌝ }
     requires range { ⌜ InRange i ⌝ }
     ensures is { λ r. ⌜ r ≡ clockOf i ⌝ }

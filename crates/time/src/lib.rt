@@ -82,18 +82,11 @@ impl Time {
         ensures { λ r. ⌜ r ≡ isoWritten self (now (room .entry)) ⌝ }
         ensures { λ _. ⌜ now (room .exit) ≡ roomAfter (isoWritten self (now (room .entry))) (isoBytes self) (now (room .entry)) ⌝ }
     {
-        let shown = format::shown_of(self);
-        match shown {
-            Shown::At(i) => {
-                let months = calendar::months();
-                format::write_shown(&months, self, i, room)
-            }
-            Shown::Not(r) => Written::Refused(r),
-        }
+        self.write_iso_with(&[], room)
     }
 
-    // The same with the table of months lent, for callers that write many lines.
-    pub fn write_iso_with(self, months: &[u32; 4800], room: &mut [u8]) -> Written
+    // The same with the table of months lent, or a part that opens it, for callers that write many lines.
+    pub fn write_iso_with(self, months: &[u32], room: &mut [u8]) -> Written
         requires { ⌜ IsMonths (now months) ⌝ }
         ensures { λ r. ⌜ r ≡ isoWritten self (now (room .entry)) ⌝ }
         ensures { λ _. ⌜ now (room .exit) ≡ roomAfter (isoWritten self (now (room .entry))) (isoBytes self) (now (room .entry)) ⌝ }

@@ -19,20 +19,20 @@ made e p h = rw e (sym (dateOf-of-IsDate p), (IsDate-month-lt p h, IsDate-day-lt
 
 -- d lies before the month that was estimated
 sub-first-day : tie.Need-sub-first-day
-sub-first-day c = pos-of-lt-firstDay (c .before .before .args .d) _ (omega arith)
+sub-first-day c = pos-of-lt-firstDay (c .before .before .before .args .d) _ (omega arith)
 
 sub-t10 : tie.Need-sub-t10
-sub-t10 c = pos-of-lt-firstDay (c .before .before .before .args .d) _ (omega arith)
+sub-t10 c = pos-of-lt-firstDay (c .before .before .before .before .args .d) _ (omega arith)
 
 sub-t11 : tie.Need-sub-t11
-sub-t11 c = omega (arith, IsDate-estimate-pred (c .before .before .before .args .d) (omega arith) .sum)
+sub-t11 c = omega (arith, IsDate-estimate-pred (c .before .before .before .before .args .d) (omega arith) .sum)
 
 returns : tie.Need-returns
-returns c = made (c .first-day2 .ensures .0) (IsDate-estimate-pred (c .before .before .before .args .d) (omega arith)) (omega arith)
+returns c = made (c .first-day2 .ensures .0) (IsDate-estimate-pred (c .before .before .before .before .args .d) (omega arith)) (omega arith)
 
 -- the month that was estimated has begun
 returns-2 : tie.Need-returns-2
-returns-2 c = made (c .before .first-day .ensures .0) (IsDate-estimate (c .before .before .args .d) (omega arith)) (omega arith)
+returns-2 c = made (c .before .first-day .ensures .0) (IsDate-estimate (c .before .before .before .args .d) (omega arith)) (omega arith)
 
 pub date-of-spec : {M : Type 1} → statement M
 date-of-spec =

@@ -9,12 +9,12 @@ use Rattle.calendar.proofs.day_of.Statement.{statement}
 use Rattle.calendar.proofs.day_of.Tie as tie
 
 add-result : tie.Need-add-result
-add-result c = omega (arith, monthLength-le (c .before .before .args .x .month))
+add-result c = omega (arith, monthLength-le (c .before .before .before .args .x .month))
 
 returns : tie.Need-returns
 returns c =
-    let m = c .before .before .args .x .month in
-    omega (arith, c .before .first-day .ensures .0, firstDay-suc m, firstDay-in-range (suc m) (c .before .before .pre .1 .0))
+    let m = c .before .before .before .args .x .month in
+    omega (arith, c .before .first-day .ensures .0, firstDay-suc m, firstDay-in-range (suc m) (c .before .before .before .pre .1 .0))
 
 pub day-of-spec : {M : Type 1} → statement M
 day-of-spec = tie.close (tie.spec (λ c κs. search needs) add-result returns)

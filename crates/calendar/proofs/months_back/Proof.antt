@@ -16,8 +16,8 @@ returns c = (sym (backOf-of-lt _ _ (IsDate-of-dateOf (c .before .before .date-of
 returns-2 : tie.Need-returns-2
 returns-2 c =
     let at-date = c .before .before .before .before .before in
-    let t = at-date .before .args .local in
-    let n = at-date .before .args .n in
+    let t = at-date .before .before .args .local in
+    let n = at-date .before .before .args .n in
     let p = IsDate-of-dateOf (at-date .date-of .ensures .0) in
     rw (c .before .first-day .ensures .0) (sym (backOf-of-IsDate t n p (omega arith)), omega (arith, back-le t n p))
 

@@ -21,7 +21,7 @@ is-settled-requires c κs = search needs
 returns : tie.Need-returns
 returns c = let at-plain = c .before .before in
     let at-ascii = at-plain .before .before in
-    let a = at-ascii .before .before .args in
+    let a = at-ascii .before .before .before .args in
     any-plain (a .s .now) (a .current) (sym (at-ascii .is-ascii .ensures) ∙ at-plain .before .if1 .taken) _ (at-plain .parse-plain .ensures) (sym (c .before .is-settled .ensures) ∙ c .if2 .taken)
 
 parse-git-date-format-with-requires : tie.Need-parse-git-date-format-with-requires
@@ -34,7 +34,7 @@ returns-2 : tie.Need-returns-2
 returns-2 c = let at-iso = c .before .before in
     let at-plain = at-iso .before .before .before in
     let at-ascii = at-plain .before .before in
-    let a = at-ascii .before .before .args in
+    let a = at-ascii .before .before .before .args in
     any-iso (a .s .now) (a .current) (sym (at-ascii .is-ascii .ensures) ∙ at-plain .before .if1 .taken) _ (at-plain .parse-plain .ensures) (sym (at-iso .before .before .is-settled .ensures) ∙ at-iso .before .if2 .left)
     _ (at-iso .parse-git-date-format-with .ensures) (sym (c .before .is-settled2 .ensures) ∙ c .if3 .taken)
 
@@ -49,7 +49,7 @@ returns-3 c = let at-relative = c .before .before in
     let at-iso = at-relative .before .before .before in
     let at-plain = at-iso .before .before .before in
     let at-ascii = at-plain .before .before in
-    let a = at-ascii .before .before .args in
+    let a = at-ascii .before .before .before .args in
     any-relative (a .s .now) (a .current) (sym (at-ascii .is-ascii .ensures) ∙ at-plain .before .if1 .taken) _ (at-plain .parse-plain .ensures) (sym (at-iso .before .before .is-settled .ensures) ∙ at-iso .before .if2 .left)
     _ (at-iso .parse-git-date-format-with .ensures) (sym (at-relative .before .before .is-settled2 .ensures) ∙ at-relative .before .if3 .left) _ (at-relative .parse-with .ensures) (sym (c .before .is-settled3 .ensures) ∙ c .if4 .taken)
 
@@ -61,13 +61,13 @@ returns-4 c = let at-relative = c .before .before .before in
     let at-iso = at-relative .before .before .before in
     let at-plain = at-iso .before .before .before in
     let at-ascii = at-plain .before .before in
-    let a = at-ascii .before .before .args in
+    let a = at-ascii .before .before .before .args in
     any-raw (a .s .now) (a .current) (sym (at-ascii .is-ascii .ensures) ∙ at-plain .before .if1 .taken) _ (at-plain .parse-plain .ensures) (sym (at-iso .before .before .is-settled .ensures) ∙ at-iso .before .if2 .left)
     _ (at-iso .parse-git-date-format-with .ensures) (sym (at-relative .before .before .is-settled2 .ensures) ∙ at-relative .before .if3 .left) _ (at-relative .parse-with .ensures) (sym (c .before .before .is-settled3 .ensures) ∙ c .before .if4 .left)
     _ (c .parse-raw .ensures)
 
 returns-5 : tie.Need-returns-5
-returns-5 c = let a = c .before .before .before .args in
+returns-5 c = let a = c .before .before .before .before .args in
     any-not-ascii (a .s .now) (a .current) (sym (c .before .is-ascii .ensures) ∙ c .if1 .left)
 
 pub parse-with-spec : {M : Type 1} → statement M

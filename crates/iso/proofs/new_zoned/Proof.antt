@@ -12,7 +12,7 @@ returns : tie.Need-returns
 returns c =
     let at-struct-told4 = c .before .before in
     let at-struct-told = at-struct-told4 .before .before .before in
-    let at-start = at-struct-told .before in
+    let at-start = at-struct-told .before .before in
     let told = at-struct-told .struct-told .given in
     c .moment .ensures ∙ zoned-parts (at-start .args .f) (back w64 _ (told .0 .1)) (back w64 _ (told .1 .0 .1)) (back w64 _ (told .1 .1 .0 .1)) (back w64 _ (at-struct-told4 .struct-told4 .given .1 .1 .1 .1 .0 .1)) (c .before .date .ensures .0)
 

@@ -19,7 +19,7 @@ returns c =
 new-zoned-requires : tie.Need-new-zoned-requires
 new-zoned-requires c κs =
     let at-parse = c .before .before .before in
-    let at-start = at-parse .before .before .before .before .before in
+    let at-start = at-parse .before .before .before .before .before .before in
     (at-start .pre, FieldsIn-of-Are (c .before .f .given .1) (at-parse .parse .ensures .1))
 
 -- a form

@@ -33,7 +33,7 @@ subtract-pairs-requires c κs =
     let lengths = at-ago .parse-ago .ensures .1 .1 in
     let holds = rw (at-told .told .given .1) at (at-ago .parse-ago .ensures .1 .0) in
     let range = rw (at-from .start .given .1) at (at-start .start-of .ensures .1) in
-    ((lengths .0, lengths .1), (holds .0, range))
+    ((at-ago .before .before .before .before .before .pre, lengths .0, lengths .1), (holds .0, range))
 
 -- the pairs, from where they start
 returns-3 : tie.Need-returns-3

@@ -7,7 +7,7 @@ use Rattle.relative.proofs.parse_with.Tie as tie
 
 returns : tie.Need-returns
 unfolding relativeOf
-returns c = rw (← c .before .before .before .before .before .is-ascii .ensures, c .before .before .before .before .if1 .taken, ← c .before .before .before .parse-named .ensures, c .before .enum-told .given .1, c .parse-pairs-with .ensures)
+returns c = rw (← c .before .before .before .before .before .is-ascii .ensures, c .before .before .before .before .if1 .taken, ← c .before .before .before .parse-named .ensures, c .before .enum-told .given .1, c .parse-pairs .ensures)
 
 returns-2 : tie.Need-returns-2
 unfolding relativeOf

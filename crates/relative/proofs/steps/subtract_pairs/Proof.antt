@@ -6,73 +6,57 @@ use Prim.Native.Nat.{ℕ, _≤_, _-_, _+_}
 use native.Mathlib.Omega.{arith}
 use borrow.Author.Needs.{needs}
 use lib.ListN.{take, drop}
-use Rattle.text.specs.declared.number.Number.the-variants.{Value}
 use Rattle.time.specs.Range.{timeOf, InRange}
 use Rattle.time.specs.declared.Answer.the-variants.{Time}
 use Rattle.relative.specs.Steps.{steps}
-use Rattle.relative.specs.Held.{secondsIn, zipped, answerOf}
+use Rattle.relative.specs.Held.{zipped, answerOf}
 use Rattle.relative.proofs.Holding.{steps-next, steps-none, steps-refused}
-use Rattle.relative.proofs.Landing.{landing-secondsIn, step-secondsIn}
 use Rattle.relative.proofs.steps.subtract_pairs.Statement.{statement}
 use Rattle.relative.proofs.steps.subtract_pairs.Tie as tie
 
 abbrev Inv-loop : tie.InvT-loop
-Inv-loop counts units n at₀ k₀ at k =
+Inv-loop months counts units n at₀ k₀ at k =
     (k ≤ n) × InRange at × (steps (take n (zipped counts units)) (Time (timeOf at₀)) ≡ steps (drop k (take n (zipped counts units))) (Time (timeOf at)))
 
 abbrev μ-loop : tie.MeasureT-loop
-μ-loop counts units n at₀ k₀ at k = n - k
+μ-loop months counts units n at₀ k₀ at k = n - k
 
--- the pair at hand has its unit in seconds
-size : (c : tie.After-known-told Inv-loop μ-loop) → secondsIn (c .before .before .before .before .unit-at .result) ≡ Value (c .before .size .given .0 .0)
-size c = sym (c .before .before .before .seconds-in .ensures) ∙ c .before .size .given .1
-
--- it, and those after it
-onward : (c : tie.After-seconds-back Inv-loop μ-loop)
-    → let a = c .before .before .before .before .before .before .before .before .before .before .args in
+-- the pair at hand, and those after it
+onward : (c : tie.After-subtract-pair Inv-loop μ-loop)
+    → let a = c .before .before .before .before .before .before .before .args in
     let z = take (a .n) (zipped (a .counts .now) (a .units .now)) in
-    steps z (Time (timeOf (a .i))) ≡ steps (drop (c .before .before .before .before .before .before .before .before .before .loop .k + 1) z) (answerOf (c .seconds-back .result))
+    steps z (Time (timeOf (a .i))) ≡ steps (drop (c .before .before .before .before .before .loop .k + 1) z) (answerOf (c .subtract-pair .result))
 onward c =
-    let at-start = c .before .before .before .before .before .before .before .before .before .before in
+    let at-start = c .before .before .before .before .before .before .before in
     let a = at-start .args in
-    let at-loop = c .before .before .before .before .before .before .before .before .before .loop in
-    at-loop .inv .2 ∙ steps-next (a .counts .now) (a .units .now) (at-start .pre .0 .0) (at-start .pre .0 .1) (a .n) (at-start .pre .1 .0) (at-loop .k) _ _ (c .before .before .before .before .before .before .before .before .loop-test .taken) (c .before .before .before .before .before .before .unit-at .ensures .0) ∙ ap (steps (drop (at-loop .k + 1) (take (a .n) (zipped (a .counts .now) (a .units .now))))) (step-secondsIn _ _ _ _ (c .before .before .before .before .before .before .unit-at .ensures .1) (size (c .before .before)) ∙ sym (c .seconds-back .ensures .0))
+    let at-loop = c .before .before .before .before .before .loop in
+    at-loop .inv .2 ∙ steps-next (a .counts .now) (a .units .now) (at-start .pre .0 .1) (at-start .pre .0 .2) (a .n) (at-start .pre .1 .0) (at-loop .k) _ _ (c .before .before .before .before .loop-test .taken) (c .before .before .unit-at .ensures .0) ∙ ap (steps (drop (at-loop .k + 1) (take (a .n) (zipped (a .counts .now) (a .units .now))))) (sym (c .subtract-pair .ensures .0))
 
 loop-holds : tie.Need-loop-holds Inv-loop μ-loop
-loop-holds c = (search needs, c .pre .1 .1, refl)
+loop-holds c = (search needs, c .before .pre .1 .1, refl)
 
--- a month or a year: with the table
-subtract-pairs-with-requires : tie.Need-subtract-pairs-with-requires Inv-loop μ-loop
-subtract-pairs-with-requires c κs =
-    let at-start = c .before .before .before .before .before .before .before .before .before in
-    let at-loop = c .before .before .before .before .before .before .before .before .loop in
-    ((c .before .months .ensures, at-start .pre .0 .0, at-start .pre .0 .1), (at-loop .inv .0, at-start .pre .1 .0, at-loop .inv .1))
-
-returns : tie.Need-returns Inv-loop μ-loop
-returns c = (c .subtract-pairs-with .ensures .0 ∙ sym (c .before .before .before .before .before .before .before .before .before .loop .inv .2), c .subtract-pairs-with .ensures .1)
-
-seconds-back-requires : tie.Need-seconds-back-requires Inv-loop μ-loop
-seconds-back-requires c κs = (c .before .before .before .before .before .before .before .before .loop .inv .1, landing-secondsIn (c .before .before .before .before .before .unit-at .result) _ (c .before .before .before .before .before .unit-at .ensures .1) (size (c .before)) .0)
+subtract-pair-requires : tie.Need-subtract-pair-requires Inv-loop μ-loop
+subtract-pair-requires c κs = (c .before .before .before .before .before .before .pre .0 .0, c .before .before .before .before .loop .inv .1, c .before .unit-at .ensures .1)
 
 -- out of range
-returns-2 : tie.Need-returns-2 Inv-loop μ-loop
-returns-2 c = (sym (rw (c .enum-told2 .given .1, steps-refused) at (onward (c .before .before))), tt)
+returns : tie.Need-returns Inv-loop μ-loop
+returns c = (sym (rw (c .enum-told .given .1, steps-refused) at (onward (c .before .before))), tt)
 
 -- on from where it landed
 loop-again : tie.Need-loop-again Inv-loop μ-loop
 loop-again c =
     let at-pair = c .before .before .before in
-    (search needs, rw (c .before .moved .given .1) at (at-pair .seconds-back .ensures .1), rw (c .before .moved .given .1) at (onward at-pair))
+    (search needs, rw (c .before .moved .given .1) at (at-pair .subtract-pair .ensures .1), rw (c .before .moved .given .1) at (onward at-pair))
 
 -- no pair is left
-returns-3 : tie.Need-returns-3 Inv-loop μ-loop
-returns-3 c =
-    let at-start = c .before .before in
+returns-2 : tie.Need-returns-2 Inv-loop μ-loop
+returns-2 c =
+    let at-start = c .before .before .before in
     let a = at-start .args in
     let at-loop = c .before .loop in
     let z = zipped (a .counts .now) (a .units .now) in
     let e : at-loop .k ≡ a .n = omega arith in
-    (sym (at-loop .inv .2 ∙ ap (λ (j : ℕ). steps (drop j (take (a .n) z)) (Time (timeOf (at-loop .at)))) e ∙ steps-none (a .counts .now) (a .units .now) (at-start .pre .0 .0) (at-start .pre .0 .1) (a .n) (at-start .pre .1 .0) _), at-loop .inv .1)
+    (sym (at-loop .inv .2 ∙ ap (λ (j : ℕ). steps (drop j (take (a .n) z)) (Time (timeOf (at-loop .at)))) e ∙ steps-none (a .counts .now) (a .units .now) (at-start .pre .0 .1) (at-start .pre .0 .2) (a .n) (at-start .pre .1 .0) _), at-loop .inv .1)
 
 pub subtract-pairs-spec : {M : Type 1} → statement M
 subtract-pairs-spec =
@@ -84,19 +68,13 @@ subtract-pairs-spec =
     (λ c. search needs)
     (λ c. search needs)
     (λ c κs. search needs)
-    (λ c κs. search needs)
     (λ c. search needs)
     (λ c. search needs)
-    (λ c κs. search needs)
-    subtract-pairs-with-requires
+    subtract-pair-requires
+    (λ c. search needs)
+    (λ c. search needs)
     returns
     (λ c. search needs)
     (λ c. search needs)
-    seconds-back-requires
-    (λ c. search needs)
-    (λ c. search needs)
-    returns-2
-    (λ c. search needs)
-    (λ c. search needs)
     loop-again
-    returns-3)
+    returns-2)

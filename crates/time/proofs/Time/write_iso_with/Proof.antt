@@ -15,7 +15,7 @@ enum-known-shown c = search needs
 write-shown-requires : tie.Need-write-shown-requires
 write-shown-requires c κs = let at-shown = c .before .before in
     let at-call = at-shown .before .before in
-    (at-call .before .before .pre, (sym (at-call .shown-of .ensures .0) ∙ at-shown .shown .given .1, rw (at-shown .shown .given .1) at (at-call .shown-of .ensures .1)))
+    (at-call .before .before .before .pre, (sym (at-call .shown-of .ensures .0) ∙ at-shown .shown .given .1, rw (at-shown .shown .given .1) at (at-call .shown-of .ensures .1)))
 
 enum-known-shown-2 : tie.Need-enum-known-shown-2
 enum-known-shown-2 c = search needs
@@ -28,7 +28,7 @@ returns c = search needs
 
 returns-2 : tie.Need-returns-2
 returns-2 c = let at-call = c .before .before .before in
-    let start = at-call .before .before in
+    let start = at-call .before .before .before in
     wroteIso-not (start .args .self) _ (start .args .room .now) (sym (at-call .shown-of .ensures .0) ∙ c .before .shown2 .given .1)
 
 pub write-iso-with-spec : {M : Type 1} → statement M

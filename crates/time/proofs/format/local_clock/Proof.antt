@@ -17,7 +17,7 @@ date-of-requires c κs = search needs
 
 returns : tie.Need-returns
 unfolding clockOf
-returns c = let i = c .before .before .args .i in
+returns c = let i = c .before .before .before .args .i in
     let e = c .date-of .ensures in
     ((λ j. record { date = e .0 j; second = localOf i % 86400 }), (e .1 .0, (e .1 .1, search needs)))
 

@@ -1,0 +1,25 @@
+-- `calendar::entry` meets its contract: what the table has is the first day, and beyond it the rule answers.
+-- Assumes nothing.
+use native.Mathlib.Omega.{arith}
+use borrow.Author.Needs.{needs}
+use Rattle.calendar.proofs.Cycle.{firstDay-upper}
+use Rattle.calendar.proofs.entry.Statement.{statement}
+use Rattle.calendar.proofs.entry.Tie as tie
+
+-- the table goes as far as month k
+returns : tie.Need-returns
+returns c = c .before .before .before .pre .0 .entry _ (c .before .if1 .taken)
+
+cast-result : tie.Need-cast-result
+cast-result c = omega (arith, returns c, firstDay-upper (c .before .before .before .args .k))
+
+pub entry-spec : {M : Type 1} → statement M
+entry-spec =
+    tie.close
+    (tie.spec
+    (λ c. search needs)
+    (λ c. search needs)
+    cast-result
+    returns
+    (λ c κs. search needs)
+    (λ c. search needs))
