@@ -1,43 +1,18 @@
--- The cut into time and offset. In order: what a text opens with; the place of the sign; the cut, by what was found.
+-- The cut into time and offset. In order: the place of the sign; the cut, by what was found.
 -- Assumes nothing.
 use mathlib.Core.Path.{_≡_, refl}
-use mathlib.Core.Bool.{true, false, _&&_}
+use mathlib.Core.Bool.{Bool, true, false, _&&_}
 use mathlib.Core.List.{List, [], _∷_}
 use Prim.Native.Nat.{ℕ, suc, _-_, _≤_, _<_}
 use native.Mathlib.Omega.{arith}
-use native.Mathlib.Nat.{not-suc-le-zero}
 use borrow.Author.Tests.{lt-ltb, le-ltb, ltb-true, ltb-false}
 use lib.Dec.{eqb, ltb}
-use lib.ListN.{length, getD, take, drop}
-use Rattle.text.specs.Bytes.{isSign, isDigit}
+use lib.ListN.{length, getD, drop}
 use Rattle.text.specs.Places.{lastWhere, lastPlace}
 use Rattle.text.specs.Trim.{trim}
-use Rattle.text.proofs.Lists.{by-test, take-length-sub-drop}
+use Rattle.text.proofs.Lists.{by-test}
 use Rattle.text.proofs.Runs.{lastWhere-le-length}
 use Rattle.iso.specs.Cut.{endsWithZ, isSigned, isOffset, spaced, signPlace, cut}
-
--- ---- what a text opens with
-pub isSigned-nil : (s : List ℕ) → length s ≡ 0 → false ≡ isSigned s
-unfolding isSigned
-isSigned-nil [] h = refl
-isSigned-nil (b ∷ s) h = absurd (omega arith)
-
-pub isSigned-cons : (s : List ℕ) → 0 < length s → isSign (getD s 0 0) ≡ isSigned s
-unfolding isSigned
-isSigned-cons [] h = absurd (not-suc-le-zero h)
-isSigned-cons (b ∷ s) h = refl
-
-pub isOffset-short : (s : List ℕ) → length s < 2 → false ≡ isOffset s
-unfolding isOffset
-isOffset-short [] h = refl
-isOffset-short (b ∷ []) h = refl
-isOffset-short (b ∷ d ∷ s) h = absurd (omega arith)
-
-pub isOffset-cons : (s : List ℕ) → 2 ≤ length s → (isSign (getD s 0 0) && isDigit (getD s 1 0)) ≡ isOffset s
-unfolding isOffset
-isOffset-cons [] h = absurd (omega arith)
-isOffset-cons (b ∷ []) h = absurd (omega arith)
-isOffset-cons (b ∷ d ∷ s) h = refl
 
 -- ---- the place of the sign
 pub signPlace-of-lt : (s : List ℕ) (i : ℕ) → i ≡ lastWhere isOffset s → i < 2 → length s ≡ signPlace s
@@ -77,22 +52,16 @@ pub cut-zed : (s : List ℕ) → eqb (getD s (length s - 1) 0) 90 ≡ true → l
 unfolding cut endsWithZ
 cut-zed s e = rw e
 
-module _ (s : List ℕ) (r : ℕ) (e : eqb (getD s (length s - 1) 0) 90 ≡ false) (q : r ≡ lastPlace 32 s) where
-  -- the last space stands at place 5 or before
-  pub cut-near : r ≤ 5 → signPlace s ≡ cut s
-  unfolding cut endsWithZ spaced
-  cut-near h = let k : lastPlace 32 s ≤ 5 = omega arith in rw (e, le-ltb 5 (lastPlace 32 s) k)
+-- the last space at r, and whether what follows opens with a sign
+module _ (s : List ℕ) (r : ℕ) (o : Bool) (e : eqb (getD s (length s - 1) 0) 90 ≡ false) (q : r ≡ lastPlace 32 s) (w : o ≡ isSigned (trim (drop r s))) where
+  spaced-is : (ltb 5 r && o) ≡ spaced s
+  unfolding spaced
+  spaced-is = rw (w, q)
 
-  -- beyond it; what follows opens with a sign, or does not
-  module _ (t : List ℕ) (h : 5 < r) (w : t ≡ trim (take (length s - r) (drop r s))) where
-    pub cut-space : isSigned t ≡ true → r ≡ cut s
-    unfolding cut endsWithZ spaced
-    cut-space g =
-        let k : 5 < lastPlace 32 s = omega arith in
-        rw (e, lt-ltb 5 (lastPlace 32 s) k, ← q, ← take-length-sub-drop s r, ← w, g)
+  pub cut-space : (ltb 5 r && o) ≡ true → r ≡ cut s
+  unfolding cut endsWithZ
+  cut-space h = rw (e, ← spaced-is, h) q
 
-    pub cut-sign : isSigned t ≡ false → signPlace s ≡ cut s
-    unfolding cut endsWithZ spaced
-    cut-sign g =
-        let k : 5 < lastPlace 32 s = omega arith in
-        rw (e, lt-ltb 5 (lastPlace 32 s) k, ← q, ← take-length-sub-drop s r, ← w, g)
+  pub cut-sign : (ltb 5 r && o) ≡ false → signPlace s ≡ cut s
+  unfolding cut endsWithZ
+  cut-sign h = rw (e, ← spaced-is, h)

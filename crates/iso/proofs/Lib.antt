@@ -1,8 +1,9 @@
--- Laws, and the document's words computed. In order: parts of a text; the cut; the time; the offset; the fields and the forms; the
+-- Laws, and the document's words computed. In order: parts of a text; the cut, and the walk that finds it; the time; the offset; the fields and the forms; the
 -- instant; digits, and the line that the ISO writer writes; what a caller can say of the whole; examples.
 -- Assumes nothing.
 pub mod Places
 pub mod Cuts
+pub mod Marks
 pub mod Times
 pub mod Offsets
 pub mod Said

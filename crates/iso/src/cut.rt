@@ -1,13 +1,13 @@
-// How what follows the date parts into time and offset. Space and sign are looked for from the end, and each search stops at what
-// it finds.
+// How what follows the date parts into time and offset: one walk from the end, which stops as soon as it knows.
 ghost use mathlib.Core.Path.{_≡_};
+ghost use mathlib.Core.Bool.{false};
 ghost use Prim.Native.Nat.{_≤_};
-ghost use lib.ListN.{length};
-ghost use Rattle.text.specs.Places.{lastWhere};
-ghost use Rattle.iso.specs.Cut.{isSigned, isOffset, signPlace, cut};
+ghost use lib.ListN.{length, getD, drop};
+ghost use Rattle.text.specs.Bytes.{isDigit};
+ghost use Rattle.text.specs.Places.{lastPlace, lastWhere};
+ghost use Rattle.text.specs.Trim.{trim};
+ghost use Rattle.iso.specs.Cut.{isSigned, isOffset, cut};
 use text::bytes;
-use text::places;
-use text::trim;
 
 // Where the time ends in a trimmed text; what stands from there on, trimmed, is the offset.
 pub fn split_time_and_offset(s: &[u8]) -> usize
@@ -20,56 +20,84 @@ pub fn split_time_and_offset(s: &[u8]) -> usize
     if s[end] == 90 {
         return end;
     }
-    let space = places::last_place(s, 32);
-    if space <= 5 {
-        return sign_place(s);
+    let m = find_marks(s);
+    if (5 < m.space) & m.opens {
+        return m.space;
     }
-    if is_signed(trim::trimmed(&s[space..])) {
-        return space;
-    }
-    sign_place(s)
-}
-
-fn is_signed(s: &[u8]) -> bool
-    ensures { λ r. ⌜ r ≡ isSigned (now (s .entry)) ⌝ }
-{
-    if s.len() == 0 {
-        return false;
-    }
-    bytes::is_sign(s[0])
-}
-
-// The rightmost sign at place 2 or later that has a digit after it; the end, if there is none.
-fn sign_place(s: &[u8]) -> usize
-    ensures { λ r. ⌜ (r ≡ signPlace (now (s .entry))) × (r ≤ length (now (s .entry))) ⌝ }
-{
-    let i = last_sign(s);
-    if i < 2 {
+    if m.sign < 2 {
         return s.len();
     }
-    i
+    m.sign
 }
 
-// The rightmost sign that has a digit after it; the end, if there is none.
-fn last_sign(s: &[u8]) -> usize
-    ensures { λ r. ⌜ (r ≡ lastWhere isOffset (now (s .entry))) × (r ≤ length (now (s .entry))) ⌝ }
+// What may part a text: the place of its last space; whether what follows that, trimmed, opens with a sign; the place of the
+// rightmost sign that has a digit after it, directly: `+:05` has none. A place that is not there is the text's length.
+struct Marks {
+    space: usize,
+    opens: bool,
+    sign: usize,
+}
+
+// From the end to the last space. Only if no sign was met on the way does the walk go on from there.
+fn find_marks(s: &[u8]) -> Marks
+    ensures space { λ r. ⌜ r .space ≡ lastPlace 32 (now (s .entry)) ⌝ }
+    ensures opens { λ r. ⌜ r .opens ≡ isSigned (trim (drop (r .space) (now (s .entry)))) ⌝ }
+    ensures sign { λ r. ⌜ r .sign ≡ lastWhere isOffset (now (s .entry)) ⌝ }
 {
     let mut e = s.len();
+    let mut opens = false;
+    let mut sign = s.len();
+    let mut digit = false;
     while 0 < e {
         e -= 1;
-        if is_offset(&s[e..]) {
-            return e;
+        let b = s[e];
+        if b == 32 {
+            if sign < s.len() {
+                return Marks {
+                    space: e,
+                    opens,
+                    sign,
+                };
+            }
+            return Marks {
+                space: e,
+                opens,
+                sign: last_sign(s, e),
+            };
         }
+        if bytes::is_space(b) {
+            digit = false;
+            continue;
+        }
+        opens = bytes::is_sign(b);
+        if opens & digit & (sign == s.len()) {
+            sign = e;
+            digit = false;
+            continue;
+        }
+        digit = bytes::is_digit(b);
     }
-    s.len()
+    Marks {
+        space: s.len(),
+        opens: false,
+        sign,
+    }
 }
 
-// Whether a text opens with a sign that has a digit after it, directly: `+:05` does not.
-fn is_offset(s: &[u8]) -> bool
-    ensures { λ r. ⌜ r ≡ isOffset (now (s .entry)) ⌝ }
+// The rightmost sign that has a digit after it, where none stands at the place `from`, or behind it; the end, if there is none.
+fn last_sign(s: &[u8], from: usize) -> usize
+    requires { ⌜ (from ≤ length (now s)) × (lastWhere isOffset (drop from (now s)) ≡ length (drop from (now s))) × (isDigit (getD (drop from (now s)) 0 0) ≡ false) ⌝ }
+    ensures { λ r. ⌜ r ≡ lastWhere isOffset (now (s .entry)) ⌝ }
 {
-    if s.len() < 2 {
-        return false;
+    let mut e = from;
+    let mut digit = false;
+    while 0 < e {
+        e -= 1;
+        let b = s[e];
+        if bytes::is_sign(b) & digit {
+            return e;
+        }
+        digit = bytes::is_digit(b);
     }
-    bytes::is_sign(s[0]) & bytes::is_digit(s[1])
+    s.len()
 }

@@ -1,7 +1,7 @@
--- Digits. In order: what a digit is not; two digits of a number below 100, and their value.
+-- Digits. In order: what a digit is not, and what is none; two digits of a number below 100, and their value.
 -- Assumes nothing.
 use mathlib.Core.Path.{_≡_, refl, sym, ap, _∙_}
-use mathlib.Core.Bool.{true, false, false≢true}
+use mathlib.Core.Bool.{Bool, true, false, false≢true}
 use mathlib.Core.List.{[]}
 use Prim.Native.Nat.{ℕ, _+_, _-_, _*_, _/_, _%_, _≤_, _<_}
 use native.Mathlib.Omega.{arith}
@@ -11,15 +11,17 @@ use Rattle.text.specs.Bytes.{isDigit, isSpace, isSign}
 use Rattle.text.specs.Decimal.{twoBefore}
 use Rattle.text.specs.Number.{readFrom, digitsOf, unsignedOf}
 use Rattle.text.specs.declared.number.Number.the-variants.{Value}
+use Rattle.text.proofs.Lists.{by-test}
 use Rattle.text.proofs.Numbers.{digit-range, isDigit-of-le}
 
 -- ---- what a digit is not
-pub eqb-of-digit : (b x : ℕ) → isDigit b ≡ true → isDigit x ≡ false → eqb b x ≡ false
-eqb-of-digit b x p q = ne-eqb b x (λ e. false≢true (sym q ∙ ap isDigit (sym e) ∙ p))
+-- bytes that a test tells apart
+pub eqb-of-test : (t : ℕ → Bool) (b x : ℕ) → t b ≡ true → t x ≡ false → eqb b x ≡ false
+eqb-of-test t b x p q = ne-eqb b x (λ e. false≢true (sym q ∙ ap t (sym e) ∙ p))
 
 pub isSign-of-digit : (b : ℕ) → isDigit b ≡ true → isSign b ≡ false
 unfolding isSign isDigit
-isSign-of-digit b p = rw (eqb-of-digit b 43 p refl, eqb-of-digit b 45 p refl)
+isSign-of-digit b p = rw (eqb-of-test isDigit b 43 p refl, eqb-of-test isDigit b 45 p refl)
 
 pub isSpace-of-digit : (b : ℕ) → isDigit b ≡ true → isSpace b ≡ false
 unfolding isSpace
@@ -29,30 +31,41 @@ isSpace-of-digit b p =
     let n : 9 ≤ b = omega (arith, r .0) in
     rw (le-leb 9 b n, lt-leb b 13 l, ne-eqb b 32 (λ e. omega (arith, r .0, e)))
 
+-- nor is white space a digit or a sign, nor a sign a digit
+pub isDigit-of-sign : (b : ℕ) → isSign b ≡ true → isDigit b ≡ false
+isDigit-of-sign b h = by-test (isDigit b) (λ p. absurd (false≢true (sym (isSign-of-digit b p) ∙ h))) (λ p. p)
+
+pub isDigit-of-space : (b : ℕ) → isSpace b ≡ true → isDigit b ≡ false
+isDigit-of-space b h = by-test (isDigit b) (λ p. absurd (false≢true (sym (isSpace-of-digit b p) ∙ h))) (λ p. p)
+
+pub isSign-of-space : (b : ℕ) → isSpace b ≡ true → isSign b ≡ false
+unfolding isSign isSpace
+isSign-of-space b h = rw (eqb-of-test isSpace b 43 h refl, eqb-of-test isSpace b 45 h refl)
+
 module _ (b : ℕ) (p : isDigit b ≡ true) where
   pub no-space : eqb b 32 ≡ false
   unfolding isDigit
-  no-space = eqb-of-digit b 32 p refl
+  no-space = eqb-of-test isDigit b 32 p refl
 
   pub no-plus : eqb b 43 ≡ false
   unfolding isDigit
-  no-plus = eqb-of-digit b 43 p refl
+  no-plus = eqb-of-test isDigit b 43 p refl
 
   pub no-dash : eqb b 45 ≡ false
   unfolding isDigit
-  no-dash = eqb-of-digit b 45 p refl
+  no-dash = eqb-of-test isDigit b 45 p refl
 
   pub no-dot : eqb b 46 ≡ false
   unfolding isDigit
-  no-dot = eqb-of-digit b 46 p refl
+  no-dot = eqb-of-test isDigit b 46 p refl
 
   pub no-colon : eqb b 58 ≡ false
   unfolding isDigit
-  no-colon = eqb-of-digit b 58 p refl
+  no-colon = eqb-of-test isDigit b 58 p refl
 
   pub no-Z : eqb b 90 ≡ false
   unfolding isDigit
-  no-Z = eqb-of-digit b 90 p refl
+  no-Z = eqb-of-test isDigit b 90 p refl
 
 -- ---- two digits of a number below 100
 pub tens : (n : ℕ) → n < 100 → isDigit (48 + n / 10) ≡ true

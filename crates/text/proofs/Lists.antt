@@ -25,6 +25,13 @@ both false b e = absurd (false≢true e)
 pub drop-cons-add-one : (s : List ℕ) (i : ℕ) → i < length s → drop i s ≡ getD s i 0 ∷ drop (i + 1) s
 drop-cons-add-one s i h = rw (add-one, drop-cons s i 0)
 
+-- from the end: what is left one place before
+pub drop-sub-one : (s : List ℕ) (e : ℕ) → 0 < e → e ≤ length s → drop (e - 1) s ≡ getD s (e - 1) 0 ∷ drop e s
+drop-sub-one s e p h =
+    let n : e - 1 + 1 ≡ e = omega arith in
+    let l : e - 1 < length s = omega arith in
+    rw n at (drop-cons-add-one s (e - 1) l)
+
 -- the part from i to the end is all that is left at i
 pub take-length-sub-drop : (s : List ℕ) (i : ℕ) → take (length s - i) (drop i s) ≡ drop i s
 take-length-sub-drop s i = let h : length (drop i s) ≤ length s - i = omega (arith, length-drop i s) in take-all _ _ h

@@ -1,14 +1,14 @@
 -- Runs of bytes, and places. In order: a run is within its text, and only bytes of its kind are in it; the last place at which a
 -- test holds, found from the end.
 -- Assumes nothing.
-use mathlib.Core.Path.{_≡_, refl, ap, _∙_, sym}
-use mathlib.Core.Bool.{Bool, true, false, cond, not, _||_}
+use mathlib.Core.Path.{_≡_, ap, sym}
+use mathlib.Core.Bool.{Bool, true, false, not, _&&_, _||_, or-true}
 use mathlib.Core.List.{List, [], _∷_}
-use Prim.Native.Nat.{ℕ, zero, suc, _+_, _-_, _≤_, _<_}
+use Prim.Native.Nat.{ℕ, zero, suc, _+_, _≤_, _<_}
 use native.Mathlib.Nat.{le-refl, zero-add}
 use native.Mathlib.Omega.{arith}
-use borrow.Author.Tests.{ltb-true, lt-ltb, le-ltb}
-use lib.Dec.{ltb}
+use borrow.Author.Tests.{lt-ltb, le-ltb, eqb-false}
+use lib.Dec.{ltb, eqb}
 use lib.ListN.{length, drop, length-drop}
 use Rattle.text.specs.Places.{run, past, lastWhere}
 use Rattle.text.proofs.Lists.{by-test}
@@ -34,6 +34,17 @@ module _ (p : List ℕ → Bool) where
   pub lastWhere-none : (b : ℕ) (s : List ℕ) → lastWhere p s ≡ length s → p (b ∷ s) ≡ false → lastWhere p (b ∷ s) ≡ length (b ∷ s)
   unfolding lastWhere
   lastWhere-none b s h e = let l : ltb (lastWhere p s) (length s) ≡ false = le-ltb (lastWhere p s) (length s) (omega arith) in rw (l, e) (ap suc h)
+
+  -- none at b, or one behind it
+  pub lastWhere-on : (b : ℕ) (s : List ℕ) → (p (b ∷ s) && eqb (lastWhere p s) (length s)) ≡ false → lastWhere p (b ∷ s) ≡ suc (lastWhere p s)
+  unfolding lastWhere
+  lastWhere-on b s h =
+      by-test (p (b ∷ s))
+      (λ e.
+      let n : lastWhere p s ≡ length s → ⊥ = eqb-false (lastWhere p s) (length s) (rw e at h) in
+      let l : ltb (lastWhere p s) (length s) ≡ true = lt-ltb (lastWhere p s) (length s) (omega (arith, lastWhere-le-length s, n)) in
+      rw l)
+      (λ e. rw (e, or-true (ltb (lastWhere p s) (length s))))
 
   -- one at b, none behind it
   pub lastWhere-here : (b : ℕ) (s : List ℕ) → lastWhere p s ≡ length s → p (b ∷ s) ≡ true → lastWhere p (b ∷ s) ≡ 0

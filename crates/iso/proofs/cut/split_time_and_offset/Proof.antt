@@ -1,8 +1,11 @@
 -- `iso::cut::split_time_and_offset` meets its contract: the tests in the document's order.
 -- Assumes nothing.
-use mathlib.Core.Path.{sym, _∙_}
+use mathlib.Core.Path.{_∙_}
 use borrow.Author.Tests.{eq-eqb, ne-eqb}
-use Rattle.iso.proofs.Cuts.{cut-nil, cut-zed, cut-near, cut-space, cut-sign}
+use Rattle.text.specs.Places.{lastPlace, opensWith}
+use Rattle.text.proofs.Runs.{lastWhere-le-length}
+use Rattle.iso.specs.Cut.{isOffset}
+use Rattle.iso.proofs.Cuts.{cut-nil, cut-zed, cut-space, cut-sign, signPlace-of-lt, signPlace-of-le}
 use borrow.Author.Needs.{needs}
 use Rattle.iso.proofs.cut.split_time_and_offset.Statement.{statement}
 use Rattle.iso.proofs.cut.split_time_and_offset.Tie as tie
@@ -15,31 +18,29 @@ returns c = (cut-nil _ (c .if1 .taken), search needs)
 returns-2 : tie.Need-returns-2
 returns-2 c = (cut-zed _ (eq-eqb _ _ (c .if2 .taken)), search needs)
 
--- the last space stands at place 5 or before
+-- the last space stands beyond place 5, and what follows opens with a sign
 returns-3 : tie.Need-returns-3
+unfolding lastPlace
 returns-3 c =
-    let at-last-place = c .before .before in
-    let at-if2 = at-last-place .before in
-    (c .sign-place .ensures .0 ∙ cut-near _ _ (ne-eqb _ _ (at-if2 .if2 .left)) (at-last-place .last-place .ensures .0) (c .before .if3 .taken), c .sign-place .ensures .1)
+    let at-find-marks = c .before .before .before in
+    let m = at-find-marks .find-marks .ensures in
+    (cut-space _ _ _ (ne-eqb _ _ (at-find-marks .before .if2 .left)) (m .0) (m .1 .0) (c .if3 .taken), rw (m .0) (lastWhere-le-length (opensWith 32) _))
 
--- beyond it, and what follows opens with a sign
+-- a sign at place 0 or 1 opens no offset
 returns-4 : tie.Need-returns-4
 returns-4 c =
-    let at-trimmed = c .before .before in
-    let at-if3 = at-trimmed .before .before in
-    let at-last-place = at-if3 .before in
-    let at-if2 = at-last-place .before in
-    (cut-space _ _ (ne-eqb _ _ (at-if2 .if2 .left)) (at-last-place .last-place .ensures .0) _ (at-if3 .if3 .left) (at-trimmed .trimmed .ensures) (sym (c .before .is-signed .ensures) ∙ c .if4 .taken), at-last-place .last-place .ensures .1)
+    let at-if3 = c .before .before in
+    let at-find-marks = at-if3 .before .before .before in
+    let m = at-find-marks .find-marks .ensures in
+    (signPlace-of-lt _ _ (m .1 .1) (c .if4 .taken) ∙ cut-sign _ _ _ (ne-eqb _ _ (at-find-marks .before .if2 .left)) (m .0) (m .1 .0) (at-if3 .if3 .left), search needs)
 
--- beyond it, and what follows does not
+-- at place 2 or later, or at the end
 returns-5 : tie.Need-returns-5
 returns-5 c =
-    let at-is-signed = c .before .before in
-    let at-trimmed = at-is-signed .before in
-    let at-if3 = at-trimmed .before .before in
-    let at-last-place = at-if3 .before in
-    let at-if2 = at-last-place .before in
-    (c .sign-place2 .ensures .0 ∙ cut-sign _ _ (ne-eqb _ _ (at-if2 .if2 .left)) (at-last-place .last-place .ensures .0) _ (at-if3 .if3 .left) (at-trimmed .trimmed .ensures) (sym (at-is-signed .is-signed .ensures) ∙ c .before .if4 .left), c .sign-place2 .ensures .1)
+    let at-if3 = c .before .before in
+    let at-find-marks = at-if3 .before .before .before in
+    let m = at-find-marks .find-marks .ensures in
+    (signPlace-of-le _ _ (m .1 .1) (c .if4 .left) ∙ cut-sign _ _ _ (ne-eqb _ _ (at-find-marks .before .if2 .left)) (m .0) (m .1 .0) (at-if3 .if3 .left), rw (m .1 .1) (lastWhere-le-length isOffset _))
 
 pub split-time-and-offset-spec : {M : Type 1} → statement M
 split-time-and-offset-spec =
@@ -50,13 +51,6 @@ split-time-and-offset-spec =
     (λ c. search needs)
     returns-2
     (λ c κs. search needs)
-    (λ c κs. search needs)
     returns-3
-    (λ c. search needs)
-    (λ c. search needs)
-    (λ c. search needs)
-    (λ c κs. search needs)
-    (λ c κs. search needs)
     returns-4
-    (λ c κs. search needs)
     returns-5)
