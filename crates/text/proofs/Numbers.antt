@@ -1,4 +1,4 @@
--- Digits and their value. In order: what a digit is; reading on from a value; what fits; the sign put on before or after the test;
+-- Digits and their value. In order: what a digit is; reading on from a value; a byte that is none; what fits; the sign put on before or after the test;
 -- how large a short text's number can be.
 -- Assumes nothing.
 use mathlib.Core.Path.{_≡_, refl, sym, ap, _∙_}
@@ -13,6 +13,7 @@ use lib.IntN.{ℤ, pos, negsuc, _-ℤ_, negℤ, natAbs}
 use lib.ListN.{length}
 use lib.Signed.{leZ, ltZ}
 use Rattle.text.specs.Bytes.{isDigit}
+use Rattle.text.specs.Places.{run}
 use Rattle.text.specs.Number.{readFrom, digitsOf, unsignedOf, signedOf, fit, fitSigned, plus, minus, AtMost}
 use Rattle.text.specs.declared.number.Number.{Number}
 use Rattle.text.specs.declared.number.Number.the-variants.{Value, Not}
@@ -33,12 +34,36 @@ pub readFrom-cons : (s : List ℕ) (v b d : ℕ) → isDigit b ≡ true → d �
 unfolding readFrom
 readFrom-cons s v b d h e = rw (h, e)
 
+-- ---- digits that open a text
+-- digits alone, or a byte behind them that is none
+readFrom-of-run-lt : (s : List ℕ) (v : ℕ) → run isDigit s < length s → readFrom v s ≡ Not
+unfolding run readFrom
+readFrom-of-run-lt [] v h = absurd (not-suc-le-zero h)
+readFrom-of-run-lt (b ∷ s) v h = by-test (isDigit b) (λ e. rw e (readFrom-of-run-lt s _ (omega (arith, rw e at h)))) (λ e. rw e)
+
+pub digitsOf-of-run-lt : (s : List ℕ) → run isDigit s < length s → digitsOf s ≡ Not
+unfolding digitsOf
+digitsOf-of-run-lt [] h = refl
+digitsOf-of-run-lt (b ∷ s) h = readFrom-of-run-lt (b ∷ s) 0 h
+
 -- ---- what fits
 -- a value past the limit stays past it
 pub fit-readFrom-of-lt : (s : List ℕ) (limit v : ℕ) → limit < v → fit limit (readFrom v s) ≡ Not
 unfolding fit readFrom
 fit-readFrom-of-lt [] limit v h = rw (lt-leb v limit h)
 fit-readFrom-of-lt (b ∷ s) limit v h = by-test (isDigit b) (λ e. rw e (fit-readFrom-of-lt s limit (10 * v + (b - 48)) (omega arith))) (λ e. rw e)
+
+pub fit-digitsOf-of-Not : (s : List ℕ) (limit : ℕ) → fit limit (readFrom 0 s) ≡ Not → fit limit (digitsOf s) ≡ Not
+unfolding fit digitsOf
+fit-digitsOf-of-Not [] limit h = refl
+fit-digitsOf-of-Not (b ∷ s) limit h = h
+
+-- digits from one place up to another, read as v: no number where the places are one
+pub fit-digitsOf-of-length : (s : List ℕ) (limit v from end : ℕ) → v ≤ limit → from + length s ≡ end → fit limit (readFrom 0 s) ≡ fit limit (Value v)
+    → fit limit (digitsOf s) ≡ cond (ltb from end) (Value v) Not
+unfolding fit digitsOf
+fit-digitsOf-of-length [] limit v from end f l e = rw (le-ltb from end (omega arith))
+fit-digitsOf-of-length (b ∷ s) limit v from end f l e = rw (lt-ltb from end (omega arith)) (rw (le-leb v limit f) at e)
 
 -- an answer r that was fitted is at most the limit
 pub AtMost-of-fit : (limit k : ℕ) (x r : Number) → r ≡ fit limit x → limit ≤ k → AtMost k r

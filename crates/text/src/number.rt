@@ -1,13 +1,16 @@
 // Numbers in a text, of any length: what is too large for its limit is no number, and nothing overflows on the way. One function
 // reads the digits of all widths, by the limit that it is given.
 ghost use mathlib.Core.Path.{_≡_};
-ghost use Prim.Native.Nat.{_≤_, _<_, _-_, _^_};
+ghost use mathlib.Core.Bool.{cond};
+ghost use Prim.Native.Nat.{_+_, _*_, _≤_, _<_, _-_, _^_};
+ghost use lib.Dec.{leb, ltb};
 ghost use lib.IntN.{pos, negℤ};
 ghost use lib.ListN.{drop};
 ghost use Rattle.text.specs.Bytes.{isDigit};
-ghost use Rattle.text.specs.Places.{leading};
+ghost use Rattle.text.specs.Places.{leading, past};
 ghost use Rattle.text.specs.Number.{digitsOf, unsignedOf, signedOf, fit, fitSigned, plus, minus};
 ghost use Rattle.text.specs.Number.{AtMost};
+ghost use Rattle.text.specs.declared.number.Number.the-variants.{Value, Not};
 use crate::bytes;
 
 pub enum Number {
@@ -52,29 +55,92 @@ pub fn signed_number(s: &[u8], half: u64) -> Integer
 pub fn digits(s: &[u8], from: usize, limit: u64) -> Number
     ensures { λ r. ⌜ r ≡ fit limit (digitsOf (drop from (now (s .entry)))) ⌝ }
 {
-    if s.len() <= from {
+    let read = leading_number(s, from, limit);
+    if read.end < s.len() {
         return Number::Not;
     }
+    read.number
+}
+
+// What the digits from `from` on are, as many as stand there, and the place past them.
+pub struct Leading {
+    pub number: Number,
+    pub end: usize,
+}
+
+// The digits from `from` on, as many as stand there: no number where there is none, or where they are too large for the limit.
+pub fn leading_number(s: &[u8], from: usize, limit: u64) -> Leading
+    ensures { λ r. ⌜ r .number ≡ fit limit (digitsOf (leading isDigit (drop from (now (s .entry))))) ⌝ }
+    ensures { λ r. ⌜ r .end ≡ past isDigit (now (s .entry)) from ⌝ }
+{
     let mut v: u64 = 0;
     let mut i = from;
     while i < s.len() {
         let b = s[i];
         if bytes::is_digit(b) {
             let d = wide(b - 48);
-            if limit / 10 < v {
-                return Number::Not;
+            if has_room(v, d, limit) {
+                v = 10 * v + d;
+                i += 1;
+            } else {
+                let end = past_digits(s, i);
+                return Leading {
+                    number: Number::Not,
+                    end,
+                };
             }
-            let t = 10 * v;
-            if limit - t < d {
-                return Number::Not;
-            }
-            v = t + d;
-            i += 1;
         } else {
-            return Number::Not;
+            return read_up_to(from, i, v);
         }
     }
-    Number::Value(v)
+    read_up_to(from, i, v)
+}
+
+// Whether v with the digit d behind it is at most the limit. One comparison tells, but for the last digits before the limit.
+fn has_room(v: u64, d: u64, limit: u64) -> bool
+    requires { ⌜ d < 10 ⌝ }
+    ensures { λ r. ⌜ r ≡ leb (10 * v + d) limit ⌝ }
+{
+    let tenth = limit / 10;
+    if v < tenth {
+        return true;
+    }
+    if tenth < v {
+        return false;
+    }
+    d <= limit - 10 * v
+}
+
+// No digit passed is no number.
+fn read_up_to(from: usize, end: usize, v: u64) -> Leading
+    ensures { λ r. ⌜ r .number ≡ cond (ltb from end) (Value v) Not ⌝ }
+    ensures { λ r. ⌜ r .end ≡ end ⌝ }
+{
+    if from < end {
+        return Leading {
+            number: Number::Value(v),
+            end,
+        };
+    }
+    Leading {
+        number: Number::Not,
+        end,
+    }
+}
+
+// Past the digits from `at`.
+fn past_digits(s: &[u8], at: usize) -> usize
+    ensures { λ r. ⌜ r ≡ past isDigit (now (s .entry)) at ⌝ }
+{
+    let mut i = at;
+    while i < s.len() {
+        if bytes::is_digit(s[i]) {
+            i += 1;
+        } else {
+            return i;
+        }
+    }
+    i
 }
 
 fn wide(b: u8) -> u64
