@@ -9,7 +9,7 @@ ghost use lib.ListN.{drop};
 ghost use Rattle.text.specs.Bytes.{isDigit};
 ghost use Rattle.text.specs.Places.{leading, past};
 ghost use Rattle.text.specs.Number.{digitsOf, unsignedOf, signedOf, fit, fitSigned, plus, minus};
-ghost use Rattle.text.specs.Number.{AtMost};
+ghost use Rattle.text.specs.Number.{AtMost, LeadsWith};
 ghost use Rattle.text.specs.declared.number.Number.the-variants.{Value, Not};
 use crate::bytes;
 
@@ -42,13 +42,11 @@ pub fn signed_number(s: &[u8], half: u64) -> Integer
     requires { ⌜ (0 < half) × (half ≤ 2 ^ 63) ⌝ }
     ensures { λ r. ⌜ r ≡ fitSigned half (signedOf (now (s .entry))) ⌝ }
 {
-    if s.len() == 0 {
+    let read = leading_integer(s, 0, half);
+    if read.end < s.len() {
         return Integer::NotOne;
     }
-    if s[0] == 45 {
-        return as_minus(digits(s, 1, half));
-    }
-    as_plus(unsigned_number(s, half - 1))
+    read.number
 }
 
 // Digits alone from `from` on, at least one, of a value up to the limit.
@@ -147,6 +145,56 @@ fn wide(b: u8) -> u64
     ensures { λ r. ⌜ r ≡ b ⌝ }
 {
     b as u64
+}
+
+// What an optional sign and the digits behind it are, as many as stand there, the place past them, and whether the sign is there.
+pub struct LeadingInteger {
+    pub number: Integer,
+    pub end: usize,
+    pub signed: bool,
+}
+
+// The same with an optional `+` or `-` in front, of the width that `signed_number` has.
+pub fn leading_integer(s: &[u8], from: usize, half: u64) -> LeadingInteger
+    requires { ⌜ (0 < half) × (half ≤ 2 ^ 63) ⌝ }
+    ensures { λ r. ⌜ LeadsWith half (drop from (now (s .entry))) from r ⌝ }
+{
+    if s.len() <= from {
+        return LeadingInteger {
+            number: Integer::NotOne,
+            end: from,
+            signed: false,
+        };
+    }
+    let b = s[from];
+    if b == 45 {
+        let below = leading_number(s, from + 1, half);
+        let n = below.number;
+        let number = as_minus(n);
+        return LeadingInteger {
+            number,
+            end: below.end,
+            signed: true,
+        };
+    }
+    if b == 43 {
+        let above = leading_number(s, from + 1, half - 1);
+        let n = above.number;
+        let number = as_plus(n);
+        return LeadingInteger {
+            number,
+            end: above.end,
+            signed: true,
+        };
+    }
+    let read = leading_number(s, from, half - 1);
+    let n = read.number;
+    let number = as_plus(n);
+    LeadingInteger {
+        number,
+        end: read.end,
+        signed: false,
+    }
 }
 
 fn as_plus(n: Number) -> Integer
