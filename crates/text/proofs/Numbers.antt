@@ -1,4 +1,4 @@
--- Digits and their value. In order: what a digit is; reading on from a value; what fits; the sign put on before or after the test;
+-- Digits and their value. In order: what a digit is; reading on from a value; a byte that is none; what fits; the sign put on before or after the test;
 -- how large a short text's number can be.
 -- Assumes nothing.
 use mathlib.Core.Path.{_≡_, refl, sym, ap, _∙_}
@@ -7,17 +7,19 @@ use mathlib.Core.List.{List, [], _∷_}
 use Prim.Native.Nat.{ℕ, zero, suc, _+_, _-_, _*_, _^_, _≤_, _<_}
 use native.Mathlib.Omega.{arith}
 use native.Mathlib.Nat.{zero-add, mul-one, mul-assoc, mul-le-mul-right, not-suc-le-zero, pow-succ'}
-use borrow.Author.Tests.{lt-leb, le-leb, leb-true, lt-ltb, le-ltb, leb-false}
+use borrow.Author.Tests.{lt-leb, le-leb, leb-true, lt-ltb, le-ltb, leb-false, ne-eqb, eqb-true}
 use lib.Dec.{leb, ltb, eqb, leb·suc-suc}
 use lib.IntN.{ℤ, pos, negsuc, _-ℤ_, negℤ, natAbs}
-use lib.ListN.{length}
+use lib.ListN.{length, take}
 use lib.Signed.{leZ, ltZ}
-use Rattle.text.specs.Bytes.{isDigit}
-use Rattle.text.specs.Number.{readFrom, digitsOf, unsignedOf, signedOf, fit, fitSigned, plus, minus, AtMost}
+use Rattle.text.specs.Bytes.{isDigit, isSign}
+use Rattle.text.specs.Places.{run, leading}
+use Rattle.text.specs.Number.{readFrom, digitsOf, unsignedOf, signedOf, fit, fitSigned, plus, minus, numeral, LeadsWith, AtMost}
 use Rattle.text.specs.declared.number.Number.{Number}
 use Rattle.text.specs.declared.number.Number.the-variants.{Value, Not}
 use Rattle.text.specs.declared.number.Integer.{Integer}
 use Rattle.text.specs.declared.number.Integer.the-variants.{Is, NotOne}
+use Rattle.text.specs.declared.number.LeadingInteger.{LeadingInteger}
 use Rattle.text.proofs.Lists.{by-test, both}
 
 pub digit-range : (b : ℕ) → isDigit b ≡ true → (48 ≤ b) × (b ≤ 57)
@@ -33,12 +35,36 @@ pub readFrom-cons : (s : List ℕ) (v b d : ℕ) → isDigit b ≡ true → d �
 unfolding readFrom
 readFrom-cons s v b d h e = rw (h, e)
 
+-- ---- digits that open a text
+-- digits alone, or a byte behind them that is none
+readFrom-of-run-lt : (s : List ℕ) (v : ℕ) → run isDigit s < length s → readFrom v s ≡ Not
+unfolding run readFrom
+readFrom-of-run-lt [] v h = absurd (not-suc-le-zero h)
+readFrom-of-run-lt (b ∷ s) v h = by-test (isDigit b) (λ e. rw e (readFrom-of-run-lt s _ (omega (arith, rw e at h)))) (λ e. rw e)
+
+pub digitsOf-of-run-lt : (s : List ℕ) → run isDigit s < length s → digitsOf s ≡ Not
+unfolding digitsOf
+digitsOf-of-run-lt [] h = refl
+digitsOf-of-run-lt (b ∷ s) h = readFrom-of-run-lt (b ∷ s) 0 h
+
 -- ---- what fits
 -- a value past the limit stays past it
 pub fit-readFrom-of-lt : (s : List ℕ) (limit v : ℕ) → limit < v → fit limit (readFrom v s) ≡ Not
 unfolding fit readFrom
 fit-readFrom-of-lt [] limit v h = rw (lt-leb v limit h)
 fit-readFrom-of-lt (b ∷ s) limit v h = by-test (isDigit b) (λ e. rw e (fit-readFrom-of-lt s limit (10 * v + (b - 48)) (omega arith))) (λ e. rw e)
+
+pub fit-digitsOf-of-Not : (s : List ℕ) (limit : ℕ) → fit limit (readFrom 0 s) ≡ Not → fit limit (digitsOf s) ≡ Not
+unfolding fit digitsOf
+fit-digitsOf-of-Not [] limit h = refl
+fit-digitsOf-of-Not (b ∷ s) limit h = h
+
+-- digits from one place up to another, read as v: no number where the places are one
+pub fit-digitsOf-of-length : (s : List ℕ) (limit v from end : ℕ) → v ≤ limit → from + length s ≡ end → fit limit (readFrom 0 s) ≡ fit limit (Value v)
+    → fit limit (digitsOf s) ≡ cond (ltb from end) (Value v) Not
+unfolding fit digitsOf
+fit-digitsOf-of-length [] limit v from end f l e = rw (le-ltb from end (omega arith))
+fit-digitsOf-of-length (b ∷ s) limit v from end f l e = rw (lt-ltb from end (omega arith)) (rw (le-leb v limit f) at e)
 
 -- an answer r that was fitted is at most the limit
 pub AtMost-of-fit : (limit k : ℕ) (x r : Number) → r ≡ fit limit x → limit ≤ k → AtMost k r
@@ -151,3 +177,49 @@ fitSigned-of-length half s h = go half (signedOf s) h (signedOf-short s)
     go (suc m) (Is (pos n)) k b = rw (lt-ltb n (suc m) (omega arith))
     go (suc m) (Is (negsuc n)) k b = rw (le-leb n m (omega arith))
     go half NotOne k b = refl
+
+-- ---- the sign and the digits that open a text
+-- digits alone
+pub signedOf-leading : (s : List ℕ) → signedOf (leading isDigit s) ≡ plus (digitsOf (leading isDigit s))
+unfolding signedOf unsignedOf digitsOf run
+signedOf-leading [] = refl
+signedOf-leading (b ∷ s) =
+    by-test (isDigit b)
+    (λ e.
+    let d = digit-range b e in
+    rw (e, ne-eqb b 45 (λ k. omega arith), ne-eqb b 43 (λ k. omega arith)))
+    (λ e. rw e)
+
+module _ (half : ℕ) (h : 0 < half) (s : List ℕ) (at : ℕ) (r : LeadingInteger) where
+  pub LeadsWith-nil : s ≡ [] → r .number ≡ NotOne → r .end ≡ at → r .signed ≡ false → LeadsWith half s at r
+  unfolding numeral signedOf fitSigned isSign
+  LeadsWith-nil k n e b = rw k (record { number-is = n; end-is = omega arith; signed-is = b })
+
+  pub LeadsWith-minus : (t : List ℕ) → s ≡ 45 ∷ t → r .number ≡ minus (fit half (digitsOf (leading isDigit t))) → r .end ≡ at + 1 + run isDigit t → r .signed ≡ true → LeadsWith half s at r
+  unfolding numeral signedOf isSign
+  LeadsWith-minus t k n e b = rw k (record { number-is = n ∙ sym (fitSigned-minus half (digitsOf (leading isDigit t)) h); end-is = omega arith; signed-is = b })
+
+  pub LeadsWith-plus : (t : List ℕ) → s ≡ 43 ∷ t → r .number ≡ plus (fit (half - 1) (digitsOf (leading isDigit t))) → r .end ≡ at + 1 + run isDigit t → r .signed ≡ true → LeadsWith half s at r
+  unfolding numeral signedOf unsignedOf isSign
+  LeadsWith-plus t k n e b = rw k (record { number-is = n ∙ sym (fitSigned-plus half (digitsOf (leading isDigit t)) h); end-is = omega arith; signed-is = b })
+
+  pub LeadsWith-digits : (x : ℕ) (t : List ℕ) → s ≡ x ∷ t → isSign x ≡ false → r .number ≡ plus (fit (half - 1) (digitsOf (leading isDigit (x ∷ t)))) → r .end ≡ at + run isDigit (x ∷ t) → r .signed ≡ false → LeadsWith half s at r
+  unfolding numeral
+  LeadsWith-digits x t k d n e b =
+      rw k
+      (record {
+        number-is = rw d (n ∙ sym (ap (fitSigned half) (signedOf-leading (x ∷ t)) ∙ fitSigned-plus half (digitsOf (leading isDigit (x ∷ t))) h));
+        end-is = rw d e;
+        signed-is = b ∙ sym d;
+      })
+
+-- ---- a text whose number has other bytes behind it is none
+pub signedOf-of-numeral-lt : (s : List ℕ) → numeral s < length s → signedOf s ≡ NotOne
+unfolding numeral signedOf unsignedOf isSign
+signedOf-of-numeral-lt [] h = refl
+signedOf-of-numeral-lt (b ∷ s) h =
+    by-test (eqb b 43) (λ k. rw (eqb-true b 43 k, digitsOf-of-run-lt s (behind (rw k at h))))
+    (λ k. by-test (eqb b 45) (λ e. rw (e, digitsOf-of-run-lt s (behind (rw (k, e) at h)))) (λ e. rw (e, k, digitsOf-of-run-lt (b ∷ s) (rw (k, e) at h))))
+  where
+    behind : suc (run isDigit s) < suc (length s) → run isDigit s < length s
+    behind k = omega arith

@@ -1,7 +1,8 @@
--- Runs of bytes, and places. In order: a run is within its text, and only bytes of its kind are in it; the last place at which a
--- test holds, found from the end.
+-- Runs of bytes, and places. In order: a run is within its text; the place past a run, one byte at a time; the bytes of a run; runs
+-- of two kinds, where the bytes of one kind are of the other; what no byte of a run changes; the last place at which a test holds,
+-- found from the end.
 -- Assumes nothing.
-use mathlib.Core.Path.{_≡_, ap, sym}
+use mathlib.Core.Path.{_≡_, refl, ap, _∙_, sym}
 use mathlib.Core.Bool.{Bool, true, false, not, _&&_, _||_, or-true}
 use mathlib.Core.List.{List, [], _∷_}
 use Prim.Native.Nat.{ℕ, zero, suc, _+_, _≤_, _<_}
@@ -9,9 +10,10 @@ use native.Mathlib.Nat.{le-refl, zero-add}
 use native.Mathlib.Omega.{arith}
 use borrow.Author.Tests.{lt-ltb, le-ltb, eqb-false}
 use lib.Dec.{ltb, eqb}
-use lib.ListN.{length, drop, length-drop}
-use Rattle.text.specs.Places.{run, past, lastWhere}
-use Rattle.text.proofs.Lists.{by-test}
+use lib.ListN.{length, getD, take, drop, length-drop, drop-of-length-le}
+use lib.Seq.{drop-drop, length-take-le}
+use Rattle.text.specs.Places.{run, leading, past, lastWhere}
+use Rattle.text.proofs.Lists.{by-test, drop-cons-add-one}
 
 pub run-le-length : (p : ℕ → Bool) (s : List ℕ) → run p s ≤ length s
 unfolding run
@@ -21,6 +23,41 @@ run-le-length p (b ∷ s) = by-test (p b) (λ e. rw e (omega (arith, run-le-leng
 pub past-le-length : (p : ℕ → Bool) (s : List ℕ) (at : ℕ) → at ≤ length s → past p s at ≤ length s
 unfolding past
 past-le-length p s at h = omega (arith, run-le-length p (drop at s), length-drop at s)
+
+-- ---- the place past a run
+module _ (p : ℕ → Bool) (s : List ℕ) (i : ℕ) where
+  pub le-past : i ≤ past p s i
+  unfolding past
+  le-past = omega arith
+
+  pub past-of-true : i < length s → p (getD s i 0) ≡ true → past p s i ≡ past p s (i + 1)
+  unfolding past run
+  past-of-true h e = rw (drop-cons-add-one s i h, e) (omega arith)
+
+  pub past-of-false : i < length s → p (getD s i 0) ≡ false → past p s i ≡ i
+  unfolding past run
+  past-of-false h e = rw (drop-cons-add-one s i h, e) (omega arith)
+
+  pub past-of-length-le : length s ≤ i → past p s i ≡ i
+  unfolding past run
+  past-of-length-le h = rw (drop-of-length-le s h) (omega arith)
+
+  pub drop-past : drop (run p (drop i s)) (drop i s) ≡ drop (past p s i) s
+  unfolding past
+  drop-past = drop-drop _ i s
+
+  -- ---- the bytes of a run
+  pub length-leading : i + length (leading p (drop i s)) ≡ past p s i
+  unfolding past
+  length-leading = rw (length-take-le (run p (drop i s)) (drop i s) (run-le-length p (drop i s)))
+
+  pub leading-of-past : past p s i ≡ i → leading p (drop i s) ≡ []
+  unfolding past
+  leading-of-past e = let z : run p (drop i s) ≡ 0 = omega arith in rw z
+
+  pub leading-of-true : i < length s → p (getD s i 0) ≡ true → leading p (drop i s) ≡ getD s i 0 ∷ leading p (drop (i + 1) s)
+  unfolding run
+  leading-of-true h e = rw (drop-cons-add-one s i h, e)
 
 -- ---- the last place
 module _ (p : List ℕ → Bool) where

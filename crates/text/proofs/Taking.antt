@@ -18,7 +18,7 @@ use Rattle.text.specs.Words.{onto, pieces, full, words, takeWord}
 use Rattle.text.specs.declared.words.Taken.{Taken}
 use Rattle.text.specs.declared.words.Taken.the-variants.{Word, Nothing}
 use Rattle.text.proofs.Lists.{by-test}
-use Rattle.text.proofs.Runs.{past-le-length}
+use Rattle.text.proofs.Runs.{past-le-length, drop-past}
 
 -- what an answer of the reader tells of the words that are left: the one taken, and those from the reader that it came with
 abbrev pub listed : (ℕ → Bool) → List ℕ → Taken → List (List ℕ)
@@ -78,28 +78,23 @@ module _ (p : ℕ → Bool) where
       sym (words-drop-run s) ∙ ap full (pieces-cons t) ∙ full-cons (run q t) t (tails (drop (run q t) t)) (run-pos s h) h ∙ ap (λ (ws : List (List ℕ)). take (run q t) t ∷ ws) (full-tails t)
 
   -- ---- the reader
-  -- the place past the separators from `at`
-  drop-past : (s : List ℕ) (at : ℕ) → drop (run p (drop at s)) (drop at s) ≡ drop (past p s at) s
-  unfolding past
-  drop-past s at = drop-drop _ at s
-
   more : (s : List ℕ) (at : ℕ) → past p s at < length s → 0 < length (drop (run p (drop at s)) (drop at s))
-  more s at h = rw drop-past (omega (arith, length-drop (past p s at) s))
+  more s at h = rw (drop-past p s at) (omega (arith, length-drop (past p s at) s))
 
   words-of-lt : (s : List ℕ) (at : ℕ) → past p s at < length s
       → words p (drop at s) ≡ take (past q s (past p s at) - past p s at) (drop (past p s at) s) ∷ words p (drop (past q s (past p s at)) s)
   unfolding past
   words-of-lt s at h =
       let a : ℕ = past p s at in
-      rw (add-sub-cancel-left a, ← drop-drop (run q (drop a s)) a s) (rw drop-past at (words-cons (drop at s) (more s at h)))
+      rw (add-sub-cancel-left a, ← drop-drop (run q (drop a s)) a s) (rw (drop-past p s at) at (words-cons (drop at s) (more s at h)))
 
   words-of-le : (s : List ℕ) (at : ℕ) → length s ≤ past p s at → words p (drop at s) ≡ []
   unfolding words pieces full
-  words-of-le s at h = rw (drop-past, drop-of-length-le s {i = (past p s at)} h) at (sym (words-drop-run (drop at s)))
+  words-of-le s at h = rw (drop-past p s at, drop-of-length-le s {i = (past p s at)} h) at (sym (words-drop-run (drop at s)))
 
   past-lt : (s : List ℕ) (at : ℕ) → past p s at < length s → at < past q s (past p s at)
   unfolding past
-  past-lt s at h = omega (arith, rw drop-past at (run-pos (drop at s) (more s at h)))
+  past-lt s at h = omega (arith, rw (drop-past p s at) at (run-pos (drop at s) (more s at h)))
 
   -- an answer t that the reader gave: a word taken is the first of the words that are left, and its reader has the others
   pub words-takeWord : (s : List ℕ) (at : ℕ) (t : Taken) → t ≡ takeWord p s at → words p (drop at s) ≡ listed p s t

@@ -1,18 +1,22 @@
 -- Numbers: an optional sign, then digits only, at least one, and the result fits the width. Values are unbounded; `fit` and
 -- `fitSigned` alone know a width.
 -- Assumes nothing.
-use Prim.Native.Nat.{ℕ, _+_, _-_, _*_, _≤_}
+use Prim.Native.Nat.{ℕ, suc, _+_, _-_, _*_, _≤_}
 use Prim.Native.Char.{code}
+use mathlib.Core.Path.{_≡_}
 use mathlib.Core.Bool.{cond, _&&_}
 use mathlib.Core.List.{List, [], _∷_}
 use lib.Dec.{leb, eqb}
 use lib.IntN.{pos, negℤ}
+use lib.ListN.{take, getD}
 use lib.Signed.{leZ, ltZ}
-use Rattle.text.specs.Bytes.{isDigit}
+use Rattle.text.specs.Bytes.{isDigit, isSign}
+use Rattle.text.specs.Places.{run}
 use Rattle.text.specs.declared.number.Number.{Number}
 use Rattle.text.specs.declared.number.Number.the-variants.{Value, Not}
 use Rattle.text.specs.declared.number.Integer.{Integer}
 use Rattle.text.specs.declared.number.Integer.the-variants.{Is, NotOne}
+use Rattle.text.specs.declared.number.LeadingInteger.{LeadingInteger}
 
 -- digits only: their value, read on from v
 unfoldable pub readFrom : ℕ → List ℕ → Number
@@ -51,6 +55,17 @@ fit limit Not = Not
 unfoldable pub fitSigned : ℕ → Integer → Integer
 fitSigned half (Is z) = cond (leZ (negℤ (pos half)) z && ltZ z (pos half)) (Is z) NotOne
 fitSigned half NotOne = NotOne
+
+-- how many bytes open s as a number does: a sign, if there is one, and digits
+unfoldable pub numeral : List ℕ → ℕ
+numeral [] = 0
+numeral (b ∷ s) = cond (isSign b) (suc (run isDigit s)) (run isDigit (b ∷ s))
+
+-- what is read of those bytes, where s stands at a place
+pub record LeadsWith (half : ℕ) (s : List ℕ) (at : ℕ) (r : LeadingInteger) : Type 0 where
+  pub number-is : r .number ≡ fitSigned half (signedOf (take (numeral s) s))
+  pub end-is : r .end ≡ at + numeral s
+  pub signed-is : r .signed ≡ isSign (getD s 0 0)
 
 -- at most k, if it is a number
 abbrev pub AtMost : ℕ → Number → Type 0

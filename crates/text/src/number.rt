@@ -1,13 +1,16 @@
 // Numbers in a text, of any length: what is too large for its limit is no number, and nothing overflows on the way. One function
 // reads the digits of all widths, by the limit that it is given.
 ghost use mathlib.Core.Path.{_≡_};
-ghost use Prim.Native.Nat.{_≤_, _<_, _-_, _^_};
+ghost use mathlib.Core.Bool.{cond};
+ghost use Prim.Native.Nat.{_+_, _*_, _≤_, _<_, _-_, _^_};
+ghost use lib.Dec.{leb, ltb};
 ghost use lib.IntN.{pos, negℤ};
 ghost use lib.ListN.{drop};
 ghost use Rattle.text.specs.Bytes.{isDigit};
-ghost use Rattle.text.specs.Places.{leading};
+ghost use Rattle.text.specs.Places.{leading, past};
 ghost use Rattle.text.specs.Number.{digitsOf, unsignedOf, signedOf, fit, fitSigned, plus, minus};
-ghost use Rattle.text.specs.Number.{AtMost};
+ghost use Rattle.text.specs.Number.{AtMost, LeadsWith};
+ghost use Rattle.text.specs.declared.number.Number.the-variants.{Value, Not};
 use crate::bytes;
 
 pub enum Number {
@@ -39,48 +42,159 @@ pub fn signed_number(s: &[u8], half: u64) -> Integer
     requires { ⌜ (0 < half) × (half ≤ 2 ^ 63) ⌝ }
     ensures { λ r. ⌜ r ≡ fitSigned half (signedOf (now (s .entry))) ⌝ }
 {
-    if s.len() == 0 {
+    let read = leading_integer(s, 0, half);
+    if read.end < s.len() {
         return Integer::NotOne;
     }
-    if s[0] == 45 {
-        return as_minus(digits(s, 1, half));
-    }
-    as_plus(unsigned_number(s, half - 1))
+    read.number
 }
 
 // Digits alone from `from` on, at least one, of a value up to the limit.
 pub fn digits(s: &[u8], from: usize, limit: u64) -> Number
     ensures { λ r. ⌜ r ≡ fit limit (digitsOf (drop from (now (s .entry)))) ⌝ }
 {
-    if s.len() <= from {
+    let read = leading_number(s, from, limit);
+    if read.end < s.len() {
         return Number::Not;
     }
+    read.number
+}
+
+// What the digits from `from` on are, as many as stand there, and the place past them.
+pub struct Leading {
+    pub number: Number,
+    pub end: usize,
+}
+
+// The digits from `from` on, as many as stand there: no number where there is none, or where they are too large for the limit.
+pub fn leading_number(s: &[u8], from: usize, limit: u64) -> Leading
+    ensures { λ r. ⌜ r .number ≡ fit limit (digitsOf (leading isDigit (drop from (now (s .entry))))) ⌝ }
+    ensures { λ r. ⌜ r .end ≡ past isDigit (now (s .entry)) from ⌝ }
+{
     let mut v: u64 = 0;
     let mut i = from;
     while i < s.len() {
         let b = s[i];
         if bytes::is_digit(b) {
             let d = wide(b - 48);
-            if limit / 10 < v {
-                return Number::Not;
+            if has_room(v, d, limit) {
+                v = 10 * v + d;
+                i += 1;
+            } else {
+                let end = past_digits(s, i);
+                return Leading {
+                    number: Number::Not,
+                    end,
+                };
             }
-            let t = 10 * v;
-            if limit - t < d {
-                return Number::Not;
-            }
-            v = t + d;
-            i += 1;
         } else {
-            return Number::Not;
+            return read_up_to(from, i, v);
         }
     }
-    Number::Value(v)
+    read_up_to(from, i, v)
+}
+
+// Whether v with the digit d behind it is at most the limit. One comparison tells, but for the last digits before the limit.
+fn has_room(v: u64, d: u64, limit: u64) -> bool
+    requires { ⌜ d < 10 ⌝ }
+    ensures { λ r. ⌜ r ≡ leb (10 * v + d) limit ⌝ }
+{
+    let tenth = limit / 10;
+    if v < tenth {
+        return true;
+    }
+    if tenth < v {
+        return false;
+    }
+    d <= limit - 10 * v
+}
+
+// No digit passed is no number.
+fn read_up_to(from: usize, end: usize, v: u64) -> Leading
+    ensures { λ r. ⌜ r .number ≡ cond (ltb from end) (Value v) Not ⌝ }
+    ensures { λ r. ⌜ r .end ≡ end ⌝ }
+{
+    if from < end {
+        return Leading {
+            number: Number::Value(v),
+            end,
+        };
+    }
+    Leading {
+        number: Number::Not,
+        end,
+    }
+}
+
+// Past the digits from `at`.
+fn past_digits(s: &[u8], at: usize) -> usize
+    ensures { λ r. ⌜ r ≡ past isDigit (now (s .entry)) at ⌝ }
+{
+    let mut i = at;
+    while i < s.len() {
+        if bytes::is_digit(s[i]) {
+            i += 1;
+        } else {
+            return i;
+        }
+    }
+    i
 }
 
 fn wide(b: u8) -> u64
     ensures { λ r. ⌜ r ≡ b ⌝ }
 {
     b as u64
+}
+
+// What an optional sign and the digits behind it are, as many as stand there, the place past them, and whether the sign is there.
+pub struct LeadingInteger {
+    pub number: Integer,
+    pub end: usize,
+    pub signed: bool,
+}
+
+// The same with an optional `+` or `-` in front, of the width that `signed_number` has.
+pub fn leading_integer(s: &[u8], from: usize, half: u64) -> LeadingInteger
+    requires { ⌜ (0 < half) × (half ≤ 2 ^ 63) ⌝ }
+    ensures { λ r. ⌜ LeadsWith half (drop from (now (s .entry))) from r ⌝ }
+{
+    if s.len() <= from {
+        return LeadingInteger {
+            number: Integer::NotOne,
+            end: from,
+            signed: false,
+        };
+    }
+    let b = s[from];
+    if b == 45 {
+        let below = leading_number(s, from + 1, half);
+        let n = below.number;
+        let number = as_minus(n);
+        return LeadingInteger {
+            number,
+            end: below.end,
+            signed: true,
+        };
+    }
+    if b == 43 {
+        let above = leading_number(s, from + 1, half - 1);
+        let n = above.number;
+        let number = as_plus(n);
+        return LeadingInteger {
+            number,
+            end: above.end,
+            signed: true,
+        };
+    }
+    let read = leading_number(s, from, half - 1);
+    let n = read.number;
+    let number = as_plus(n);
+    LeadingInteger {
+        number,
+        end: read.end,
+        signed: false,
+    }
 }
 
 fn as_plus(n: Number) -> Integer

@@ -76,7 +76,7 @@ impl Words {
 }
 
 // Past the separators from `at`.
-fn word_start(s: &[u8], at: usize, by: Separator) -> usize
+pub fn word_start(s: &[u8], at: usize, by: Separator) -> usize
     ensures { λ r. ⌜ r ≡ past (separator by) (now (s .entry)) at ⌝ }
 {
     let mut i = at;
