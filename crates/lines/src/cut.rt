@@ -19,7 +19,7 @@ pub struct Step {
 
 // Answers the lines of `s` that have their end, from the first on, one answer after the other from the front of `out`, up to the
 // first that does not fit. Bytes beyond the answers stay. Where nothing is taken, though `out` has 64 bytes, no line has its end.
-pub fn answer_lines_with(months: &[u32; 4800], s: &[u8], out: &mut [u8]) -> Step
+pub fn answer_lines_with(months: &[u32], s: &[u8], out: &mut [u8]) -> Step
     requires { ⌜ IsMonths (now months) ⌝ }
     ensures { λ r. ⌜ r ≡ stepOf (now (s .entry)) (length (now (out .entry))) ⌝ }
     ensures { λ _. ⌜ now (out .exit) ≡ roomAfterStep (now (s .entry)) (now (out .entry)) ⌝ }
@@ -43,7 +43,7 @@ pub fn answer_lines_with(months: &[u32; 4800], s: &[u8], out: &mut [u8]) -> Step
 }
 
 // The answer line of `line` from `at` on.
-fn answer_at(months: &[u32; 4800], line: &[u8], at: usize, out: &mut [u8]) -> usize
+fn answer_at(months: &[u32], line: &[u8], at: usize, out: &mut [u8]) -> usize
     requires { ⌜ IsMonths (now months) ⌝ }
     requires { ⌜ at ≤ length (now out) ⌝ }
     ensures { λ r. ⌜ r ≡ writtenIn (answerLine (now (line .entry))) (drop at (now (out .entry))) ⌝ }

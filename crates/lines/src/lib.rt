@@ -20,7 +20,7 @@ use time::Now;
 
 // Writes the answer line of `line`, which is without its end, to the front of `out`, and hands back how many bytes that took. Those
 // beyond stay. An answer that does not fit is not written: 0, and `out` holds what it held. 64 bytes are room for every answer.
-pub fn answer_with(months: &[u32; 4800], line: &[u8], out: &mut [u8]) -> usize
+pub fn answer_with(months: &[u32], line: &[u8], out: &mut [u8]) -> usize
     requires { ⌜ IsMonths (now months) ⌝ }
     ensures { λ r. ⌜ r ≡ writtenIn (answerLine (now (line .entry))) (now (out .entry)) ⌝ }
     ensures { λ _. ⌜ now (out .exit) ≡ roomWith (answerLine (now (line .entry))) (now (out .entry)) ⌝ }
@@ -30,7 +30,7 @@ pub fn answer_with(months: &[u32; 4800], line: &[u8], out: &mut [u8]) -> usize
 }
 
 // What a line asks, answered; 9 for one of the wrong layout.
-fn row_of(months: &[u32; 4800], line: &[u8]) -> Row
+fn row_of(months: &[u32], line: &[u8]) -> Row
     requires { ⌜ IsMonths (now months) ⌝ }
     ensures { λ r. ⌜ r ≡ rowOf (now (line .entry)) ⌝ }
 {
@@ -48,7 +48,7 @@ fn row_of(months: &[u32; 4800], line: &[u8]) -> Row
     }
 }
 
-fn parse_as(months: &[u32; 4800], form: Form, text: &[u8], current: Now) -> Answer
+fn parse_as(months: &[u32], form: Form, text: &[u8], current: Now) -> Answer
     requires { ⌜ IsMonths (now months) ⌝ }
     ensures { λ r. ⌜ r ≡ answerBy form (now (text .entry)) current ⌝ }
 {

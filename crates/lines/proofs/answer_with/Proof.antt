@@ -12,7 +12,7 @@ returns : tie.Need-returns
 unfolding answerLine
 returns c = let at-write = c .before .before in
     let at-row = at-write .before .before in
-    let room = at-row .before .before .before .args .out .now in
+    let room = at-row .before .before .before .before .args .out .now in
     (at-write .write-row .ensures .0 ∙ ap (λ (x : Row). writtenIn (rowBytes x) room) (at-row .row-of .ensures), (at-write .write-row .ensures .1 .0 ∙ ap (λ (x : Row). roomWith (rowBytes x) room) (at-row .row-of .ensures), at-write .write-row .ensures .1 .1))
 
 pub answer-with-spec : {M : Type 1} → statement M

@@ -13,7 +13,7 @@ use Rattle.lines.proofs.cut.answer_at.Tie as tie
 
 returns : tie.Need-returns
 returns c = let at-answer = c .before .before in
-    let start = at-answer .before .before .before .before in
+    let start = at-answer .before .before .before .before .before in
     let l = start .args .out .now in
     let at = start .args .at in
     let a = answerLine (start .args .line .now) in (

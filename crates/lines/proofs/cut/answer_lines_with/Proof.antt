@@ -18,7 +18,7 @@ abbrev μ-loop : tie.MeasureT-loop
 -- one line more is still within the buffer, and its answer within the room
 bounds : (c : tie.Else2 Inv-loop μ-loop) → let at-e = c .before .before .before .before .before .before .before in
     let at-loop = at-e .before .before in
-    let start = at-loop .before .before .before in
+    let start = at-loop .before .before .before .before in
     (at-loop .loop .taken + (at-e .first-place .result + 1) ≤ length (start .args .s .now)) × (at-loop .loop .written + c .before .before .before .answer-at .result ≤ length (start .args .out .now))
 bounds c =
     let at-answer = c .before .before .before in
@@ -31,7 +31,7 @@ bounds c =
     (g .inside, g .within)
 
 loop-holds : tie.Need-loop-holds Inv-loop μ-loop
-loop-holds c = going-start (c .before .before .args .s .now) (c .before .before .args .out .now)
+loop-holds c = going-start (c .before .before .before .args .s .now) (c .before .before .before .args .out .now)
 
 from-requires : tie.Need-from-requires Inv-loop μ-loop
 from-requires c κs = c .loop .inv .inside
@@ -51,7 +51,7 @@ up-to-requires c κs = c .before .first-place .ensures .1
 
 answer-at-requires : tie.Need-answer-at-requires Inv-loop μ-loop
 answer-at-requires c κs = let at-loop = c .before .before .before .before .before in
-    (at-loop .before .before .before .pre, omega (arith, at-loop .loop .inv .within, at-loop .loop .inv .size))
+    (at-loop .before .before .before .before .pre, omega (arith, at-loop .loop .inv .within, at-loop .loop .inv .size))
 
 same-length-2 : tie.Need-same-length-2 Inv-loop μ-loop
 same-length-2 c = let e = c .before .before .before .before .before .before .before .before .before .loop .inv .size in search needs
