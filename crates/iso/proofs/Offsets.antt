@@ -2,7 +2,7 @@
 -- Assumes nothing.
 use mathlib.Core.Path.{_≡_, refl, sym, subst}
 use mathlib.Core.List.{List, [], _∷_}
-use Prim.Native.Nat.{ℕ, _+_, _-_, _^_, _≤_, _<_}
+use Prim.Native.Nat.{ℕ, _-_, _^_, _<_}
 use native.Mathlib.Omega.{arith}
 use borrow.Author.Tests.{ne-eqb}
 use lib.IntN.{ℤ, pos, negsuc, negℤ, natAbs, _+ℤ_, _*ℤ_}
@@ -18,7 +18,6 @@ use Rattle.text.proofs.Lists.{take-length-sub-drop}
 use Rattle.text.proofs.Numbers.{Short, signedOf-short, fitSigned-of-length}
 use Rattle.iso.specs.Parts.{without, int32}
 use Rattle.iso.specs.Offset.{upTo, secondsOf, hoursMinutes, turned, offsetOf, Within}
-use Rattle.iso.proofs.Places.{two-getD}
 
 -- ---- a field of two bytes is from -99 to 99
 In-of-natAbs : (z : ℤ) → natAbs z < 100 → In (negsuc 98) (pos 99) z
@@ -33,18 +32,21 @@ pub int32-two-within : (x y : ℕ) → Within 99 (int32 (x ∷ y ∷ []))
 unfolding int32
 int32-two-within x y = rw (fitSigned-of-length (2 ^ 31) (x ∷ y ∷ []) (omega arith)) (Within-of-Short (signedOf (x ∷ y ∷ [])) (signedOf-short (x ∷ y ∷ [])))
 
--- ---- hours and minutes
-pub hoursMinutes-two : (l : List ℕ) → length l ≡ 2 → secondsOf (upTo (pos 23) (int32 (getD l 0 0 ∷ getD l 1 0 ∷ []))) (Is (pos 0)) ≡ hoursMinutes l
+-- ---- hours and minutes, of four bytes that are held
+pub hoursMinutes-two : (f : List ℕ) → length f ≡ 4 → secondsOf (upTo (pos 23) (int32 (getD f 0 0 ∷ getD f 1 0 ∷ []))) (Is (pos 0)) ≡ hoursMinutes (take 2 f)
 unfolding hoursMinutes
-hoursMinutes-two l e = let h : 0 + 2 ≤ length l = omega arith in rw (e, two-getD 0 l h)
+hoursMinutes-two [] h = absurd (omega arith)
+hoursMinutes-two (a ∷ []) h = absurd (omega arith)
+hoursMinutes-two (a ∷ b ∷ f) h = refl
 
-pub hoursMinutes-four : (l : List ℕ) → length l ≡ 4
-    → secondsOf (upTo (pos 23) (int32 (getD l 0 0 ∷ getD l 1 0 ∷ []))) (upTo (pos 59) (int32 (getD l 2 0 ∷ getD l 3 0 ∷ []))) ≡ hoursMinutes l
+pub hoursMinutes-four : (f : List ℕ) → length f ≡ 4
+    → secondsOf (upTo (pos 23) (int32 (getD f 0 0 ∷ getD f 1 0 ∷ []))) (upTo (pos 59) (int32 (getD f 2 0 ∷ getD f 3 0 ∷ []))) ≡ hoursMinutes (take 4 f)
 unfolding hoursMinutes
-hoursMinutes-four l e =
-    let h : 0 + 2 ≤ length l = omega arith in
-    let k : 2 + 2 ≤ length l = omega arith in
-    rw (e, two-getD 0 l h, two-getD 2 l k)
+hoursMinutes-four [] h = absurd (omega arith)
+hoursMinutes-four (a ∷ []) h = absurd (omega arith)
+hoursMinutes-four (a ∷ b ∷ []) h = absurd (omega arith)
+hoursMinutes-four (a ∷ b ∷ c ∷ []) h = absurd (omega arith)
+hoursMinutes-four (a ∷ b ∷ c ∷ d ∷ f) h = refl
 
 pub hoursMinutes-not : (l : List ℕ) → (length l ≡ 2 → ⊥) → (length l ≡ 4 → ⊥) → NotOne ≡ hoursMinutes l
 unfolding hoursMinutes

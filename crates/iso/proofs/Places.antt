@@ -1,12 +1,14 @@
--- Parts of a text. In order: two bytes from a place; bytes that are no b, read one by one from a place on.
+-- Parts of a text. In order: two bytes from a place; bytes that are no b, read one by one from a place on and held.
 -- Assumes nothing.
-use mathlib.Core.Path.{_≡_, sym, ap, _∙_}
+use mathlib.Core.Path.{_≡_, ap}
 use mathlib.Core.Bool.{true, false}
-use mathlib.Core.List.{List, [], _∷_}
-use Prim.Native.Nat.{ℕ, suc, _+_, _-_, _≤_, _<_}
+use mathlib.Core.List.{List, [], _∷_, _++_, append-nil}
+use Prim.Native.Nat.{ℕ, _+_, _≤_, _<_}
 use native.Mathlib.Omega.{arith}
+use native.Mathlib.Numerals.{add-one}
 use lib.Dec.{eqb}
-use lib.ListN.{length, getD, drop, drop-of-length-le}
+use lib.ListN.{length, getD, take, drop, set, drop-of-length-le, length-append}
+use lib.Seq.{length-take-le, take-suc-set, append-snoc}
 use Rattle.text.proofs.Lists.{drop-cons-add-one}
 use Rattle.iso.specs.Parts.{two, without}
 
@@ -25,29 +27,22 @@ without-drop-ne : (b : ℕ) (s : List ℕ) (i : ℕ) → i < length s → eqb (g
 unfolding without
 without-drop-ne b s i h e = rw (drop-cons-add-one s i h, e)
 
--- its byte n, and how many it has, read on from i
-module _ (b : ℕ) (s : List ℕ) (i : ℕ) (h : i < length s) where
-  pub kept-skip : (n : ℕ) {x : ℕ} → x ≡ getD (without b (drop i s)) n 0 → eqb (getD s i 0) b ≡ true → x ≡ getD (without b (drop (i + 1) s)) n 0
-  kept-skip n r e = rw (without-drop-eq b s i h e) at r
+-- its bytes read one by one: the first n of f hold what came before i
+module _ (b : ℕ) (s : List ℕ) (i : ℕ) (h : i < length s) {l : List ℕ} (f : List ℕ) (n : ℕ) (r : l ≡ take n f ++ without b (drop i s)) where
+  pub kept-skip : eqb (getD s i 0) b ≡ true → l ≡ take n f ++ without b (drop (i + 1) s)
+  kept-skip e = rw (without-drop-eq b s i h e) at r
 
-  pub kept-here : (n : ℕ) {x : ℕ} → x ≡ getD (without b (drop i s)) n 0 → eqb (getD s i 0) b ≡ false → n ≡ 0 → getD s i 0 ≡ x
-  kept-here n r e z = sym (rw (without-drop-ne b s i h e, z) at r)
+  pub kept-on : eqb (getD s i 0) b ≡ false → n < length f → l ≡ take (n + 1) (set f n (getD s i 0)) ++ without b (drop (i + 1) s)
+  kept-on e k =
+      let q : take (n + 1) (set f n (getD s i 0)) ≡ take n f ++ (getD s i 0 ∷ []) = rw add-one (take-suc-set f n (getD s i 0) k) in
+      rw (q, append-snoc) (rw (without-drop-ne b s i h e) at r)
 
-  pub kept-on : (n : ℕ) {x : ℕ} → x ≡ getD (without b (drop i s)) n 0 → eqb (getD s i 0) b ≡ false → 1 ≤ n → x ≡ getD (without b (drop (i + 1) s)) (n - 1) 0
-  kept-on n r e p =
-      let k : n ≡ suc (n - 1) = omega arith in
-      r ∙ ap (λ (l : List ℕ). getD l n 0) (without-drop-ne b s i h e) ∙ ap (λ (j : ℕ). getD (getD s i 0 ∷ without b (drop (i + 1) s)) j 0) k
+  -- a byte more than f holds
+  pub kept-over : eqb (getD s i 0) b ≡ false → n ≤ length f → n < length l
+  kept-over e k =
+      let q : l ≡ take n f ++ (getD s i 0 ∷ without b (drop (i + 1) s)) = rw (without-drop-ne b s i h e) at r in
+      omega (arith, ap length q, length-append (take n f) (getD s i 0 ∷ without b (drop (i + 1) s)), length-take-le n f k)
 
-  pub count-skip : (n : ℕ) {x : ℕ} → x ≡ n + length (without b (drop i s)) → eqb (getD s i 0) b ≡ true → x ≡ n + length (without b (drop (i + 1) s))
-  count-skip n r e = rw (without-drop-eq b s i h e) at r
-
-  pub count-on : (n : ℕ) {x : ℕ} → x ≡ n + length (without b (drop i s)) → eqb (getD s i 0) b ≡ false → x ≡ (n + 1) + length (without b (drop (i + 1) s))
-  count-on n {x} r e = omega (arith, rw (without-drop-ne b s i h e) at r)
-
-pub kept-end : (b : ℕ) (s : List ℕ) (i n : ℕ) {x : ℕ} → length s ≤ i → x ≡ getD (without b (drop i s)) n 0 → 0 ≡ x
+pub kept-end : (b : ℕ) (s : List ℕ) (i : ℕ) {l : List ℕ} (f : List ℕ) (n : ℕ) → l ≡ take n f ++ without b (drop i s) → length s ≤ i → l ≡ take n f
 unfolding without
-kept-end b s i n h r = sym (rw (drop-of-length-le s h) at r)
-
-pub count-end : (b : ℕ) (s : List ℕ) (i n : ℕ) {x : ℕ} → length s ≤ i → x ≡ n + length (without b (drop i s)) → n ≡ x
-unfolding without
-count-end b s i n {x} h r = omega (arith, rw (drop-of-length-le s h) at r)
+kept-end b s i f n r h = rw (drop-of-length-le s h, append-nil) at r

@@ -1,8 +1,8 @@
-// The offset from UTC, in seconds. Its colons are passed over as its bytes are read: nothing is copied but two bytes.
+// The offset from UTC, in seconds. Its colons are passed over as its bytes are read, once: nothing is copied but the four bytes
+// that may be left.
 ghost use mathlib.Core.Path.{_≡_};
 ghost use mathlib.Core.List.{[], _∷_};
 ghost use lib.IntN.{pos};
-ghost use lib.ListN.{length, getD};
 ghost use Rattle.ints.specs.Range.{In};
 ghost use Rattle.iso.specs.Parts.{without, int32};
 ghost use Rattle.iso.specs.Offset.{upTo, secondsOf, hoursMinutes, turned as turnedOf, offsetOf, Within};
@@ -32,59 +32,33 @@ pub fn parse_flexible_offset(o: &[u8]) -> Integer
     Integer::NotOne
 }
 
-// What follows the sign: two or four bytes that are no colons.
+// What follows the sign: two or four bytes that are no colons. A fifth ends the walk.
 fn hours_minutes(s: &[u8]) -> Integer
     ensures is { λ r. ⌜ r ≡ hoursMinutes (without 58 (now (s .entry))) ⌝ }
     ensures range { λ r. ⌜ Within 362340 r ⌝ }
 {
-    let n = kept_count(s);
-    if n == 2 {
-        return seconds(field(kept(s, 0), kept(s, 1), 23), Integer::Is(0));
-    }
-    if n == 4 {
-        return seconds(
-            field(kept(s, 0), kept(s, 1), 23),
-            field(kept(s, 2), kept(s, 3), 59),
-        );
-    }
-    Integer::NotOne
-}
-
-// How many bytes are no colons.
-fn kept_count(s: &[u8]) -> usize
-    ensures { λ r. ⌜ r ≡ length (without 58 (now (s .entry))) ⌝ }
-{
+    let mut f: [u8; 4] = [0; 4];
+    let mut n: usize = 0;
     let mut i = 0;
-    let mut n = 0;
     while i < s.len() {
         if s[i] == 58 {
             i += 1;
             continue;
         }
+        if n == 4 {
+            return Integer::NotOne;
+        }
+        f[n] = s[i];
         n += 1;
         i += 1;
     }
-    n
-}
-
-// Byte k, colons not counted; 0 if there is none.
-fn kept(s: &[u8], k: usize) -> u8
-    ensures { λ r. ⌜ r ≡ getD (without 58 (now (s .entry))) k 0 ⌝ }
-{
-    let mut i = 0;
-    let mut left = k;
-    while i < s.len() {
-        if s[i] == 58 {
-            i += 1;
-            continue;
-        }
-        if left == 0 {
-            return s[i];
-        }
-        left -= 1;
-        i += 1;
+    if n == 2 {
+        return seconds(field(f[0], f[1], 23), Integer::Is(0));
     }
-    0
+    if n == 4 {
+        return seconds(field(f[0], f[1], 23), field(f[2], f[3], 59));
+    }
+    Integer::NotOne
 }
 
 // Two bytes as a signed number up to the limit: it may be below 0, as in `+-5`.

@@ -3,7 +3,7 @@
 ghost use mathlib.Core.Path.{_≡_};
 ghost use Prim.Native.Nat.{_≤_};
 ghost use lib.ListN.{length};
-ghost use Rattle.text.specs.Places.{has as hasOf, firstPlace, lastPlace};
+ghost use Rattle.text.specs.Places.{has as hasOf, firstPlace};
 
 pub fn has(s: &[u8], b: u8) -> bool
     ensures { λ r. ⌜ r ≡ hasOf b (now (s .entry)) ⌝ }
@@ -22,18 +22,4 @@ pub fn first_place(s: &[u8], b: u8) -> usize
         i += 1;
     }
     i
-}
-
-// Looked for from the end.
-pub fn last_place(s: &[u8], b: u8) -> usize
-    ensures { λ r. ⌜ (r ≡ lastPlace b (now (s .entry))) × (r ≤ length (now (s .entry))) ⌝ }
-{
-    let mut e = s.len();
-    while 0 < e {
-        e -= 1;
-        if s[e] == b {
-            return e;
-        }
-    }
-    s.len()
 }
