@@ -1,7 +1,7 @@
 -- A test that runs along the months in one pass, the first day carried on from month to month: what antt computes of a whole list
 -- holds of each entry (`walk-getD`). A list that passes it with its entries for first days is the month table, or opens it
--- (`IsMonths-of-walk`; the empty one, `IsMonths-nil`), and of each length there is one (`IsMonths-unique`). `cycle` is such a test
--- with no list, at the 4,800 months of one cycle (`cycle-at`).
+-- (`IsMonths-of-walk`), and of each length there is one (`IsMonths-unique`). `cycle` is such a test with no list, at the 4,800
+-- months of one cycle (`cycle-at`).
 -- Assumes nothing.
 use mathlib.Core.Path.{_≡_, sym, _∙_}
 use mathlib.Core.Bool.{Bool, true, _&&_}
@@ -40,11 +40,7 @@ isFirst m x y = eqb y x
 pub IsMonths-of-walk : {t : List ℕ} → T (walk isFirst 0 0 t) → IsMonths t
 IsMonths-of-walk {t} w = record { entry = λ k h. eqb→eq (getD t k 0) (firstDay k) (walk-getD isFirst t w k h) }
 
--- no table at all
-pub IsMonths-nil : IsMonths []
-IsMonths-nil = IsMonths-of-walk tt
-
--- two of one length are the same
+-- and there is one such list of each length
 pub IsMonths-unique : {t u : List ℕ} → length t ≡ length u → IsMonths t → IsMonths u → t ≡ u
 IsMonths-unique {t} {u} e p q = ext-getD 0 t u e (λ k h. p .entry k h ∙ sym (q .entry k (rw e at h)))
 

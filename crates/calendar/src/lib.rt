@@ -1,13 +1,13 @@
-// The calendar of ISO 8601: days, months and dates, by a table of the months of four hundred years.
+// The calendar of ISO 8601: days, months and dates, by a table of the months of four hundred years,
+// or by the leap rule where none is lent.
 //
 // Everything is counted from 1 January of year -10000: it is day 0, of month 0, and 1 January 1970
 // is day 4,371,953, of month 143,640. Days end with year 9999, before day 7,304,850. No number here
 // is signed: who has a signed year adds 10000 to it, and to a signed day 4,371,953.
 //
-// `months` builds the table, some 19 KB: for who asks many times. Each other function is lent it, or
-// a part that opens it, and asks that it is the months' (`IsMonths`). Who asks once lends none, `&[]`:
-// first days beyond what is lent come from the leap rule. A day or a time that there may not be is a
-// `Found`.
+// `months` builds the table, some 19 KB, for who asks many times. Each other function is lent it, or
+// a part that opens it, and asks that it is the months' (`IsMonths`). Who asks once lends none: `&[]`.
+// A day or a time that there may not be is a `Found`.
 mod table;
 
 pub use table::months;
@@ -53,10 +53,10 @@ fn entry(t: &[u32], k: u64) -> u64
     by_rule(k)
 }
 
-// The same by the leap rule alone, since to build the table takes as long as a whole answer. Years
-// are counted from the March of 400 years before, so that a leap day is the last of its year, and
-// what comes before a month in its year is always as long. From that March to day 0 of the cycle are
-// 146,037 days.
+// The same by the leap rule alone: to build the table takes as long as a whole answer, and who asks
+// once need not wait for it. Years are counted from the March of 400 years before, so that a leap day
+// is the last of its year: y years have 365 days each and one more for each leap year, and the first m
+// months from March on have (153 * m + 2) / 5. From that March to the cycle's first day are 146,037.
 fn by_rule(k: u64) -> u64
     requires { ⌜ k < 4800 ⌝ }
     ensures { λ r. ⌜ r ≡ firstDay k ⌝ }

@@ -24,7 +24,7 @@ fn main() {
 }
 
 // A proved loop has to end, and nothing says that an input does. So the loop counts its turns down, from a number that no run uses up.
-fn answer_all(months: &[u32; 4800], buffer: &mut [u8], out: &mut [u8])
+fn answer_all(months: &[u32], buffer: &mut [u8], out: &mut [u8])
     requires { ⌜ IsMonths (now months) ⌝ }
     requires { ⌜ 65536 ≤ length (now buffer) ⌝ }
 {
@@ -47,7 +47,7 @@ struct Turn {
 }
 
 // Reads once, behind what is held, and answers. The turn is the last where the input ends, and where a read or a write fails.
-fn read_and_answer(months: &[u32; 4800], buffer: &mut [u8], held: usize, out: &mut [u8]) -> Turn
+fn read_and_answer(months: &[u32], buffer: &mut [u8], held: usize, out: &mut [u8]) -> Turn
     requires { ⌜ IsMonths (now months) ⌝ }
     requires { ⌜ (65536 ≤ length (now buffer)) × (held ≤ 4097) ⌝ }
     ensures { λ r. ⌜ r .held ≤ 4097 ⌝ }
@@ -72,7 +72,7 @@ fn read_and_answer(months: &[u32; 4800], buffer: &mut [u8], held: usize, out: &m
 }
 
 // A last line that lacks its end. There is none where nothing is held.
-fn answer_last(months: &[u32; 4800], line: &[u8], out: &mut [u8])
+fn answer_last(months: &[u32], line: &[u8], out: &mut [u8])
     requires { ⌜ IsMonths (now months) ⌝ }
 {
     if line.len() == 0 {
@@ -83,7 +83,7 @@ fn answer_last(months: &[u32; 4800], line: &[u8], out: &mut [u8])
 }
 
 // Answers the lines of the first `end` bytes, a room full of answers at a time, and keeps what is left.
-fn answer_held(months: &[u32; 4800], buffer: &mut [u8], end: usize, out: &mut [u8]) -> Turn
+fn answer_held(months: &[u32], buffer: &mut [u8], end: usize, out: &mut [u8]) -> Turn
     requires { ⌜ IsMonths (now months) ⌝ }
     requires { ⌜ end ≤ length (now buffer) ⌝ }
     ensures { λ r. ⌜ r .held ≤ 4097 ⌝ }

@@ -20,7 +20,7 @@ loop-holds c = (omega arith, refl, refl)
 
 read-and-answer-requires : tie.Need-read-and-answer-requires Inv-loop μ-loop
 read-and-answer-requires c κs = let at-loop = c .before .before .before in
-    let start = at-loop .before .before .before in
+    let start = at-loop .before .before .before .before in
     (start .pre .0, (omega (arith, start .pre .1, at-loop .loop .inv .1), at-loop .loop .inv .0))
 
 same-length : tie.Need-same-length Inv-loop μ-loop

@@ -17,10 +17,10 @@ abbrev μ-loop : tie.MeasureT-loop
 
 -- what is taken of the lines ends within what is held
 within : (c : tie.After-answer-lines-with Inv-loop μ-loop) → let at-loop = c .before .before .before .before .before in
-    at-loop .loop .from + c .answer-lines-with .result .taken ≤ at-loop .before .before .before .args .end
+    at-loop .loop .from + c .answer-lines-with .result .taken ≤ at-loop .before .before .before .before .args .end
 within c =
     let at-loop = c .before .before .before .before .before in
-    let end = at-loop .before .before .before .args .end in
+    let end = at-loop .before .before .before .before .args .end in
     omega (arith, c .answer-lines-with .ensures .1 .1 .0, at-loop .loop .inv .0, length-take (end - at-loop .loop .from) (drop (at-loop .loop .from) (at-loop .loop .buffer)))
 
 loop-holds : tie.Need-loop-holds Inv-loop μ-loop
@@ -30,7 +30,7 @@ sub-answer-lines-with : tie.Need-sub-answer-lines-with Inv-loop μ-loop
 sub-answer-lines-with c = omega arith
 
 answer-lines-with-requires : tie.Need-answer-lines-with-requires Inv-loop μ-loop
-answer-lines-with-requires c κs = c .before .before .before .before .before .before .before .pre .0
+answer-lines-with-requires c κs = c .before .before .before .before .before .before .before .before .pre .0
 
 keep-requires : tie.Need-keep-requires Inv-loop μ-loop
 keep-requires c κs = tt
@@ -48,7 +48,7 @@ write-answers-requires : tie.Need-write-answers-requires Inv-loop μ-loop
 write-answers-requires c κs = tt
 
 add-from : tie.Need-add-from Inv-loop μ-loop
-add-from c = record { fits = omega (arith, within (c .before .before .before .before .before .before), c .before .before .before .before .before .before .before .before .before .before .before .before .before .before .fits .end) }
+add-from c = record { fits = omega (arith, within (c .before .before .before .before .before .before), c .before .before .before .before .before .before .before .before .before .before .before .before .before .before .before .fits .end) }
 
 loop-less : tie.Need-loop-less Inv-loop μ-loop
 loop-less c = omega (arith, within (c .before .before .before .before .before .before), c .before .before .before .if1 .left)
