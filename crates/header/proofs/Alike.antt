@@ -1,9 +1,10 @@
 -- Where the raw reader accepts a text, what the header reader answers (`header-of-raw`): the same seconds; the same offset if the
 -- byte after the offset's sign is a digit, and offset 0 otherwise. So the two agree exactly if it is a digit or the offset is 0
--- (`raw-header-alike`, `raw-header-alike-only`): not on `5 ++5+0`. It holds at any limits.
+-- (`raw-header-alike`, `raw-header-alike-only`): not on `5 ++5+0`. It holds at any limits. On the way: raw too refuses a text with
+-- a `:` (`rawOf-of-colon`).
 -- Assumes nothing.
 use mathlib.Core.Path.{_≡_, refl, sym, ap, _∙_}
-use mathlib.Core.Bool.{Bool, true, false, cond, _&&_}
+use mathlib.Core.Bool.{Bool, true, false, cond, _&&_, false≢true}
 use mathlib.Core.List.{List, [], _∷_}
 use mathlib.Core.Logic.{_⊎_, inl, inr, ⊎-elim}
 use Prim.Native.Nat.{ℕ, _^_}
@@ -12,6 +13,7 @@ use lib.IntN.{ℤ, pos, negℤ}
 use lib.Signed.{leZ, ltZ}
 use lib.ListN.{getD}
 use Rattle.text.specs.Bytes.{isSpace, isDigit, ascii}
+use Rattle.text.specs.Places.{has}
 use Rattle.text.specs.Words.{words}
 use Rattle.text.specs.Number.{signedOf, fitSigned}
 use Rattle.text.specs.declared.number.Integer.{Integer}
@@ -19,7 +21,8 @@ use Rattle.text.specs.declared.number.Integer.the-variants.{Is, NotOne}
 use Rattle.text.proofs.Lists.{by-test}
 use Rattle.time.specs.Answers.{timeAt}
 use Rattle.time.specs.declared.Time.{Time}
-use Rattle.time.specs.declared.Answer.the-variants.{Time as At}
+use Rattle.time.specs.declared.Answer.the-variants.{Time as At, Refused}
+use Rattle.time.specs.declared.Refusal.the-variants.{Form}
 use Rattle.header.specs.Offset.{onlyWord, fiveOrSeven, fieldsOf, offsetOf}
 use Rattle.header.specs.Header.{number64, secondsOf, headerOffset, offsetOrZero, headerOfWords, headerOf}
 use Rattle.header.specs.Raw.{Limits, allows, rawTime, rawOfWords, rawOf}
@@ -93,6 +96,24 @@ raw-words l [] t e = let q : _≡_ {A = ℕ} 0 1 = cc in absurd (omega arith)
 raw-words l (w ∷ []) t e = let a = accepted l (number64 w) (fieldsOf Byte []) t e in absurd (fieldsOf-some [] (a .fields) (a .parsed) (fieldsOf-nil Byte))
 raw-words l (w ∷ v ∷ []) t e = answered w v t (accepted l (number64 w) (fieldsOf Byte v) t e)
 raw-words l (w ∷ v ∷ u ∷ ws) t e = let a = accepted l (number64 w) (fieldsOf Byte []) t e in absurd (fieldsOf-some [] (a .fields) (a .parsed) (fieldsOf-nil Byte))
+
+-- a text with a `:` is refused, as a `:` stands in none that raw accepts
+rawOfWords-refused : (l : Limits) (ws : List (List ℕ)) → ((t : Time) → rawOfWords l ws ≡ At t → ⊥) → rawOfWords l ws ≡ Refused Form
+unfolding rawOfWords
+rawOfWords-refused l [] never = refl
+rawOfWords-refused l (w ∷ ws) never = go (number64 w) (fieldsOf Byte (onlyWord ws)) never
+  where
+    go : (i : Integer) (p : Parsed) → ((t : Time) → rawTime l i p ≡ At t → ⊥) → rawTime l i p ≡ Refused Form
+    go (Is z) (Offset f) none = by-test (allows l f) (λ a. absurd (none (timeAt z (offsetOf f)) (rw a))) (λ a. rw a)
+    go (Is z) NoOffset none = refl
+    go NotOne p none = refl
+
+pub rawOf-of-colon : (l : Limits) (s : List ℕ) → ascii s ≡ true → has 58 s ≡ true → rawOf l s ≡ Refused Form
+unfolding rawOf isSpace
+rawOf-of-colon l s a h =
+    rw a
+    (rawOfWords-refused l (words isSpace s)
+    (λ t e. false≢true (sym (not-has-of-words 58 isSpace refl s (raw-words l (words isSpace s) t e .plain)) ∙ h)))
 
 -- what the header reader answers where the raw reader, at any limits, accepts
 pub header-of-raw : (l : Limits) (s : List ℕ) (t : Time) → rawOf l s ≡ At t

@@ -2,49 +2,39 @@
 -- bytes lie in a range; a number that is digits, or a minus and digits.
 -- Assumes nothing.
 use mathlib.Core.Path.{_≡_, refl, sym, ap, _∙_}
-use mathlib.Core.Bool.{Bool, true, false, not, _||_, false≢true}
+use mathlib.Core.Bool.{Bool, true, false, _||_, false≢true}
 use mathlib.Core.List.{List, [], _∷_, _++_}
-use Prim.Native.Nat.{ℕ, suc, _≤_, _<_}
+use Prim.Native.Nat.{ℕ, _≤_, _<_}
 use native.Mathlib.Omega.{arith}
 use native.Mathlib.Nat.{not-suc-le-zero}
-use borrow.Author.Tests.{lt-ltb, le-ltb, ltb-true, ltb-false, le-leb, lt-leb, ne-eqb, eqb-true}
-use lib.Dec.{ltb, eqb}
+use borrow.Author.Tests.{lt-ltb, le-leb, lt-leb, ne-eqb, eqb-true}
+use lib.Dec.{eqb}
 use lib.IntN.{ℤ, pos, negℤ}
 use lib.ListN.{length, take, drop, take-append-drop}
 use Rattle.text.specs.Bytes.{isSpace, isDigit, ascii}
-use Rattle.text.specs.Places.{run, firstPlace, has}
+use Rattle.text.specs.Places.{has}
 use Rattle.text.specs.Words.{onto, pieces, full, words}
 use Rattle.text.specs.Number.{readFrom, digitsOf, unsignedOf, signedOf, plus, minus}
 use Rattle.text.specs.declared.number.Number.{Number}
 use Rattle.text.specs.declared.number.Number.the-variants.{Value, Not}
 use Rattle.text.specs.declared.number.Integer.the-variants.{Is}
 use Rattle.text.proofs.Lists.{by-test}
+use Rattle.text.proofs.Runs.{has-cons, has-nil}
 use Rattle.text.proofs.Numbers.{digit-range}
 use Rattle.text.proofs.Decimals.{Between}
 use Rattle.text.proofs.Taking.{Whole}
 
 module _ (c : ℕ) where
   -- ---- a byte that stands nowhere in a text
-  pub has-cons : (b : ℕ) (s : List ℕ) → has c (b ∷ s) ≡ (eqb b c || has c s)
-  unfolding has firstPlace run
-  has-cons b s = by-test (eqb b c) (λ e. rw e (lt-ltb 0 (suc (length s)) (omega arith))) (λ e. rw e (ltb-suc (run (λ x. not (eqb x c)) s) (length s)))
-    where
-      ltb-suc : (m n : ℕ) → ltb (suc m) (suc n) ≡ ltb m n
-      ltb-suc m n = by-test (ltb m n) (λ e. rw e (lt-ltb (suc m) (suc n) (omega (arith, ltb-true m n e)))) (λ e. rw e (le-ltb (suc m) (suc n) (omega (arith, ltb-false m n e))))
-
-  pub has-nil : has c [] ≡ false
-  unfolding has firstPlace run
-  has-nil = refl
-
   pub not-has-cons : (b : ℕ) (s : List ℕ) → eqb b c ≡ false → has c s ≡ false → has c (b ∷ s) ≡ false
-  not-has-cons b s e h = rw (has-cons b s, e, h)
+  not-has-cons b s e h = rw (has-cons c b s, e, h)
 
   neither : (a b : Bool) → (a || b) ≡ false → (a ≡ false) × (b ≡ false)
   neither true b e = absurd (false≢true (sym e))
   neither false b e = (refl, e)
 
   not-has-of-cons : (b : ℕ) (s : List ℕ) → has c (b ∷ s) ≡ false → (eqb b c ≡ false) × (has c s ≡ false)
-  not-has-of-cons b s h = neither (eqb b c) (has c s) (sym (has-cons b s) ∙ h)
+  not-has-of-cons b s h = neither (eqb b c) (has c s) (sym (has-cons c b s) ∙ h)
 
   not-has-append : (s t : List ℕ) → has c s ≡ false → has c t ≡ false → has c (s ++ t) ≡ false
   not-has-append [] t h k = k
@@ -62,7 +52,7 @@ module _ (c : ℕ) where
   lacking-of-full : (ws : List (List ℕ)) → Lacking (full ws) → Lacking ws
   unfolding full
   lacking-of-full [] h = tt
-  lacking-of-full ([] ∷ ws) h = (has-nil, lacking-of-full ws h)
+  lacking-of-full ([] ∷ ws) h = (has-nil c, lacking-of-full ws h)
   lacking-of-full ((b ∷ w) ∷ ws) h = (h .0, lacking-of-full ws (h .1))
 
   lacking-of-onto : (b : ℕ) (ws : List (List ℕ)) → Lacking (onto b ws) → (eqb b c ≡ false) × Lacking ws
@@ -75,7 +65,7 @@ module _ (c : ℕ) where
 
     not-has-of-pieces : (s : List ℕ) → Lacking (pieces p s) → has c s ≡ false
     unfolding pieces
-    not-has-of-pieces [] h = has-nil
+    not-has-of-pieces [] h = has-nil c
     not-has-of-pieces (b ∷ s) h =
         by-test (p b) (λ e. let k = rw e at h in not-has-cons b s (not-c b e) (not-has-of-pieces s (k .1)))
         (λ e. let k = lacking-of-onto b (pieces p s) (rw e at h) in not-has-cons b s (k .0) (not-has-of-pieces s (k .1)))

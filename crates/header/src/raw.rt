@@ -6,12 +6,9 @@ use crate::offset;
 use crate::offset::Field;
 use crate::offset::Fields;
 use crate::offset::Parsed;
-use text::bytes;
-use text::number;
+use crate::walk;
+use crate::walk::Walked;
 use text::number::Integer;
-use text::words::Separator;
-use text::words::Taken;
-use text::words::Words;
 use time::Answer;
 use time::Refusal;
 use time::Time;
@@ -29,33 +26,37 @@ pub fn parse_raw(s: &[u8]) -> Answer
     parse_raw_by(s, Rule::One)
 }
 
-// The first word is judged before the others are looked at.
+// A `:` stands in no number and in no offset.
 fn parse_raw_by(s: &[u8], rule: Rule) -> Answer
     ensures { λ r. ⌜ r ≡ rawOf (limitsOf rule) (now (s .entry)) ⌝ }
 {
-    if bytes::is_ascii(s) {
-        let first = Words::new().take(s, Separator::Space);
-        let Taken::Word(a, rest) = first else {
-            return Answer::Refused(Refusal::Form);
-        };
-        let seconds = number::signed_number(text::words::within(s, a), 9223372036854775808);
-        let Integer::Is(z) = seconds else {
-            return Answer::Refused(Refusal::Form);
-        };
-        let parsed = offset::parse_fields(crate::only_word(s, rest), Field::Byte);
-        let Parsed::Offset(f) = parsed else {
-            return Answer::Refused(Refusal::Form);
-        };
-        if allows(rule, f) {
-            let o = offset::seconds_of(f);
-            return Answer::Time(Time {
-                seconds: z,
-                offset: o,
-            });
+    let walked = walk::walk(s);
+    match walked {
+        Walked::NotAscii => Answer::Refused(Refusal::NotAscii),
+        Walked::Colon => Answer::Refused(Refusal::Form),
+        Walked::Words(first) => {
+            if first.whole {
+                let seconds = first.seconds;
+                let Integer::Is(z) = seconds else {
+                    return Answer::Refused(Refusal::Form);
+                };
+                let second = first.second;
+                let parsed = offset::parse_fields(text::words::within(s, second), Field::Byte);
+                let Parsed::Offset(f) = parsed else {
+                    return Answer::Refused(Refusal::Form);
+                };
+                if allows(rule, f) {
+                    let o = offset::seconds_of(f);
+                    return Answer::Time(Time {
+                        seconds: z,
+                        offset: o,
+                    });
+                }
+                return Answer::Refused(Refusal::Form);
+            }
+            Answer::Refused(Refusal::Form)
         }
-        return Answer::Refused(Refusal::Form);
     }
-    Answer::Refused(Refusal::NotAscii)
 }
 
 // Rule 1: hours at most 14; minutes 0, 15, 30 or 45. By any rule seconds are 0.

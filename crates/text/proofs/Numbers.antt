@@ -2,16 +2,16 @@
 -- how large a short text's number can be.
 -- Assumes nothing.
 use mathlib.Core.Path.{_≡_, refl, sym, ap, _∙_}
-use mathlib.Core.Bool.{Bool, true, false, cond, _&&_}
+use mathlib.Core.Bool.{Bool, true, false, cond, false≢true}
 use mathlib.Core.List.{List, [], _∷_}
 use Prim.Native.Nat.{ℕ, zero, suc, _+_, _-_, _*_, _^_, _≤_, _<_}
 use native.Mathlib.Omega.{arith}
 use native.Mathlib.Nat.{zero-add, mul-one, mul-assoc, mul-le-mul-right, not-suc-le-zero, pow-succ'}
 use borrow.Author.Tests.{lt-leb, le-leb, leb-true, lt-ltb, le-ltb, leb-false, ne-eqb, eqb-true}
 use lib.Dec.{leb, ltb, eqb, leb·suc-suc}
-use lib.IntN.{ℤ, pos, negsuc, _-ℤ_, negℤ, natAbs}
-use lib.ListN.{length, take}
-use lib.Signed.{leZ, ltZ}
+use lib.IntN.{pos, negsuc, _-ℤ_, negℤ, natAbs}
+use lib.ListN.{length, getD}
+use lib.Signed.{leZ}
 use Rattle.text.specs.Bytes.{isDigit, isSign}
 use Rattle.text.specs.Places.{run, leading}
 use Rattle.text.specs.Number.{readFrom, digitsOf, unsignedOf, signedOf, fit, fitSigned, plus, minus, numeral, LeadsWith, AtMost}
@@ -21,6 +21,7 @@ use Rattle.text.specs.declared.number.Integer.{Integer}
 use Rattle.text.specs.declared.number.Integer.the-variants.{Is, NotOne}
 use Rattle.text.specs.declared.number.LeadingInteger.{LeadingInteger}
 use Rattle.text.proofs.Lists.{by-test, both}
+use Rattle.text.proofs.Runs.{run-le-run, run-leading}
 
 pub digit-range : (b : ℕ) → isDigit b ≡ true → (48 ≤ b) × (b ≤ 57)
 unfolding isDigit
@@ -223,3 +224,30 @@ signedOf-of-numeral-lt (b ∷ s) h =
   where
     behind : suc (run isDigit s) < suc (length s) → run isDigit s < length s
     behind k = omega arith
+
+-- without a sign they are the leading digits
+pub numeral-of-digits : (s : List ℕ) → isSign (getD s 0 0) ≡ false → numeral s ≡ run isDigit s
+unfolding numeral run
+numeral-of-digits [] e = refl
+numeral-of-digits (b ∷ s) e = rw e
+
+-- ---- it is within any run that signs and digits are of
+module _ (q : ℕ → Bool) (signs : (b : ℕ) → isSign b ≡ true → q b ≡ true) (digits : (b : ℕ) → isDigit b ≡ true → q b ≡ true) where
+  pub numeral-le-run : (s : List ℕ) → numeral s ≤ run q s
+  unfolding numeral run
+  numeral-le-run [] = omega arith
+  numeral-le-run (b ∷ s) =
+      by-test (isSign b) (λ e. rw (e, signs b e) (omega (arith, run-le-run isDigit q digits s))) (λ e. rw e (run-le-run isDigit q digits (b ∷ s)))
+
+  pub isSign-leading : (s : List ℕ) → isSign (getD (leading q s) 0 0) ≡ isSign (getD s 0 0)
+  unfolding run isSign
+  isSign-leading [] = refl
+  isSign-leading (b ∷ s) =
+      by-test (q b) (λ e. rw e) (λ e. rw e (by-test (isSign b) (λ d. absurd (false≢true (sym e ∙ signs b d))) (λ d. sym d)))
+
+  pub numeral-leading : (s : List ℕ) → numeral (leading q s) ≡ numeral s
+  unfolding numeral run
+  numeral-leading [] = refl
+  numeral-leading (b ∷ s) =
+      by-test (isSign b) (λ e. rw (signs b e, e) (ap suc (run-leading isDigit q digits s)))
+      (λ e. numeral-of-digits (leading q (b ∷ s)) (isSign-leading (b ∷ s) ∙ e) ∙ run-leading isDigit q digits (b ∷ s) ∙ sym (numeral-of-digits (b ∷ s) e))

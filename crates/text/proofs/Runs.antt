@@ -1,18 +1,18 @@
 -- Runs of bytes, and places. In order: a run is within its text; the place past a run, one byte at a time; the bytes of a run; runs
--- of two kinds, where the bytes of one kind are of the other; what no byte of a run changes; the last place at which a test holds,
--- found from the end.
+-- of two kinds, where the bytes of one kind are of the other; what no byte of a run changes; a byte that stands nowhere; the last
+-- place at which a test holds, found from the end.
 -- Assumes nothing.
 use mathlib.Core.Path.{_≡_, refl, ap, _∙_, sym}
-use mathlib.Core.Bool.{Bool, true, false, not, _&&_, _||_, or-true}
+use mathlib.Core.Bool.{Bool, true, false, not, _&&_, _||_, or-true, false≢true}
 use mathlib.Core.List.{List, [], _∷_}
 use Prim.Native.Nat.{ℕ, zero, suc, _+_, _≤_, _<_}
-use native.Mathlib.Nat.{le-refl, zero-add}
+use native.Mathlib.Nat.{le-refl, zero-add, not-suc-le-zero}
 use native.Mathlib.Omega.{arith}
-use borrow.Author.Tests.{lt-ltb, le-ltb, eqb-false}
+use borrow.Author.Tests.{ltb-true, ltb-false, lt-ltb, le-ltb, eqb-false}
 use lib.Dec.{ltb, eqb}
 use lib.ListN.{length, getD, take, drop, length-drop, drop-of-length-le}
 use lib.Seq.{drop-drop, length-take-le}
-use Rattle.text.specs.Places.{run, leading, past, lastWhere}
+use Rattle.text.specs.Places.{run, leading, past, firstPlace, has, lastWhere}
 use Rattle.text.proofs.Lists.{by-test, drop-cons-add-one}
 
 pub run-le-length : (p : ℕ → Bool) (s : List ℕ) → run p s ≤ length s
@@ -58,6 +58,55 @@ module _ (p : ℕ → Bool) (s : List ℕ) (i : ℕ) where
   pub leading-of-true : i < length s → p (getD s i 0) ≡ true → leading p (drop i s) ≡ getD s i 0 ∷ leading p (drop (i + 1) s)
   unfolding run
   leading-of-true h e = rw (drop-cons-add-one s i h, e)
+
+-- ---- runs of two kinds
+-- a place within a run of q is past as much of it
+pub run-drop : (q : ℕ → Bool) (n : ℕ) (s : List ℕ) → n ≤ run q s → n + run q (drop n s) ≡ run q s
+unfolding run
+run-drop q zero s h = zero-add (run q s)
+run-drop q (suc n) [] h = absurd (not-suc-le-zero h)
+run-drop q (suc n) (b ∷ s) h =
+    by-test (q b) (λ e. let k : suc n ≤ suc (run q s) = rw e at h in rw e (omega (arith, run-drop q n s (omega arith)))) (λ e. absurd (not-suc-le-zero (rw e at h)))
+
+pub past-add : (q : ℕ → Bool) (s : List ℕ) (i n : ℕ) → n ≤ run q (drop i s) → past q s (i + n) ≡ past q s i
+unfolding past
+past-add q s i n h = rw (← drop-drop n i s) (omega (arith, run-drop q n (drop i s) h))
+
+module _ (p q : ℕ → Bool) (inside : (b : ℕ) → p b ≡ true → q b ≡ true) where
+  pub run-le-run : (s : List ℕ) → run p s ≤ run q s
+  unfolding run
+  run-le-run [] = le-refl 0
+  run-le-run (b ∷ s) = by-test (p b) (λ e. rw (e, inside b e) (omega (arith, run-le-run s))) (λ e. rw e (omega arith))
+
+  -- of the bytes that q holds of, p holds of as many as of all
+  pub run-leading : (s : List ℕ) → run p (leading q s) ≡ run p s
+  unfolding run
+  run-leading [] = refl
+  run-leading (b ∷ s) =
+      by-test (q b) (λ e. rw e (by-test (p b) (λ d. rw d (ap suc (run-leading s))) (λ d. rw d)))
+      (λ e. by-test (p b) (λ d. absurd (false≢true (sym e ∙ inside b d))) (λ d. rw (e, d)))
+
+-- ---- what no byte of a run changes
+module _ {A : Type 0} (f : List ℕ → A) (p : ℕ → Bool) (same : (b : ℕ) (s : List ℕ) → p b ≡ true → f (b ∷ s) ≡ f s) where
+  drop-run : (s : List ℕ) → f s ≡ f (drop (run p s) s)
+  unfolding run
+  drop-run [] = refl
+  drop-run (b ∷ s) = by-test (p b) (λ e. rw e (same b s e ∙ drop-run s)) (λ e. rw e)
+
+  pub same-drop-past : (s : List ℕ) (i : ℕ) → f (drop i s) ≡ f (drop (past p s i) s)
+  same-drop-past s i = drop-run (drop i s) ∙ ap f (drop-past p s i)
+
+-- ---- a byte that stands nowhere
+pub has-cons : (c b : ℕ) (s : List ℕ) → has c (b ∷ s) ≡ (eqb b c || has c s)
+unfolding has firstPlace run
+has-cons c b s = by-test (eqb b c) (λ e. rw e (lt-ltb 0 (suc (length s)) (omega arith))) (λ e. rw e (ltb-suc (run (λ x. not (eqb x c)) s) (length s)))
+  where
+    ltb-suc : (m n : ℕ) → ltb (suc m) (suc n) ≡ ltb m n
+    ltb-suc m n = by-test (ltb m n) (λ e. rw e (lt-ltb (suc m) (suc n) (omega (arith, ltb-true m n e)))) (λ e. rw e (le-ltb (suc m) (suc n) (omega (arith, ltb-false m n e))))
+
+pub has-nil : (c : ℕ) → has c [] ≡ false
+unfolding has firstPlace run
+has-nil c = refl
 
 -- ---- the last place
 module _ (p : List ℕ → Bool) where

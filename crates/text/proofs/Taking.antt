@@ -1,24 +1,23 @@
 -- Words and the reader of words, for any separator. In order: the first word of a text; `takeWord` gives the first word of those
--- that are left, and moves on; taking again and again gives the words; the words of two texts with a separator between them; a word
+-- that are left, and moves on; those words by places; taking again and again gives the words; the words of two texts with a separator between them; a word
 -- has no separator in it.
 -- Assumes nothing.
 use mathlib.Core.Path.{_≡_, refl, sym, ap, _∙_}
-use mathlib.Core.Logic.{⊎-elim}
-use mathlib.Core.Bool.{Bool, true, false, not}
-use mathlib.Core.List.{List, [], _∷_, _++_, append-nil, List·Memᴰ, List·Memᴰ·cases-cons, List·Memᴰ·not-nil}
+use mathlib.Core.Bool.{Bool, true, false}
+use mathlib.Core.List.{List, [], _∷_, _++_, append-nil}
 use Prim.Native.Nat.{ℕ, zero, suc, _+_, _-_, _≤_, _<_}
 use native.Mathlib.Omega.{arith}
 use native.Mathlib.Nat.{add-sub-cancel-left, not-suc-le-zero, le-of-lt}
-use borrow.Author.Tests.{ltb-true, ltb-false}
+use borrow.Author.Tests.{ltb-true, ltb-false, lt-ltb}
 use lib.Dec.{ltb}
-use lib.ListN.{length, take, drop, length-drop, drop-of-length-le}
-use lib.Seq.{drop-drop}
+use lib.ListN.{length, take, drop, getD, length-drop, drop-of-length-le}
+use lib.Seq.{drop-drop, take-nil}
 use Rattle.text.specs.Places.{run, no, past, part}
 use Rattle.text.specs.Words.{onto, pieces, full, words, takeWord}
 use Rattle.text.specs.declared.words.Taken.{Taken}
 use Rattle.text.specs.declared.words.Taken.the-variants.{Word, Nothing}
 use Rattle.text.proofs.Lists.{by-test}
-use Rattle.text.proofs.Runs.{past-le-length, drop-past}
+use Rattle.text.proofs.Runs.{past-le-length, le-past, drop-past}
 
 -- what an answer of the reader tells of the words that are left: the one taken, and those from the reader that it came with
 abbrev pub listed : (ℕ → Bool) → List ℕ → Taken → List (List ℕ)
@@ -107,6 +106,34 @@ module _ (p : ℕ → Bool) where
       by-test (ltb (past p s at) (length s))
       (λ e. rw e (past-lt s at (ltb-true _ _ e), past-le-length (no p) s (past p s at) (le-of-lt (ltb-true _ _ e))))
       (λ e. rw e tt)
+
+  -- the words that are left at a place, by places: whether there is one, the first, and the others
+  module _ (s : List ℕ) (at : ℕ) where
+    abbrev start : ℕ
+    start = past p s at
+
+    abbrev end : ℕ
+    end = past q s (past p s at)
+
+    pub ltb-zero-length-words : ltb 0 (length (words p (drop at s))) ≡ ltb (past p s at) (length s)
+    ltb-zero-length-words =
+        by-test (ltb start (length s)) (λ e. rw (e, words-of-lt s at (ltb-true _ _ e)) (some (words p (drop end s)))) (λ e. rw (e, words-of-le s at (ltb-false _ _ e)))
+      where
+        some : (ws : List (List ℕ)) → ltb 0 (suc (length ws)) ≡ true
+        some ws = lt-ltb 0 (suc (length ws)) (omega arith)
+
+    pub getD-words-zero : getD (words p (drop at s)) 0 [] ≡ take (past q s (past p s at) - past p s at) (drop (past p s at) s)
+    getD-words-zero =
+        by-test (ltb start (length s)) (λ e. rw (words-of-lt s at (ltb-true _ _ e)))
+        (λ e. rw (words-of-le s at (ltb-false _ _ e), drop-of-length-le s {i = start} (ltb-false _ _ e), take-nil))
+
+    pub drop-one-words : drop 1 (words p (drop at s)) ≡ words p (drop (past q s (past p s at)) s)
+    unfolding words pieces full
+    drop-one-words =
+        by-test (ltb start (length s)) (λ e. rw (words-of-lt s at (ltb-true _ _ e)))
+        (λ e.
+        let h : length s ≤ end = omega (arith, le-past q s start, ltb-false start (length s) e) in
+        rw (words-of-le s at (ltb-false _ _ e), drop-of-length-le s {i = end} h))
 
 -- ---- taking again and again
 abbrev after : List ℕ → Taken → (ℕ → List (List ℕ)) → List (List ℕ)

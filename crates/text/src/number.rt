@@ -227,18 +227,3 @@ fn minus_i64(v: u64) -> i64
     }
     -1 - ((v - 1) as i64)
 }
-
-// The digits that open a text: all of them, perhaps none.
-pub fn leading_digits(s: &[u8]) -> &[u8]
-    ensures { λ r. ⌜ now r ≡ leading isDigit (now (s .entry)) ⌝ }
-{
-    let mut i = 0;
-    while i < s.len() {
-        if bytes::is_digit(s[i]) {
-            i += 1;
-        } else {
-            return &s[..i];
-        }
-    }
-    s
-}

@@ -1,6 +1,6 @@
 -- `text::number::leading_integer` meets its contract: behind a sign the digits decide, and without one they decide from the front.
 -- Assumes nothing.
-use mathlib.Core.Path.{_≡_, refl, sym, ap, _∙_}
+use mathlib.Core.Path.{_≡_, refl, ap, _∙_}
 use mathlib.Core.List.{List, _∷_}
 use mathlib.Core.Bool.{false}
 use Prim.Native.Nat.{ℕ, _-_, _+_, _≤_, _<_, _^_}

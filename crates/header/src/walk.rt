@@ -1,0 +1,126 @@
+// One pass over a text, for both readers: the number that its first word opens with, and where the only other word stands. Whatever
+// no reader takes, a `:` or a byte of 128 or more, stops each scan, so what is passed needs no second look: a byte is looked at once,
+// but for those at which scans stop. Nothing is copied.
+ghost use mathlib.Core.Path.{_≡_};
+ghost use mathlib.Core.Bool.{cond, not, _||_};
+ghost use lib.ListN.{drop};
+ghost use Rattle.text.specs.Bytes.{ascii as asciiOf};
+ghost use Rattle.text.specs.Places.{past, has};
+ghost use Rattle.text.specs.declared.number.Integer.the-variants.{NotOne};
+ghost use Rattle.header.specs.Walk.{isPlain, nowhere, spanOf, Walks};
+use text::bytes;
+use text::number;
+use text::number::Integer;
+use text::words;
+use text::words::Separator;
+use text::words::Span;
+
+// What the words tell: the header's seconds, whether the first word is a number whole, and the bounds of the second. They bound
+// nothing where there is no second word, or a third.
+pub struct First {
+    pub seconds: Integer,
+    pub whole: bool,
+    pub second: Span,
+}
+
+pub enum Walked {
+    Words(First),
+    Colon,
+    NotAscii,
+}
+
+// Past white space, the first word, white space, the second, and white space again there is nothing left, or a third word, or a
+// byte that no reader takes.
+pub fn walk(s: &[u8]) -> Walked
+    ensures { λ r. ⌜ Walks (now (s .entry)) r ⌝ }
+{
+    let first = words::word_start(s, 0, Separator::Space);
+    let opening = number::leading_integer(s, first, 9223372036854775808);
+    let o = opening.end;
+    let first_end = past_plain(s, o);
+    let second = words::word_start(s, first_end, Separator::Space);
+    let second_end = past_plain(s, second);
+    let third = words::word_start(s, second_end, Separator::Space);
+    let rest = look_through(s, third);
+    if rest.ascii {
+        if rest.colon {
+            return Walked::Colon;
+        }
+        let n = opening.number;
+        let whole = o == first_end;
+        let seconds = seconds_in(n, whole, opening.signed);
+        let only = only_bounds(second, second_end, third < s.len());
+        return Walked::Words(First {
+            seconds,
+            whole,
+            second: only,
+        });
+    }
+    Walked::NotAscii
+}
+
+// Past the bytes from `at` that may stand in a word.
+fn past_plain(s: &[u8], at: usize) -> usize
+    ensures { λ r. ⌜ r ≡ past isPlain (now (s .entry)) at ⌝ }
+{
+    let mut i = at;
+    while i < s.len() {
+        if is_plain(s[i]) {
+            i += 1;
+        } else {
+            return i;
+        }
+    }
+    i
+}
+
+fn is_plain(b: u8) -> bool
+    ensures { λ r. ⌜ r ≡ isPlain b ⌝ }
+{
+    !bytes::is_space(b) & (b != 58) & (b < 128)
+}
+
+// A number with a sign counts as a whole word only; digits count with any bytes behind them.
+fn seconds_in(n: Integer, whole: bool, signed: bool) -> Integer
+    ensures { λ r. ⌜ r ≡ cond (whole || not signed) n NotOne ⌝ }
+{
+    if whole {
+        return n;
+    }
+    if signed {
+        return Integer::NotOne;
+    }
+    n
+}
+
+// With a third word there is no only one.
+fn only_bounds(start: usize, end: usize, third: bool) -> Span
+    ensures { λ r. ⌜ r ≡ cond third nowhere (spanOf start end) ⌝ }
+{
+    if third {
+        return Span { start: 0, end: 0 };
+    }
+    Span { start, end }
+}
+
+// What stands from a place on: whether it is ASCII, and whether a `:` is there.
+struct Rest {
+    ascii: bool,
+    colon: bool,
+}
+
+// The loop has no way out, so that the compiler tests many bytes at once.
+fn look_through(s: &[u8], from: usize) -> Rest
+    ensures { λ r. ⌜ r .ascii ≡ asciiOf (drop from (now (s .entry))) ⌝ }
+    ensures { λ r. ⌜ r .colon ≡ has 58 (drop from (now (s .entry))) ⌝ }
+{
+    let mut ascii = true;
+    let mut colon = false;
+    let mut i = from;
+    while i < s.len() {
+        ascii = ascii & (s[i] < 128);
+        colon = colon | (s[i] == 58);
+        i += 1;
+    }
+    Rest { ascii, colon }
+}
