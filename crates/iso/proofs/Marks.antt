@@ -33,6 +33,16 @@ isSigned-trim-cons : (b : ℕ) (t : List ℕ) → isSpace b ≡ false → isSign
 unfolding trim trimStart isSigned
 isSigned-trim-cons b t h = rw (h, trimEnd-cons b t h)
 
+-- ---- the rightmost sign at e or behind it that has a digit after it: it was met, or there is none
+module _ (s : List ℕ) {e met : ℕ} (l : e ≤ length s) (w : met ≡ e + lastWhere isOffset (drop e s)) where
+  pub last-met : met < length s → met ≡ lastWhere isOffset s
+  last-met k =
+      let h : lastWhere isOffset (drop e s) < length (drop e s) = omega (arith, length-drop e s) in
+      omega (arith, lastWhere-drop isOffset s e h)
+
+  pub none-met : length s ≤ met → lastWhere isOffset (drop e s) ≡ length (drop e s)
+  none-met k = omega (arith, length-drop e s, lastWhere-le-length isOffset (drop e s))
+
 -- ---- no sign at e or behind it has a digit after it; d says whether a digit stands at e
 module _ (s : List ℕ) {e : ℕ} {d : Bool} (p : 0 < e) (l : e ≤ length s)
     (n : lastWhere isOffset (drop e s) ≡ length (drop e s)) (q : isDigit (getD (drop e s) 0 0) ≡ d) where
@@ -144,18 +154,8 @@ module _ (s : List ℕ) {e : ℕ} {opens : Bool} {sign : ℕ} {digit : Bool} (p 
     pub met-no-digit : isDigit (getD (drop (e - 1) s) 0 0) ≡ false
     met-no-digit = rw here (isDigit-of-space b space)
 
-    signs-here : sign ≡ e - 1 + lastWhere isOffset (drop (e - 1) s)
-    signs-here =
+    pub met-signs : sign ≡ e - 1 + lastWhere isOffset (drop (e - 1) s)
+    met-signs =
         let o : (isOffset (b ∷ t) && eqb (lastWhere isOffset t) (length t)) ≡ false = rw (isOffset-cons b t, isSign-of-space b space) refl in
         let q : lastWhere isOffset (b ∷ t) ≡ suc (lastWhere isOffset t) = lastWhere-on isOffset b t o in
         rw here (omega (arith, m .signs, q))
-
-    -- a sign was met
-    pub met-last : sign < length s → sign ≡ lastWhere isOffset s
-    met-last k =
-        let l : lastWhere isOffset (drop (e - 1) s) < length (drop (e - 1) s) = omega (arith, signs-here, length-drop (e - 1) s, m .within) in
-        omega (arith, signs-here, lastWhere-drop isOffset s (e - 1) l)
-
-    -- none was
-    pub met-none : length s ≤ sign → lastWhere isOffset (drop (e - 1) s) ≡ length (drop (e - 1) s)
-    met-none k = omega (arith, signs-here, length-drop (e - 1) s, m .within, lastWhere-le-length isOffset (drop (e - 1) s))

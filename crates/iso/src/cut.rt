@@ -1,7 +1,8 @@
-// How what follows the date parts into time and offset: one walk from the end, which stops as soon as it knows.
+// How what follows the date parts into time and offset: one walk from the end. It ends at the last space if it has met a
+// sign by then, else it goes on to the next.
 ghost use mathlib.Core.Path.{_≡_};
 ghost use mathlib.Core.Bool.{false};
-ghost use Prim.Native.Nat.{_≤_};
+ghost use Prim.Native.Nat.{_+_, _≤_};
 ghost use lib.ListN.{length, getD, drop};
 ghost use Rattle.text.specs.Bytes.{isDigit};
 ghost use Rattle.text.specs.Places.{lastPlace, lastWhere};
@@ -52,17 +53,10 @@ fn find_marks(s: &[u8]) -> Marks
         e -= 1;
         let b = s[e];
         if b == 32 {
-            if sign < s.len() {
-                return Marks {
-                    space: e,
-                    opens,
-                    sign,
-                };
-            }
             return Marks {
                 space: e,
                 opens,
-                sign: last_sign(s, e),
+                sign: last_sign(s, e, sign),
             };
         }
         if bytes::is_space(b) {
@@ -84,11 +78,14 @@ fn find_marks(s: &[u8]) -> Marks
     }
 }
 
-// The rightmost sign that has a digit after it, where none stands at the place `from`, or behind it; the end, if there is none.
-fn last_sign(s: &[u8], from: usize) -> usize
-    requires { ⌜ (from ≤ length (now s)) × (lastWhere isOffset (drop from (now s)) ≡ length (drop from (now s))) × (isDigit (getD (drop from (now s)) 0 0) ≡ false) ⌝ }
+// The rightmost sign that has a digit after it, or the end; `met` is that of what stands from the space at `from` on.
+fn last_sign(s: &[u8], from: usize, met: usize) -> usize
+    requires { ⌜ (from ≤ length (now s)) × (met ≡ from + lastWhere isOffset (drop from (now s))) × (isDigit (getD (drop from (now s)) 0 0) ≡ false) ⌝ }
     ensures { λ r. ⌜ r ≡ lastWhere isOffset (now (s .entry)) ⌝ }
 {
+    if met < s.len() {
+        return met;
+    }
     let mut e = from;
     let mut digit = false;
     while 0 < e {
