@@ -2,11 +2,11 @@
 -- `exists-of-IsCivil`); the date of a counted day, and the day of that date (`civilDate-sub`, `civilDay-civilAt`,
 -- `IsCivil-civilAt`).
 -- Assumes nothing.
-use mathlib.Core.Path.{_≡_, _∙_, refl, ap}
+use mathlib.Core.Path.{_≡_, refl, ap}
 use mathlib.Core.Bool.{true}
 use Prim.Native.Nat.{ℕ, _+_, _-_, _/_, _%_, _≤_, _<_}
 use native.Mathlib.Omega.{arith}
-use lib.IntN.{ℤ, pos, negsuc, natAbs, _+ℤ_, _-ℤ_}
+use lib.IntN.{ℤ, pos, negsuc, _+ℤ_, _-ℤ_}
 use lib.Signed.{_≤ℤ_, pos-natAbs, yes-nonNeg}
 use borrow.Author.Tests.{lt-ltb, le-leb}
 use Rattle.ints.proofs.Parts.{ints, add-parts, natAbs-sub-add}

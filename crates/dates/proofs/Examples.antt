@@ -9,8 +9,7 @@ use Rattle.text.specs.Quote.{bytes}
 use Rattle.time.specs.Answers.{timeAt, answerNumber, answerTime}
 use Rattle.time.specs.Header.{headerBytes}
 use Rattle.time.specs.declared.Time.{Time}
-use Rattle.time.specs.declared.Now.{Now}
-use Rattle.time.specs.declared.Now.the-variants.{Missing, At}
+use Rattle.time.specs.declared.Now.the-variants.{At}
 use Rattle.time.specs.declared.Answer.{Answer}
 use Rattle.header.specs.Header.{headerOf}
 use Rattle.header.specs.Raw.{rawOf, rule1}

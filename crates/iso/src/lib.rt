@@ -16,7 +16,6 @@ ghost use lib.IntN.{pos, negℤ};
 ghost use Rattle.ints.specs.Range.{In};
 ghost use Rattle.calendar.specs.Table.{IsMonths};
 ghost use Rattle.calendar.specs.Dates.{Below};
-ghost use Rattle.iso.specs.Forms.{FieldsIn};
 ghost use Rattle.iso.specs.Iso.{dayOf, momentOf, zoned, isoOf};
 use calendar::Found;
 use forms::Fields;

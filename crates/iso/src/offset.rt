@@ -2,8 +2,6 @@
 // that may be left.
 ghost use mathlib.Core.Path.{_≡_};
 ghost use mathlib.Core.List.{[], _∷_};
-ghost use lib.IntN.{pos};
-ghost use Rattle.ints.specs.Range.{In};
 ghost use Rattle.iso.specs.Parts.{without, int32};
 ghost use Rattle.iso.specs.Offset.{upTo, secondsOf, hoursMinutes, turned as turnedOf, offsetOf, Within};
 use text::number;

@@ -2,9 +2,9 @@
 -- counted from 0: in `any`, tab, `-`, tab, `-`, tab, `now` the text begins at place 8.
 -- Assumes nothing.
 use Prim.Native.Nat.{ℕ, _+_, _^_}
-use mathlib.Core.Bool.{Bool, true, false, cond, _&&_}
-use mathlib.Core.List.{List, [], _∷_}
-use lib.Dec.{leb, eqb}
+use mathlib.Core.Bool.{cond, _&&_}
+use mathlib.Core.List.{List}
+use lib.Dec.{leb}
 use lib.IntN.{pos, negsuc}
 use lib.ListN.{length, take, drop}
 use Rattle.ints.specs.Range.{In}

@@ -4,10 +4,10 @@
 use mathlib.Core.Path.{_≡_}
 use mathlib.Core.Bool.{true, false}
 use mathlib.Core.List.{List, [], _∷_}
-use Prim.Native.Nat.{ℕ, _≤_, _<_}
+use Prim.Native.Nat.{ℕ, _≤_}
 use Prim.Native.Char.{code}
 use native.Mathlib.Omega.{arith}
-use borrow.Author.Tests.{lt-leb, ne-eqb}
+use borrow.Author.Tests.{ne-eqb}
 use lib.Dec.{leb}
 use Rattle.text.specs.Bytes.{isDigit, lowerOf, sameLetters}
 use Rattle.text.specs.Quote.{bytes}

@@ -2,19 +2,15 @@
 -- the reader; the theorem, for any two texts that are the same in any letter case, and for a text in capitals.
 -- Assumes nothing.
 use mathlib.Core.Path.{_≡_, refl, sym, ap, _∙_}
-use mathlib.Core.Bool.{true, false≢true}
-use mathlib.Core.List.{List, [], _∷_, _++_, reverse, reverse-cons}
-use Prim.Native.Nat.{ℕ, zero, suc, _+_, _-_, _≤_}
+use mathlib.Core.Bool.{true}
+use mathlib.Core.List.{List, [], _∷_}
+use Prim.Native.Nat.{ℕ, _+_, _-_, _≤_}
 use native.Mathlib.Omega.{arith}
-use borrow.Author.Tests.{leb-true, le-leb, lt-leb, lt-ltb, ne-eqb, eq-eqb, eqb-true}
-use lib.Dec.{leb, ltb, eqb}
-use lib.ListN.{length, getD, take}
-use Rattle.text.specs.Bytes.{between, isSpace, isDigit, isAlphanumeric, lowerOf, ascii, sameLetters}
+use borrow.Author.Tests.{leb-true, le-leb, lt-leb, eq-eqb}
+use lib.Dec.{leb, eqb}
+use lib.ListN.{length, getD}
+use Rattle.text.specs.Bytes.{between, lowerOf, sameLetters}
 use Rattle.text.specs.Quote.{bytes}
-use Rattle.text.specs.Trim.{trim, trimStart, trimEnd}
-use Rattle.text.specs.Words.{separator, onto, pieces, full, words}
-use Rattle.text.specs.Number.{digitsOf, readFrom}
-use Rattle.text.specs.declared.words.Separator.the-variants.{Mark}
 use Rattle.text.specs.declared.number.Number.{Number}
 use Rattle.text.specs.declared.number.Number.the-variants.{Value, Not}
 use Rattle.text.proofs.Lists.{by-test, both}

@@ -1,16 +1,14 @@
 -- A time written into a buffer. In order: the two answers, each with the buffer that it leaves; there is room for every time.
 -- Assumes nothing.
-use mathlib.Core.Path.{_≡_, refl, sym, _∙_, ap}
+use mathlib.Core.Path.{_≡_, sym}
 use mathlib.Core.List.{List}
-use Prim.Native.Nat.{ℕ, _≤_, _<_}
+use Prim.Native.Nat.{ℕ}
 use Rattle.time.specs.Header.{headerBytes, headerWritten, roomAfter}
 use Rattle.time.specs.Buf.{endAfter, storedOf}
 use Rattle.time.specs.declared.Time.{Time}
 use Rattle.time.specs.declared.Refusal.{Refusal}
-use Rattle.time.specs.declared.Written.{Written}
 use Rattle.time.specs.declared.Written.the-variants.{Length, Refused}
 use Rattle.time.specs.declared.buf.TimeBuf.{TimeBuf}
-use Rattle.time.specs.declared.buf.Stored.{Stored}
 
 pub storedOf-of-length : (t : Time) (b : TimeBuf) (n : ℕ) (after : List ℕ) → headerWritten t (b .bytes) ≡ Length n
     → after ≡ roomAfter (headerWritten t (b .bytes)) (headerBytes t) (b .bytes)

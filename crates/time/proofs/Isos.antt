@@ -1,25 +1,23 @@
 -- The ISO line. In order: which instant is shown; the writer's answers, each with the room that it leaves; the line is 25 bytes.
 -- Assumes nothing.
 use mathlib.Core.Path.{_≡_, refl, sym, ap, _∙_}
-use mathlib.Core.Bool.{Bool, true, false, cond, _&&_}
-use mathlib.Core.List.{List, [], _∷_, _++_}
-use Prim.Native.Nat.{ℕ, _+_, _-_, _*_, _/_, _%_, _≤_, _<_}
+use mathlib.Core.Bool.{Bool, cond}
+use mathlib.Core.List.{List, _++_}
+use Prim.Native.Nat.{ℕ, _+_, _-_, _/_, _%_, _≤_, _<_}
 use native.Mathlib.Omega.{arith}
 use borrow.Author.Tests.{le-leb, lt-leb, lt-ltb, le-ltb, leb-false}
 use lib.Dec.{leb}
 use lib.IntN.{ℤ, pos, negsuc, natAbs}
-use lib.Signed.{_≤ℤ_}
 use lib.ListN.{length, take, drop}
-use Rattle.ints.specs.Range.{In, isIn}
+use Rattle.ints.specs.Range.{In}
 use Rattle.ints.proofs.Parts.{parts-le}
 use Rattle.ints.proofs.Machine.{isIn-of-In}
 use Rattle.text.proofs.Lists.{by-test}
 use Rattle.text.proofs.Putting.{put-put}
-use Rattle.text.specs.Decimal.{twoBefore}
-use Rattle.time.specs.Range.{leastOffset, mostOffset, secondsInRange, offsetInRange, timeInRange, instantOf, movedOf, InRange}
+use Rattle.time.specs.Range.{leastOffset, mostOffset, secondsInRange, offsetInRange, timeInRange, instantOf, movedOf}
 use Rattle.time.specs.Clock.{clockOf}
 use Rattle.time.specs.Header.{signByte, wholeMinutes, roomAfter}
-use Rattle.time.specs.Iso.{fieldBefore, dateBefore, clockBefore, offsetBefore, shownClock, isoBytes, shownOf, written, isoWritten}
+use Rattle.time.specs.Iso.{fieldBefore, dateBefore, clockBefore, offsetBefore, shownClock, isoBytes, shownOf, isoWritten}
 use Rattle.time.specs.declared.Time.{Time}
 use Rattle.time.specs.declared.Refusal.{Refusal}
 use Rattle.time.specs.declared.Refusal.the-variants.{Offset, Range, Room}
@@ -28,7 +26,6 @@ use Rattle.time.specs.declared.Written.the-variants.{Length, Refused}
 use Rattle.time.specs.declared.range.Instant.{Instant}
 use Rattle.time.specs.declared.range.Moved.the-variants.{In as Inside, Out}
 use Rattle.time.specs.declared.clock.Clock.{Clock}
-use Rattle.time.specs.declared.format.Shown.{Shown}
 use Rattle.time.specs.declared.format.Shown.the-variants.{At, Not}
 
 -- ---- which instant is shown

@@ -1,13 +1,13 @@
 -- The range, in signed numbers and in numbers from 0. In order: seconds from 0 are in range exactly between two numbers; a time in
 -- range moved to numbers from 0 and back is itself, and the other way.
 -- Assumes nothing.
-use mathlib.Core.Path.{_≡_, refl, sym, ap, _∙_}
-use mathlib.Core.Bool.{Bool, true, false, _&&_}
+use mathlib.Core.Path.{_≡_}
+use mathlib.Core.Bool.{true, false, _&&_}
 use Prim.Native.Nat.{ℕ, _+_, _≤_, _<_}
 use native.Mathlib.Omega.{arith}
 use borrow.Author.Tests.{le-leb, lt-leb}
 use lib.Dec.{leb}
-use lib.IntN.{ℤ, pos, negsuc, negℤ, natAbs, _+ℤ_, _-ℤ_}
+use lib.IntN.{pos, _+ℤ_, _-ℤ_}
 use lib.Signed.{_≤ℤ_}
 use Rattle.ints.specs.Range.{In, isIn}
 use Rattle.ints.proofs.Parts.{add-parts, le-parts, parts-le, natAbs-add-sub, natAbs-sub-add}

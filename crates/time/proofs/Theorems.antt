@@ -2,14 +2,13 @@
 -- written; it is at most 26, which `Time::MIN` takes; a buffer of 26 bytes has room for every header; an ISO line is 25 bytes of
 -- one shape.
 -- Assumes nothing.
-use mathlib.Core.Path.{_≡_, refl, sym, ap, _∙_}
+use mathlib.Core.Path.{_≡_, refl, sym, _∙_}
 use mathlib.Core.Bool.{Bool, true, false, cond, _&&_}
-use mathlib.Core.List.{List, [], _∷_, _++_}
+use mathlib.Core.List.{List, [], _∷_}
 use Prim.Native.Char.{code}
-use Prim.Native.Nat.{ℕ, suc, _+_, _-_, _*_, _/_, _%_, _^_, _≤_, _<_}
-use native.Mathlib.Nat.{le-refl}
+use Prim.Native.Nat.{ℕ, suc, _+_, _-_, _/_, _%_, _^_, _≤_, _<_}
 use native.Mathlib.Omega.{arith}
-use borrow.Author.Tests.{le-leb, lt-leb, le-ltb, leb-false, leb-true, ltb-true}
+use borrow.Author.Tests.{lt-leb, le-ltb, ltb-true}
 use lib.Dec.{eqb, leb, ltb}
 use lib.IntN.{ℤ, pos, negsuc, natAbs}
 use lib.ListN.{length}
@@ -22,7 +21,7 @@ use Rattle.text.proofs.Decimals.{length-decimal-le}
 use Rattle.text.proofs.Lists.{by-test, both}
 use Rattle.text.proofs.Digits.{tens, ones}
 use Rattle.text.specs.Bytes.{isDigit, isSign}
-use Rattle.text.specs.Decimal.{decimal, twoBefore, decimalBy, decimalBefore}
+use Rattle.text.specs.Decimal.{decimal, decimalBy, decimalBefore}
 use Rattle.text.specs.Quote.{bytes}
 use Rattle.time.specs.Clock.{clockOf, localOf}
 use Rattle.time.specs.Header.{sizeOf, headerBytes, headerWritten, signByte, wholeMinutes}
@@ -31,7 +30,6 @@ use Rattle.time.specs.Iso.{isoBytes, isoWritten, shownOf, shownClock, ye
 use Rattle.time.specs.declared.Time.{Time}
 use Rattle.time.specs.declared.Refusal.{Refusal}
 use Rattle.time.specs.declared.Refusal.the-variants.{Offset, Room, Range}
-use Rattle.time.specs.declared.Written.{Written}
 use Rattle.time.specs.declared.Written.the-variants.{Length, Refused}
 use Rattle.time.specs.declared.range.Instant.{Instant}
 use Rattle.time.specs.declared.clock.Clock.{Clock}

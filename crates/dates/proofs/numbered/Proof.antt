@@ -1,9 +1,8 @@
 -- `dates::numbered` meets its contract.
 -- Assumes nothing.
 use mathlib.Core.Path.{ap}
-use lib.IntN.{pos}
 use mir.Syntax.{w64}
-use Rattle.ints.proofs.Machine.{held, param, lt-yes, lt-no, leZ-true, leZ-false, back}
+use Rattle.ints.proofs.Machine.{held, param, lt-yes, lt-no, leZ-true, leZ-false}
 use Rattle.time.specs.declared.Answer.the-variants.{Time}
 use borrow.Author.Needs.{needs}
 use Rattle.dates.proofs.numbered.Statement.{statement}

@@ -1,9 +1,6 @@
 -- `dates::parse_with` meets its contract: each return is a step that settles the answer, or the last.
 -- Assumes nothing.
-use mathlib.Core.Path.{_≡_, sym, _∙_}
-use mathlib.Core.Bool.{true, false}
-use Rattle.text.specs.Bytes.{ascii}
-use Rattle.dates.specs.Any.{isSettled}
+use mathlib.Core.Path.{sym, _∙_}
 use Rattle.dates.proofs.Steps.{any-not-ascii, any-plain, any-iso, any-relative, any-raw}
 use borrow.Author.Needs.{needs}
 use Rattle.dates.proofs.parse_with.Statement.{statement}

@@ -1,6 +1,6 @@
 -- `dates::entries::now_of` meets its contract.
 -- Assumes nothing.
-use mathlib.Core.Path.{_∙_, ap}
+use mathlib.Core.Path.{ap}
 use borrow.Author.Tests.{eq-eqb, ne-eqb}
 use mir.Syntax.{w32, w64}
 use mir.Facts.{toZ-ofZ}

@@ -1,6 +1,5 @@
 -- `time::Time::size` meets its contract.
 -- Assumes nothing.
-use mathlib.Core.Path.{_≡_}
 use mir.Syntax.{w64}
 use Rattle.ints.proofs.Machine.{back}
 use borrow.Author.Needs.{needs}

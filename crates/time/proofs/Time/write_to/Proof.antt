@@ -7,7 +7,7 @@ use native.Mathlib.Omega.{arith}
 use lib.IntN.{ℤ, natAbs}
 use lib.ListN.{drop}
 use mir.Syntax.{w32, w64}
-use Rattle.ints.proofs.Machine.{held, read, fits, back}
+use Rattle.ints.proofs.Machine.{back}
 use Rattle.text.specs.Decimal.{twoBefore}
 use Rattle.time.specs.Header.{sizeOf, signByte, secondsBefore}
 use Rattle.time.proofs.Headers.{wrote-too-wide, wrote-too-short, wrote-whole}

@@ -1,7 +1,6 @@
 -- `time::range::instant_of` meets its contract: the four tests are the range, and in it neither sum wraps.
 -- Assumes nothing.
 use mathlib.Core.Path.{sym, _∙_}
-use native.Mathlib.Omega.{arith}
 use lib.IntN.{pos, natAbs}
 use mir.Syntax.{w32, w64}
 use Rattle.ints.specs.Range.{In}
