@@ -16,4 +16,4 @@ returns-2 : tie.Need-returns-2
 returns-2 c = rw (c .before .before .a2 .given .1) (λ i. record { number = c .number-of .ensures i; seconds = pos 0; offset = pos 0 })
 
 pub told-spec : {M : Type 1} → statement M
-told-spec = tie.close (tie.spec (λ c. search needs) (λ c. search needs) (λ c κs. search needs) returns returns-2)
+told-spec = tie.close (tie.spec (λ c. search needs) (λ c. search needs) (λ c κs. search needs) (λ c. search needs) returns returns-2)
