@@ -1,13 +1,13 @@
--- An offset's word. In order: its length; how large a field is, so that nothing is lost at any width and no sum wraps; which way
--- its tests go; the same integer, in bits.
+-- An offset's word. In order: its length; how large a field is, so that nothing is lost at any width and no sum wraps; two
+-- digits; which way its tests go; the same integer, in bits.
 -- Assumes nothing.
 use mathlib.Core.Path.{_≡_, refl, sym, ap, _∙_}
 use mathlib.Core.Bool.{Bool, true, false, false≢true}
-use mathlib.Core.List.{List}
-use Prim.Native.Nat.{ℕ, _^_, _≤_, _<_}
+use mathlib.Core.List.{List, [], _∷_}
+use Prim.Native.Nat.{ℕ, _+_, _-_, _*_, _^_, _≤_, _<_}
 use native.Mathlib.Omega.{arith}
 use native.Mathlib.Nat.{pow-le-pow-right}
-use borrow.Author.Tests.{eqb-true, eq-eqb}
+use borrow.Author.Tests.{eqb-true, eq-eqb, ne-eqb}
 use lib.Dec.{eqb}
 use lib.IntN.{ℤ, pos, negsuc, natAbs}
 use lib.ListN.{length, take, drop, getD, length-take}
@@ -17,13 +17,14 @@ use mir.ValLaws.{toZ-ofZ}
 use Rattle.ints.specs.Range.{In}
 use Rattle.ints.proofs.Parts.{parts-le, natAbs-parts}
 use Rattle.text.specs.Bytes.{isDigit, isSign}
-use Rattle.text.specs.Number.{signedOf, unsignedOf, fit, fitSigned, plus}
+use Rattle.text.specs.Number.{readFrom, digitsOf, signedOf, unsignedOf, fit, fitSigned, plus}
 use Rattle.text.specs.declared.number.Number.{Number}
 use Rattle.text.specs.declared.number.Number.the-variants.{Value, Not}
 use Rattle.text.specs.declared.number.Integer.{Integer}
 use Rattle.text.specs.declared.number.Integer.the-variants.{Is, NotOne}
-use Rattle.text.proofs.Lists.{by-test}
-use Rattle.text.proofs.Numbers.{Short, Below, signedOf-short, unsignedOf-below, fitSigned-of-length, fit-of-length}
+use Rattle.text.proofs.Lists.{by-test, drop-cons-add-one}
+use Rattle.text.proofs.Numbers.{digit-range, Short, Below, signedOf-short, unsignedOf-below, fitSigned-of-length, fit-of-length}
+use Rattle.header.proofs.Texts.{signedOf-of-unsignedOf}
 use Rattle.header.specs.Offset.{fiveOrSeven, fieldOf, lastField, together, fieldsOf, Small}
 use Rattle.header.specs.Header.{headerOffset}
 use Rattle.header.specs.Raw.{eqZ}
@@ -82,6 +83,26 @@ together-small minus (Is h) (Is m) (Is x) p q r = record { hours-in = p; minutes
 together-small minus NotOne m x p q r = tt
 together-small minus (Is h) NotOne x p q r = tt
 together-small minus (Is h) (Is m) NotOne p q r = tt
+
+-- ---- two digits are a number of either kind
+module _ (w : List ℕ) (at : ℕ) (h : at + 2 ≤ length w) (x : isDigit (getD w at 0) ≡ true) (y : isDigit (getD w (at + 1) 0) ≡ true) where
+  abbrev twoDigits : ℕ
+  twoDigits = 10 * (getD w at 0 - 48) + (getD w (at + 1) 0 - 48)
+
+  two-bytes-are : take 2 (drop at w) ≡ getD w at 0 ∷ getD w (at + 1) 0 ∷ []
+  two-bytes-are = rw (drop-cons-add-one w at (omega arith), drop-cons-add-one w (at + 1) (omega arith))
+
+  unsignedOf-digits : unsignedOf (take 2 (drop at w)) ≡ Value twoDigits
+  unfolding unsignedOf digitsOf readFrom
+  unsignedOf-digits =
+      let d = digit-range (getD w at 0) x in
+      let n : 10 * (10 * 0 + (getD w at 0 - 48)) + (getD w (at + 1) 0 - 48) ≡ twoDigits = omega arith in
+      rw (two-bytes-are, ne-eqb (getD w at 0) 43 (λ e. omega arith), x, y) (ap Value n)
+
+  pub fieldOf-of-digits : (by : Field) → fieldOf by w at ≡ Is (pos twoDigits)
+  unfolding fieldOf
+  fieldOf-of-digits Signed = signedOf-of-unsignedOf (take 2 (drop at w)) twoDigits unsignedOf-digits
+  fieldOf-of-digits Byte = rw (fit-take 255 (drop at w) (omega arith), unsignedOf-digits)
 
 -- ---- which way the tests go
 module _ (by : Field) (w : List ℕ) where

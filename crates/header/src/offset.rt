@@ -1,8 +1,11 @@
 // What an offset's word holds, for both readers: 5 or 7 bytes, a sign, and behind it two-byte
 // fields: hours, minutes, perhaps seconds. The readers differ in the numbers that a field may be.
 ghost use mathlib.Core.Path.{_≡_};
-ghost use Prim.Native.Nat.{_+_, _≤_};
+ghost use mathlib.Core.Bool.{_&&_};
+ghost use Prim.Native.Nat.{_+_, _-_, _*_, _≤_};
+ghost use lib.IntN.{pos};
 ghost use lib.ListN.{length};
+ghost use Rattle.text.specs.Bytes.{isDigit};
 ghost use Rattle.text.specs.Number.{plus, AtMost};
 ghost use Rattle.header.specs.Offset.{fiveOrSeven, fieldOf, lastField, fieldsOf, offsetOf, Small};
 use text::bytes;
@@ -65,15 +68,34 @@ fn five_or_seven(n: usize) -> bool
     (n == 5) | (n == 7)
 }
 
-// The two bytes from `at`.
+// The two bytes from `at`. Two digits are a number of either kind, and nearly all fields are two
+// digits.
 fn parse_field(w: &[u8], at: usize, by: Field) -> Integer
     requires { ⌜ at + 2 ≤ length (now w) ⌝ }
     ensures { λ r. ⌜ r ≡ fieldOf by (now (w .entry)) at ⌝ }
 {
+    let tens = w[at];
+    let ones = w[at + 1];
+    if both_digits(tens, ones) {
+        return Integer::Is(two_digits(tens, ones));
+    }
     match by {
         Field::Signed => number::signed_number(&w[at..at + 2], 2147483648),
         Field::Byte => widened(number::unsigned_number(&w[at..at + 2], 255)),
     }
+}
+
+fn both_digits(tens: u8, ones: u8) -> bool
+    ensures { λ r. ⌜ r ≡ (isDigit tens && isDigit ones) ⌝ }
+{
+    bytes::is_digit(tens) & bytes::is_digit(ones)
+}
+
+fn two_digits(tens: u8, ones: u8) -> i64
+    requires { ⌜ (48 ≤ tens) × (tens ≤ 57) × (48 ≤ ones) × (ones ≤ 57) ⌝ }
+    ensures { λ r. ⌜ r ≡ pos (10 * (tens - 48) + (ones - 48)) ⌝ }
+{
+    (10 * (tens - 48) + (ones - 48)) as i64
 }
 
 // Seconds stand only in a word of 7 bytes, and are 0 in one of 5.

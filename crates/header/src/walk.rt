@@ -84,13 +84,15 @@ fn is_plain(b: u8) -> bool
 fn seconds_in(n: Integer, whole: bool, signed: bool) -> Integer
     ensures { λ r. ⌜ r ≡ cond (whole || not signed) n NotOne ⌝ }
 {
-    if whole {
-        return n;
+    match n {
+        Integer::Is(z) => {
+            if whole | !signed {
+                return Integer::Is(z);
+            }
+            Integer::NotOne
+        }
+        Integer::NotOne => Integer::NotOne,
     }
-    if signed {
-        return Integer::NotOne;
-    }
-    n
 }
 
 // With a third word there is no only one.

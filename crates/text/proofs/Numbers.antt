@@ -10,16 +10,15 @@ use native.Mathlib.Nat.{zero-add, mul-one, mul-assoc, mul-le-mul-right, not-suc-
 use borrow.Author.Tests.{lt-leb, le-leb, leb-true, lt-ltb, le-ltb, leb-false, ne-eqb, eqb-true}
 use lib.Dec.{leb, ltb, eqb, leb·suc-suc}
 use lib.IntN.{pos, negsuc, _-ℤ_, negℤ, natAbs}
-use lib.ListN.{length, getD}
+use lib.ListN.{length, getD, take}
 use lib.Signed.{leZ}
 use Rattle.text.specs.Bytes.{isDigit, isSign}
 use Rattle.text.specs.Places.{run, leading}
-use Rattle.text.specs.Number.{readFrom, digitsOf, unsignedOf, signedOf, fit, fitSigned, plus, minus, numeral, LeadsWith, AtMost}
+use Rattle.text.specs.Number.{readFrom, digitsOf, unsignedOf, signedOf, fit, fitSigned, plus, minus, numeral, signedBy, AtMost}
 use Rattle.text.specs.declared.number.Number.{Number}
 use Rattle.text.specs.declared.number.Number.the-variants.{Value, Not}
 use Rattle.text.specs.declared.number.Integer.{Integer}
 use Rattle.text.specs.declared.number.Integer.the-variants.{Is, NotOne}
-use Rattle.text.specs.declared.number.LeadingInteger.{LeadingInteger}
 use Rattle.text.proofs.Lists.{by-test, both}
 use Rattle.text.proofs.Runs.{run-le-run, run-leading}
 
@@ -191,28 +190,31 @@ signedOf-leading (b ∷ s) =
     rw (e, ne-eqb b 45 (λ k. omega arith), ne-eqb b 43 (λ k. omega arith)))
     (λ e. rw e)
 
-module _ (half : ℕ) (h : 0 < half) (s : List ℕ) (at : ℕ) (r : LeadingInteger) where
-  pub LeadsWith-nil : s ≡ [] → r .number ≡ NotOne → r .end ≡ at → r .signed ≡ false → LeadsWith half s at r
-  unfolding numeral signedOf fitSigned isSign
-  LeadsWith-nil k n e b = rw k (record { number-is = n; end-is = omega arith; signed-is = b })
+fit-fit : (k l : ℕ) (x : Number) → k ≤ l → fit k (fit l x) ≡ fit k x
+unfolding fit
+fit-fit k l (Value n) h =
+    by-test (leb n l) (λ e. rw e) (λ e. rw (e, lt-leb n k (omega (arith, leb-false n l e))))
+fit-fit k l Not h = refl
 
-  pub LeadsWith-minus : (t : List ℕ) → s ≡ 45 ∷ t → r .number ≡ minus (fit half (digitsOf (leading isDigit t))) → r .end ≡ at + 1 + run isDigit t → r .signed ≡ true → LeadsWith half s at r
-  unfolding numeral signedOf isSign
-  LeadsWith-minus t k n e b = rw k (record { number-is = n ∙ sym (fitSigned-minus half (digitsOf (leading isDigit t)) h); end-is = omega arith; signed-is = b })
+-- n is what the digits behind the sign are, if there is one
+module _ (half : ℕ) (h : 0 < half) (n : Number) where
+  fitSigned-minus-of : (s : List ℕ) → n ≡ fit half (digitsOf s) → signedBy half true n ≡ fitSigned half (minus (digitsOf s))
+  unfolding signedBy
+  fitSigned-minus-of s e = ap minus e ∙ sym (fitSigned-minus half (digitsOf s) h)
 
-  pub LeadsWith-plus : (t : List ℕ) → s ≡ 43 ∷ t → r .number ≡ plus (fit (half - 1) (digitsOf (leading isDigit t))) → r .end ≡ at + 1 + run isDigit t → r .signed ≡ true → LeadsWith half s at r
-  unfolding numeral signedOf unsignedOf isSign
-  LeadsWith-plus t k n e b = rw k (record { number-is = n ∙ sym (fitSigned-plus half (digitsOf (leading isDigit t)) h); end-is = omega arith; signed-is = b })
+  fitSigned-plus-of : (s : List ℕ) → n ≡ fit half (digitsOf s) → signedBy half false n ≡ fitSigned half (plus (digitsOf s))
+  unfolding signedBy
+  fitSigned-plus-of s e =
+      ap (λ (x : Number). plus (fit (half - 1) x)) e ∙ ap plus (fit-fit (half - 1) half (digitsOf s) (omega arith)) ∙ sym (fitSigned-plus half (digitsOf s) h)
 
-  pub LeadsWith-digits : (x : ℕ) (t : List ℕ) → s ≡ x ∷ t → isSign x ≡ false → r .number ≡ plus (fit (half - 1) (digitsOf (leading isDigit (x ∷ t)))) → r .end ≡ at + run isDigit (x ∷ t) → r .signed ≡ false → LeadsWith half s at r
-  unfolding numeral
-  LeadsWith-digits x t k d n e b =
-      rw k
-      (record {
-        number-is = rw d (n ∙ sym (ap (fitSigned half) (signedOf-leading (x ∷ t)) ∙ fitSigned-plus half (digitsOf (leading isDigit (x ∷ t))) h));
-        end-is = rw d e;
-        signed-is = b ∙ sym d;
-      })
+  pub signedBy-numeral : (b : ℕ) (s : List ℕ) → n ≡ fit half (digitsOf (leading isDigit (cond (isSign b) s (b ∷ s))))
+      → signedBy half (eqb b 45) n ≡ fitSigned half (signedOf (take (numeral (b ∷ s)) (b ∷ s)))
+  unfolding numeral isSign signedOf unsignedOf
+  signedBy-numeral b s e =
+      by-test (eqb b 45) (λ k. rw (eqb-true b 45 k) (fitSigned-minus-of (leading isDigit s) (rw (eqb-true b 45 k) at e)))
+      (λ k.
+      by-test (eqb b 43) (λ j. rw (eqb-true b 43 j) (fitSigned-plus-of (leading isDigit s) (rw (eqb-true b 43 j) at e)))
+      (λ j. rw (k, j) (fitSigned-plus-of (leading isDigit (b ∷ s)) (rw (j, k) at e) ∙ sym (ap (fitSigned half) (signedOf-leading (b ∷ s))))))
 
 -- ---- a text whose number has other bytes behind it is none
 pub signedOf-of-numeral-lt : (s : List ℕ) → numeral s < length s → signedOf s ≡ NotOne

@@ -4,7 +4,7 @@
 use Prim.Native.Nat.{ℕ, suc, _+_, _-_, _*_, _≤_}
 use Prim.Native.Char.{code}
 use mathlib.Core.Path.{_≡_}
-use mathlib.Core.Bool.{cond, _&&_}
+use mathlib.Core.Bool.{Bool, cond, _&&_}
 use mathlib.Core.List.{List, [], _∷_}
 use lib.Dec.{leb, eqb}
 use lib.IntN.{pos, negℤ}
@@ -60,6 +60,10 @@ fitSigned half NotOne = NotOne
 unfoldable pub numeral : List ℕ → ℕ
 numeral [] = 0
 numeral (b ∷ s) = cond (isSign b) (suc (run isDigit s)) (run isDigit (b ∷ s))
+
+-- a number at most half, with its sign
+unfoldable pub signedBy : ℕ → Bool → Number → Integer
+signedBy half below n = cond below (minus n) (plus (fit (half - 1) n))
 
 -- what is read of those bytes, where s stands at a place
 pub record LeadsWith (half : ℕ) (s : List ℕ) (at : ℕ) (r : LeadingInteger) : Type 0 where

@@ -8,7 +8,7 @@ ghost use lib.IntN.{pos, negℤ};
 ghost use lib.ListN.{drop};
 ghost use Rattle.text.specs.Bytes.{isDigit};
 ghost use Rattle.text.specs.Places.{leading, past};
-ghost use Rattle.text.specs.Number.{digitsOf, unsignedOf, signedOf, fit, fitSigned, plus, minus};
+ghost use Rattle.text.specs.Number.{digitsOf, unsignedOf, signedOf, fit, fitSigned, signedBy};
 ghost use Rattle.text.specs.Number.{AtMost, LeadsWith};
 ghost use Rattle.text.specs.declared.number.Number.the-variants.{Value, Not};
 use crate::bytes;
@@ -167,52 +167,42 @@ pub fn leading_integer(s: &[u8], from: usize, half: u64) -> LeadingInteger
         };
     }
     let b = s[from];
-    if b == 45 {
-        let below = leading_number(s, from + 1, half);
-        let n = below.number;
-        let number = as_minus(n);
-        return LeadingInteger {
-            number,
-            end: below.end,
-            signed: true,
-        };
-    }
-    if b == 43 {
-        let above = leading_number(s, from + 1, half - 1);
-        let n = above.number;
-        let number = as_plus(n);
-        return LeadingInteger {
-            number,
-            end: above.end,
-            signed: true,
-        };
-    }
-    let read = leading_number(s, from, half - 1);
+    let signed = bytes::is_sign(b);
+    let read = leading_number(s, past_sign(from, signed), half);
     let n = read.number;
-    let number = as_plus(n);
+    let number = with_sign(b == 45, n, half);
     LeadingInteger {
         number,
         end: read.end,
-        signed: false,
+        signed,
     }
 }
 
-fn as_plus(n: Number) -> Integer
-    requires { ⌜ AtMost (2 ^ 63 - 1) n ⌝ }
-    ensures { λ r. ⌜ r ≡ plus n ⌝ }
+fn past_sign(at: usize, signed: bool) -> usize
+    requires { ⌜ at + 1 < 2 ^ 64 ⌝ }
+    ensures { λ r. ⌜ r ≡ cond signed (at + 1) at ⌝ }
 {
-    match n {
-        Number::Value(v) => Integer::Is(v as i64),
-        Number::Not => Integer::NotOne,
+    if signed {
+        return at + 1;
     }
+    at
 }
 
-fn as_minus(n: Number) -> Integer
-    requires { ⌜ AtMost (2 ^ 63) n ⌝ }
-    ensures { λ r. ⌜ r ≡ minus n ⌝ }
+// Half of the width is a number only below 0.
+fn with_sign(below: bool, n: Number, half: u64) -> Integer
+    requires { ⌜ AtMost half n × (0 < half) × (half ≤ 2 ^ 63) ⌝ }
+    ensures { λ r. ⌜ r ≡ signedBy half below n ⌝ }
 {
     match n {
-        Number::Value(v) => Integer::Is(minus_i64(v)),
+        Number::Value(v) => {
+            if below {
+                return Integer::Is(minus_i64(v));
+            }
+            if v < half {
+                return Integer::Is(v as i64);
+            }
+            Integer::NotOne
+        }
         Number::Not => Integer::NotOne,
     }
 }

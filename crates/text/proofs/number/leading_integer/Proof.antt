@@ -1,83 +1,72 @@
--- `text::number::leading_integer` meets its contract: behind a sign the digits decide, and without one they decide from the front.
+-- `text::number::leading_integer` meets its contract: past the sign, if there is one, the digits decide.
 -- Assumes nothing.
 use mathlib.Core.Path.{_≡_, refl, ap, _∙_}
+use mathlib.Core.Bool.{Bool, false, cond}
 use mathlib.Core.List.{List, _∷_}
-use mathlib.Core.Bool.{false}
-use Prim.Native.Nat.{ℕ, _-_, _+_, _≤_, _<_, _^_}
+use Prim.Native.Nat.{ℕ, _+_, _≤_, _<_}
 use native.Mathlib.Omega.{arith}
-use borrow.Author.Tests.{ne-eqb}
-use denote.Ref.{now}
+use native.Mathlib.Nat.{le-refl}
+use lib.Dec.{eqb}
 use lib.ListN.{length, drop, getD, drop-of-length-le}
 use Rattle.text.specs.Bytes.{isDigit, isSign}
-use Rattle.text.specs.Places.{past, run}
-use Rattle.text.specs.Number.{minus, plus}
-use Rattle.text.proofs.Lists.{drop-cons-add-one}
-use Rattle.text.proofs.Numbers.{AtMost-of-fit, LeadsWith-nil, LeadsWith-minus, LeadsWith-plus, LeadsWith-digits}
+use Rattle.text.specs.Places.{past, leading}
+use Rattle.text.specs.Number.{digitsOf, signedOf, fit, fitSigned, numeral, signedBy, LeadsWith}
+use Rattle.text.specs.declared.number.LeadingInteger.{LeadingInteger}
+use Rattle.text.specs.declared.number.Number.{Number}
+use Rattle.text.specs.declared.number.Integer.the-variants.{NotOne}
+use Rattle.text.proofs.Lists.{by-test, drop-cons-add-one}
+use Rattle.text.proofs.Numbers.{AtMost-of-fit, signedBy-numeral}
 use borrow.Author.Needs.{needs}
 use Rattle.text.proofs.number.leading_integer.Statement.{statement}
 use Rattle.text.proofs.number.leading_integer.Tie as tie
 
--- a place past a run, from the run
-past-is : (s : List ℕ) (i : ℕ) → past isDigit s i ≡ i + run isDigit (drop i s)
-unfolding past
-past-is s i = refl
-
--- what is left opens with a byte
-opens : (s : List ℕ) (i x : ℕ) → i < length s → getD s i 0 ≡ x → drop i s ≡ x ∷ drop (i + 1) s
-opens s i x h e = rw (drop-cons-add-one s i h, e)
-
-isSign-of-ne : (b : ℕ) → (b ≡ 45 → ⊥) → (b ≡ 43 → ⊥) → isSign b ≡ false
-unfolding isSign
-isSign-of-ne b h k = rw (ne-eqb b 45 h, ne-eqb b 43 k)
-
 -- nothing is left
+LeadsWith-nil : (half : ℕ) (s : List ℕ) (at : ℕ) → length s ≤ at → LeadsWith half (drop at s) at (record { number = NotOne; end = at; signed = false })
+unfolding numeral signedOf fitSigned isSign
+LeadsWith-nil half s at h = rw (drop-of-length-le s h) (record { number-is = refl; end-is = omega arith; signed-is = refl })
+
+-- where the digits start, and where they end
+module _ (s : List ℕ) (at : ℕ) (h : at < length s) where
+  abbrev byte : ℕ
+  byte = getD s at 0
+
+  abbrev start : ℕ
+  start = cond (isSign byte) (at + 1) at
+
+  left : drop start s ≡ cond (isSign byte) (drop (at + 1) s) (byte ∷ drop (at + 1) s)
+  left = by-test (isSign byte) (λ e. rw e) (λ e. rw e (drop-cons-add-one s at h))
+
+  end : past isDigit s start ≡ at + numeral (byte ∷ drop (at + 1) s)
+  unfolding past numeral
+  end = by-test (isSign byte) (λ e. rw e (omega arith)) (λ e. rw (e, drop-cons-add-one s at h))
+
+  LeadsWith-cons : (half : ℕ) → 0 < half → (n : Number) → n ≡ fit half (digitsOf (leading isDigit (drop start s))) → (r : LeadingInteger)
+      → r .number ≡ signedBy half (eqb byte 45) n → r .end ≡ past isDigit s start → r .signed ≡ isSign byte → LeadsWith half (drop at s) at r
+  LeadsWith-cons half k n e r number-is end-is signed-is =
+      rw (drop-cons-add-one s at h)
+      (record {
+        number-is = number-is ∙ signedBy-numeral half k n byte (drop (at + 1) s) (e ∙ ap (λ (t : List ℕ). fit half (digitsOf (leading isDigit t))) left);
+        end-is = end-is ∙ end;
+        signed-is = signed-is;
+      })
+
 returns : tie.Need-returns
-returns c =
-    let start = c .before .before in
-    LeadsWith-nil _ (start .pre .0) _ _ _ (drop-of-length-le _ (c .if1 .taken)) refl refl refl
+returns c = LeadsWith-nil _ _ _ (c .if1 .taken)
 
-as-minus-requires : tie.Need-as-minus-requires
-as-minus-requires c κs = AtMost-of-fit _ (2 ^ 63) _ _ (c .leading-number .ensures .0) (c .before .before .before .before .before .pre .1)
+with-sign-requires : tie.Need-with-sign-requires
+with-sign-requires c κs =
+    let p = c .before .before .before .before .before .before .pre in
+    (AtMost-of-fit _ _ _ _ (c .leading-number .ensures .0) (le-refl _), p .0, p .1)
 
--- a minus
 returns-2 : tie.Need-returns-2
 returns-2 c =
     let at-read = c .before in
-    let at-if = at-read .before in
-    let start = at-if .before .before .before .before in
-    let a = start .args in
-    LeadsWith-minus _ (start .pre .0) _ _ _ _ (opens _ _ _ (at-if .before .before .if1 .left) (at-if .if2 .taken)) (c .as-minus .ensures ∙ ap minus (at-read .leading-number .ensures .0)) (at-read .leading-number .ensures .1 ∙ past-is (a .s .now) (a .from + 1)) refl
-
-as-plus-requires : tie.Need-as-plus-requires
-as-plus-requires c κs =
-    let start = c .before .before .before .before .before .before in
-    let k : start .args .half - 1 ≤ 2 ^ 63 - 1 = omega (arith, start .pre .1) in
-    AtMost-of-fit _ (2 ^ 63 - 1) _ _ (c .leading-number2 .ensures .0) k
-
--- a plus
-returns-3 : tie.Need-returns-3
-returns-3 c =
-    let at-read = c .before in
-    let at-if = at-read .before in
-    let start = at-if .before .before .before .before .before in
-    let a = start .args in
-    LeadsWith-plus _ (start .pre .0) _ _ _ _ (opens _ _ _ (at-if .before .before .before .if1 .left) (at-if .if3 .taken)) (c .as-plus .ensures ∙ ap plus (at-read .leading-number2 .ensures .0)) (at-read .leading-number2 .ensures .1 ∙ past-is (a .s .now) (a .from + 1)) refl
-
-as-plus-requires-2 : tie.Need-as-plus-requires-2
-as-plus-requires-2 c κs =
-    let start = c .before .before .before .before .before .before in
-    let k : start .args .half - 1 ≤ 2 ^ 63 - 1 = omega (arith, start .pre .1) in
-    AtMost-of-fit _ (2 ^ 63 - 1) _ _ (c .leading-number3 .ensures .0) k
-
--- no sign
-returns-4 : tie.Need-returns-4
-returns-4 c =
-    let at-read = c .before in
-    let at-if = at-read .before in
-    let start = at-if .before .before .before .before .before in
-    let a = start .args in
-    let o = opens (a .s .now) (a .from) _ (at-if .before .before .before .if1 .left) refl in
-    LeadsWith-digits _ (start .pre .0) _ _ _ _ _ o (isSign-of-ne _ (at-if .before .if2 .left) (at-if .if3 .left)) (rw o at (c .as-plus2 .ensures ∙ ap plus (at-read .leading-number3 .ensures .0))) (rw o at (at-read .leading-number3 .ensures .1 ∙ past-is (a .s .now) (a .from))) refl
+    let at-sign = at-read .before .before in
+    let begin = at-sign .before .before .before .before in
+    let a = begin .args in
+    let from : at-read .before .past-sign .result ≡ start (a .s .now) (a .from) (at-sign .before .before .if1 .left) =
+    at-read .before .past-sign .ensures ∙ ap (λ (b : Bool). cond b (a .from + 1) (a .from)) (at-sign .is-sign .ensures) in
+    LeadsWith-cons (a .s .now) (a .from) (at-sign .before .before .if1 .left) (a .half) (begin .pre .0) _ (rw from at (at-read .leading-number .ensures .0)) _ (c .with-sign .ensures) (rw from at (at-read .leading-number .ensures .1)) (at-sign .is-sign .ensures)
 
 pub leading-integer-spec : {M : Type 1} → statement M
 leading-integer-spec =
@@ -85,16 +74,8 @@ leading-integer-spec =
     (tie.spec
     returns
     (λ c. search needs)
-    (λ c. search needs)
     (λ c κs. search needs)
-    as-minus-requires
-    returns-2
-    (λ c. search needs)
-    (λ c. search needs)
     (λ c κs. search needs)
-    as-plus-requires
-    returns-3
-    (λ c. search needs)
     (λ c κs. search needs)
-    as-plus-requires-2
-    returns-4)
+    with-sign-requires
+    returns-2)
