@@ -15,7 +15,7 @@ use Rattle.calendar.specs.declared.Date.{Date}
 use Rattle.calendar.specs.declared.Found.{Found}
 use Rattle.calendar.specs.declared.Found.the-variants.{At}
 use Rattle.calendar.proofs.Lengths.{yearStart-suc, firstDay-year, firstDay-suc, monthLength-le}
-use Rattle.calendar.proofs.Cycle.{yearStart-mul-400, yearStart-add-400, firstDay-lower, firstDay-upper, firstDay-in-range, le-of-firstDay, lt-of-firstDay-in-range, pos-of-lt-firstDay}
+use Rattle.calendar.proofs.Cycle.{yearStart-mul-400, yearStart-add-400, firstDay-lower, firstDay-upper, le-of-firstDay, lt-of-firstDay-in-range, pos-of-lt-firstDay}
 
 -- ---- a day has one date
 
@@ -95,9 +95,6 @@ IsDate-day-lt {d} {m} p = omega (arith, monthLength-le m)
 
 pub IsDate-month-lt : {d m k : ℕ} → IsDate d m k → d < 7304850 → m < 240000
 IsDate-month-lt {d} {m} p h = lt-of-firstDay-in-range m d (omega arith) h
-
-pub IsDate-lt : {d m k : ℕ} → IsDate d m k → m < 240000 → d < 7304850
-IsDate-lt {d} {m} p h = omega (arith, firstDay-in-range (suc m) h, firstDay-suc m)
 
 -- ---- the estimate of a day's month, as the code has it
 

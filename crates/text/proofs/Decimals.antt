@@ -1,14 +1,13 @@
 -- Laws of plain decimal: what stands behind the digits (`decimalBefore-append`), that they are digits, at least one, and that reading
 -- them gives the number back (`readFrom-decimalBefore`). Assumes nothing.
-use mathlib.Core.Path.{_≡_, refl, sym, ap, _∙_}
+use mathlib.Core.Path.{_≡_, refl, ap, _∙_}
 use mathlib.Core.Bool.{Bool, true, false}
 use mathlib.Core.List.{List, [], _∷_, _++_}
 use Prim.Native.Nat.{ℕ, zero, suc, _+_, _-_, _*_, _/_, _%_, _^_, _≤_, _<_}
 use native.Mathlib.Omega.{arith}
-use borrow.Author.Tests.{ltb-true, ltb-false, le-leb}
-use lib.Dec.{ltb, leb}
+use borrow.Author.Tests.{ltb-true, ltb-false}
+use lib.Dec.{ltb}
 use lib.ListN.{length, length-append}
-use Rattle.text.specs.Bytes.{isDigit}
 use Rattle.text.specs.Number.{readFrom}
 use Rattle.text.proofs.Lists.{by-test}
 use Rattle.text.proofs.Numbers.{readFrom-cons, isDigit-of-le}

@@ -10,7 +10,7 @@ use native.Mathlib.Nat.{le-refl, zero-add, not-suc-le-zero}
 use native.Mathlib.Omega.{arith}
 use borrow.Author.Tests.{ltb-true, ltb-false, lt-ltb, le-ltb, eqb-false}
 use lib.Dec.{ltb, eqb}
-use lib.ListN.{length, getD, take, drop, length-drop, drop-of-length-le}
+use lib.ListN.{length, getD, drop, length-drop, drop-of-length-le}
 use lib.Seq.{drop-drop, length-take-le}
 use Rattle.text.specs.Places.{run, leading, past, firstPlace, has, lastWhere}
 use Rattle.text.proofs.Lists.{by-test, drop-cons-add-one}

@@ -10,8 +10,6 @@ use Rattle.text.specs.Bytes.{isSpace, isAlphanumeric}
 use Rattle.text.specs.Places.{no, past}
 use Rattle.text.specs.declared.words.Separator.{Separator}
 use Rattle.text.specs.declared.words.Separator.the-variants.{Space, Mark}
-use Rattle.text.specs.declared.words.Span.{Span}
-use Rattle.text.specs.declared.words.Words.{Words}
 use Rattle.text.specs.declared.words.Taken.{Taken}
 use Rattle.text.specs.declared.words.Taken.the-variants.{Word, Nothing}
 

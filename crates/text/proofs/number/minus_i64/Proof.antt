@@ -1,6 +1,5 @@
 -- `text::number::minus_i64` meets its contract.
 -- Assumes nothing.
-use mathlib.Core.Path.{_≡_, _∙_}
 use Prim.Native.Nat.{_<_, _-_, _^_}
 use native.Mathlib.Omega.{arith}
 use mir.Syntax.{w64}

@@ -1,6 +1,6 @@
 -- `text::words::separates` meets its contract.
 -- Assumes nothing.
-use mathlib.Core.Path.{ap, _∙_}
+use mathlib.Core.Path.{ap}
 use mathlib.Core.Bool.{not}
 use borrow.Author.Needs.{needs}
 use Rattle.text.proofs.words.separates.Statement.{statement}
