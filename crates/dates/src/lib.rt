@@ -18,27 +18,25 @@ pub fn parse(s: &[u8], current: Now) -> Answer
     parse_with(&[], s, current)
 }
 
-// The same with the table of months lent, or a part that opens it, for callers that read many texts.
+// The same with the table of months lent, or a part that opens it, for callers that read many texts. Each step tells a byte of 128
+// or more by itself, so it is not looked for here.
 pub fn parse_with(months: &[u32], s: &[u8], current: Now) -> Answer
     requires { ⌜ IsMonths (now months) ⌝ }
     ensures { λ r. ⌜ r ≡ anyOf (now (s .entry)) current ⌝ }
 {
-    if text::bytes::is_ascii(s) {
-        let plain = parse_plain(s);
-        if is_settled(plain) {
-            return plain;
-        }
-        let iso = iso::parse_git_date_format_with(months, s);
-        if is_settled(iso) {
-            return iso;
-        }
-        let relative = relative::parse_with(months, s, current);
-        if is_settled(relative) {
-            return relative;
-        }
-        return header::raw::parse_raw(s);
+    let plain = parse_plain(s);
+    if is_settled(plain) {
+        return plain;
     }
-    Answer::Refused(Refusal::NotAscii)
+    let iso = iso::parse_git_date_format_with(months, s);
+    if is_settled(iso) {
+        return iso;
+    }
+    let relative = relative::parse_with(months, s, current);
+    if is_settled(relative) {
+        return relative;
+    }
+    header::raw::parse_raw(s)
 }
 
 // What looks at no calendar: `@` and raw or a number, or a number large enough to be no count.

@@ -31,7 +31,7 @@ use Rattle.header.specs.declared.offset.Field.the-variants.{Byte}
 use Rattle.header.specs.declared.offset.Fields.{Fields}
 use Rattle.header.specs.declared.offset.Parsed.{Parsed}
 use Rattle.header.specs.declared.offset.Parsed.the-variants.{Offset, NoOffset}
-use Rattle.header.proofs.Texts.{Lacking, not-has-of-words, no-colon-of-signedOf}
+use Rattle.text.proofs.Texts.{Lacking, not-has-of-words, no-colon-of-between, between-of-signedOf}
 use Rattle.header.proofs.Unsigned.{fieldsOf-some, fieldsOf-signed, no-colon-of-fieldsOf}
 
 -- ---- a 64-bit number
@@ -86,7 +86,7 @@ answered : (w v : List ℕ) (t : Time) → Accepted (number64 w) (fieldsOf Byte 
 unfolding headerOfWords secondsOf headerOffset
 answered w v t a =
     record {
-      plain = (no-colon-of-signedOf w (t .seconds) (signedOf-of-number64 w (t .seconds) (a .number)), (no-colon-of-fieldsOf v (a .fields) (a .parsed), tt));
+      plain = (no-colon-of-between 43 w (between-of-signedOf w (t .seconds) (signedOf-of-number64 w (t .seconds) (a .number))), (no-colon-of-fieldsOf v (a .fields) (a .parsed), tt));
       same = rw (a .number, fieldsOf-signed v (a .fields) (a .parsed), offsetOrZero-cond (isDigit (getD v 1 0)) (a .fields), a .offset-is);
     }
 

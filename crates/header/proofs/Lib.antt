@@ -1,6 +1,4 @@
--- Laws. In order: texts whose bytes are known; the places of one pass; an offset's word; what is written is read back; the offsets that a header can
--- give; an offset's word of unsigned fields; where the raw and the header reader answer alike; the document's examples.
-pub mod Texts
+-- Laws. In order: the places of one pass; an offset's word; what is written is read back; the offsets that a header can give; an offset's word of unsigned fields; where the raw and the header reader answer alike; the document's examples.
 pub mod Walking
 pub mod Offsets
 pub mod ReadBack

@@ -24,7 +24,7 @@ use Rattle.text.specs.declared.number.Integer.{Integer}
 use Rattle.text.specs.declared.number.Integer.the-variants.{Is, NotOne}
 use Rattle.text.proofs.Lists.{by-test, drop-cons-add-one}
 use Rattle.text.proofs.Numbers.{digit-range, Short, Below, signedOf-short, unsignedOf-below, fitSigned-of-length, fit-of-length}
-use Rattle.header.proofs.Texts.{signedOf-of-unsignedOf}
+use Rattle.text.proofs.Texts.{signedOf-of-unsignedOf}
 use Rattle.header.specs.Offset.{fiveOrSeven, fieldOf, lastField, together, fieldsOf, Small}
 use Rattle.header.specs.Header.{headerOffset}
 use Rattle.header.specs.Raw.{eqZ}

@@ -29,7 +29,7 @@ use Rattle.time.specs.declared.Time.{Time}
 use Rattle.time.specs.declared.Answer.the-variants.{Time as At}
 use Rattle.header.specs.Offset.{fiveOrSeven, fieldOf, lastField, fieldsOf, offsetOf}
 use Rattle.header.specs.Header.{headerOf, headerOfWords, secondsOf, headerOffset, offsetOrZero}
-use Rattle.header.proofs.Texts.{ascii-of-between, no-colon-of-between, whole-of-between, signedOf-of-digits, signedOf-of-minus}
+use Rattle.text.proofs.Texts.{ascii-of-between, no-colon-of-between, whole-of-between, signedOf-of-digits, signedOf-of-minus}
 
 -- ---- two digits
 pub twoBefore-between : (lo hi : ℕ) → lo ≤ 48 → 57 ≤ hi → (h : ℕ) (t : List ℕ) → h < 100 → Between lo hi t → Between lo hi (twoBefore h t)

@@ -24,7 +24,7 @@ use Rattle.header.specs.Offset.{fiveOrSeven, fieldOf, lastField, togethe
 use Rattle.header.specs.declared.offset.Field.the-variants.{Signed, Byte}
 use Rattle.header.specs.declared.offset.Fields.{Fields}
 use Rattle.header.specs.declared.offset.Parsed.the-variants.{Offset, NoOffset}
-use Rattle.header.proofs.Texts.{not-has-cons, not-has-cut, no-colon-of-unsignedOf, signedOf-of-unsignedOf}
+use Rattle.text.proofs.Texts.{not-has-cons, not-has-cut, no-colon-of-between, between-of-unsignedOf, signedOf-of-unsignedOf}
 use Rattle.header.proofs.Offsets.{fit-take, fieldsOf-of-tests, fieldsOf-of-length, fieldsOf-of-sign}
 
 -- ---- fields
@@ -41,7 +41,7 @@ unfolding fieldOf
 field-same w at z e = go (unsignedOf (bytesAt w at)) refl (rw (fit-take 255 (drop at w) (omega arith)) at e)
   where
     go : (x : Number) → unsignedOf (bytesAt w at) ≡ x → plus x ≡ Is z → Same w at z
-    go (Value n) u k = record { signed = signedOf-of-unsignedOf (bytesAt w at) n u ∙ k; plain = no-colon-of-unsignedOf n (bytesAt w at) u }
+    go (Value n) u k = record { signed = signedOf-of-unsignedOf (bytesAt w at) n u ∙ k; plain = no-colon-of-between 43 (bytesAt w at) (between-of-unsignedOf n (bytesAt w at) u) }
     go Not u k = let q : _≡_ {A = ℕ} 0 1 = cc in absurd (omega arith)
 
 last-same : (w : List ℕ) (z : ℤ) → lastField Byte w ≡ Is z → lastField Signed w ≡ Is z

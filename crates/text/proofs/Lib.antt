@@ -11,5 +11,6 @@ pub mod Numbers
 pub mod Digits
 pub mod Decimals
 pub mod Putting
+pub mod Texts
 pub mod LowerCase
 pub mod Examples

@@ -1,5 +1,5 @@
--- Texts whose bytes are known. In order: a byte that stands nowhere in a text; in none of its words; in no number; a text whose
--- bytes lie in a range; a number that is digits, or a minus and digits.
+-- Texts whose bytes are known. In order: a byte that stands nowhere in a text; in none of its words; a text whose bytes lie in a
+-- range, as those of a number do; a number that is digits, or a minus and digits.
 -- Assumes nothing.
 use mathlib.Core.Path.{_≡_, refl, sym, ap, _∙_}
 use mathlib.Core.Bool.{Bool, true, false, _||_, false≢true}
@@ -11,18 +11,19 @@ use borrow.Author.Tests.{lt-ltb, le-leb, lt-leb, ne-eqb, eqb-true}
 use lib.Dec.{eqb}
 use lib.IntN.{ℤ, pos, negℤ}
 use lib.ListN.{length, take, drop, take-append-drop}
 use Rattle.text.specs.Bytes.{isSpace, isDigit, ascii}
 use Rattle.text.specs.Places.{has}
 use Rattle.text.specs.Words.{onto, pieces, full, words}
 use Rattle.text.specs.Number.{readFrom, digitsOf, unsignedOf, signedOf, plus, minus}
 use Rattle.text.specs.declared.number.Number.{Number}
 use Rattle.text.specs.declared.number.Number.the-variants.{Value, Not}
-use Rattle.text.specs.declared.number.Integer.the-variants.{Is}
+use Rattle.text.specs.declared.number.Integer.{Integer}
+use Rattle.text.specs.declared.number.Integer.the-variants.{Is, NotOne}
 use Rattle.text.proofs.Lists.{by-test}
 use Rattle.text.proofs.Runs.{has-cons, has-nil}
 use Rattle.text.proofs.Numbers.{digit-range}
 use Rattle.text.proofs.Decimals.{Between}
 use Rattle.text.proofs.Taking.{Whole}
 
 module _ (c : ℕ) where
   -- ---- a byte that stands nowhere in a text
@@ -75,42 +76,70 @@ module _ (c : ℕ) where
     unfolding words
     not-has-of-words s h = not-has-of-pieces s (lacking-of-full (pieces p s) h)
 
--- ---- in no number
-colon-lt : (b : ℕ) → b < 58 → eqb b 58 ≡ false
-colon-lt b h = ne-eqb b 58 (λ e. omega arith)
+-- ---- bytes in a range
+pub ascii-of-between : (lo hi : ℕ) → hi < 128 → (s : List ℕ) → Between lo hi s → ascii s ≡ true
+unfolding ascii
+ascii-of-between lo hi h [] b = refl
+ascii-of-between lo hi h (x ∷ s) b = let k : x ≤ hi = b .1 in rw (lt-ltb x 128 (omega arith)) (ascii-of-between lo hi h s (b .2))
+
+pub no-colon-of-between : (lo : ℕ) (s : List ℕ) → Between lo 57 s → has 58 s ≡ false
+no-colon-of-between lo [] b = has-nil 58
+no-colon-of-between lo (x ∷ s) b = let k : x ≤ 57 = b .1 in not-has-cons 58 x s (ne-eqb x 58 (λ e. omega arith)) (no-colon-of-between lo s (b .2))
+
+pub whole-of-between : (hi : ℕ) (w : List ℕ) → Between 33 hi w → Whole isSpace w
+unfolding isSpace
+whole-of-between hi [] b = tt
+whole-of-between hi (x ∷ w) b =
+    let k : 33 ≤ x = b .0 in
+    (rw (le-leb 9 x (omega arith), lt-leb x 13 (omega arith), ne-eqb x 32 (λ e. omega arith)), whole-of-between hi w (b .2))
+
+-- ---- the bytes of a number
+Between-of-le : (lo lo′ hi : ℕ) → lo′ ≤ lo → (s : List ℕ) → Between lo hi s → Between lo′ hi s
+Between-of-le lo lo′ hi h [] b = tt
+Between-of-le lo lo′ hi h (x ∷ s) b = let k : lo ≤ x = b .0 in let l : lo′ ≤ x = omega arith in (l, b .1, Between-of-le lo lo′ hi h s (b .2))
 
 module _ (n : ℕ) where
-  pub no-colon-of-readFrom : (s : List ℕ) (v : ℕ) → readFrom v s ≡ Value n → has 58 s ≡ false
+  between-of-readFrom : (s : List ℕ) (v : ℕ) → readFrom v s ≡ Value n → Between 48 57 s
   unfolding readFrom
-  no-colon-of-readFrom [] v h = has-nil 58
-  no-colon-of-readFrom (b ∷ s) v h =
-      by-test (isDigit b) (λ e. not-has-cons 58 b s (colon-lt b (omega (arith, digit-range b e))) (no-colon-of-readFrom s _ (rw e at h)))
+  between-of-readFrom [] v h = tt
+  between-of-readFrom (b ∷ s) v h =
+      by-test (isDigit b) (λ e. let r = digit-range b e in (r .0, r .1, between-of-readFrom s _ (rw e at h)))
       (λ e. let k = rw e at h in let z : _≡_ {A = ℕ} 0 1 = cc in absurd (omega arith))
 
-  no-colon-of-digitsOf : (s : List ℕ) → digitsOf s ≡ Value n → has 58 s ≡ false
+  between-of-digitsOf : (s : List ℕ) → digitsOf s ≡ Value n → Between 43 57 s
   unfolding digitsOf
-  no-colon-of-digitsOf [] h = has-nil 58
-  no-colon-of-digitsOf (b ∷ s) h = no-colon-of-readFrom (b ∷ s) 0 h
+  between-of-digitsOf [] h = tt
+  between-of-digitsOf (b ∷ s) h = Between-of-le 48 43 57 (omega arith) (b ∷ s) (between-of-readFrom (b ∷ s) 0 h)
 
-  pub no-colon-of-unsignedOf : (s : List ℕ) → unsignedOf s ≡ Value n → has 58 s ≡ false
+  pub between-of-unsignedOf : (s : List ℕ) → unsignedOf s ≡ Value n → Between 43 57 s
   unfolding unsignedOf
-  no-colon-of-unsignedOf [] h = has-nil 58
-  no-colon-of-unsignedOf (b ∷ s) h =
-      by-test (eqb b 43) (λ e. not-has-cons 58 b s (colon-lt b (omega (arith, eqb-true b 43 e))) (no-colon-of-digitsOf s (rw e at h))) (λ e. no-colon-of-digitsOf (b ∷ s) (rw e at h))
+  between-of-unsignedOf [] h = tt
+  between-of-unsignedOf (b ∷ s) h =
+      by-test (eqb b 43) (λ e. let k = eqb-true b 43 e in let l : 43 ≤ b = omega arith in let m : b ≤ 57 = omega arith in (l, m, between-of-digitsOf s (rw e at h))) (λ e. between-of-digitsOf (b ∷ s) (rw e at h))
 
-pub no-colon-of-signedOf : (s : List ℕ) (z : ℤ) → signedOf s ≡ Is z → has 58 s ≡ false
+pub between-of-signedOf : (s : List ℕ) (z : ℤ) → signedOf s ≡ Is z → Between 43 57 s
 unfolding signedOf
-no-colon-of-signedOf [] z h = has-nil 58
-no-colon-of-signedOf (b ∷ s) z h =
-    by-test (eqb b 45) (λ e. not-has-cons 58 b s (colon-lt b (omega (arith, eqb-true b 45 e))) (minused (digitsOf s) refl (rw e at h))) (λ e. plussed (unsignedOf (b ∷ s)) refl (rw e at h))
+between-of-signedOf [] z h = tt
+between-of-signedOf (b ∷ s) z h =
+    by-test (eqb b 45)
+    (λ e. let k = eqb-true b 45 e in let l : 43 ≤ b = omega arith in let m : b ≤ 57 = omega arith in (l, m, minused (digitsOf s) refl (rw e at h)))
+    (λ e. plussed (unsignedOf (b ∷ s)) refl (rw e at h))
   where
-    minused : (x : Number) → digitsOf s ≡ x → minus x ≡ Is z → has 58 s ≡ false
-    minused (Value n) e k = no-colon-of-digitsOf n s e
+    minused : (x : Number) → digitsOf s ≡ x → minus x ≡ Is z → Between 43 57 s
+    minused (Value n) e k = between-of-digitsOf n s e
     minused Not e k = let q : _≡_ {A = ℕ} 0 1 = cc in absurd (omega arith)
 
-    plussed : (x : Number) → unsignedOf (b ∷ s) ≡ x → plus x ≡ Is z → has 58 (b ∷ s) ≡ false
-    plussed (Value n) e k = no-colon-of-unsignedOf n (b ∷ s) e
+    plussed : (x : Number) → unsignedOf (b ∷ s) ≡ x → plus x ≡ Is z → Between 43 57 (b ∷ s)
+    plussed (Value n) e k = between-of-unsignedOf n (b ∷ s) e
     plussed Not e k = let q : _≡_ {A = ℕ} 0 1 = cc in absurd (omega arith)
+
+-- so a text with a byte of 128 or more is no number
+pub signedOf-not-ascii : (s : List ℕ) → ascii s ≡ false → signedOf s ≡ NotOne
+signedOf-not-ascii s h = told (signedOf s) refl
+  where
+    told : (x : Integer) → signedOf s ≡ x → x ≡ NotOne
+    told (Is z) e = absurd (false≢true (sym h ∙ ascii-of-between 43 57 (omega arith) s (between-of-signedOf s z e)))
+    told NotOne e = refl
 
 -- an unsigned number is the same signed: it does not open with `-`
 unsignedOf-minus : (s : List ℕ) → unsignedOf (45 ∷ s) ≡ Not
@@ -126,23 +155,6 @@ unfolding signedOf
 signedOf-of-unsignedOf [] n h = let k = rw unsignedOf-nil at h in let q : _≡_ {A = ℕ} 0 1 = cc in absurd (omega arith)
 signedOf-of-unsignedOf (b ∷ s) n h =
     by-test (eqb b 45) (λ e. let k = rw (eqb-true b 45 e, unsignedOf-minus s) at h in let q : _≡_ {A = ℕ} 0 1 = cc in absurd (omega arith)) (λ e. rw (e, h))
-
--- ---- bytes in a range
-pub ascii-of-between : (lo hi : ℕ) → hi < 128 → (s : List ℕ) → Between lo hi s → ascii s ≡ true
-unfolding ascii
-ascii-of-between lo hi h [] b = refl
-ascii-of-between lo hi h (x ∷ s) b = let k : x ≤ hi = b .1 in rw (lt-ltb x 128 (omega arith)) (ascii-of-between lo hi h s (b .2))
-
-pub no-colon-of-between : (lo : ℕ) (s : List ℕ) → Between lo 57 s → has 58 s ≡ false
-no-colon-of-between lo [] b = has-nil 58
-no-colon-of-between lo (x ∷ s) b = let k : x ≤ 57 = b .1 in not-has-cons 58 x s (colon-lt x (omega arith)) (no-colon-of-between lo s (b .2))
-
-pub whole-of-between : (hi : ℕ) (w : List ℕ) → Between 33 hi w → Whole isSpace w
-unfolding isSpace
-whole-of-between hi [] b = tt
-whole-of-between hi (x ∷ w) b =
-    let k : 33 ≤ x = b .0 in
-    (rw (le-leb 9 x (omega arith), lt-leb x 13 (omega arith), ne-eqb x 32 (λ e. omega arith)), whole-of-between hi w (b .2))
 
 -- ---- digits, and a minus and digits
 pub signedOf-of-digits : (s : List ℕ) (n : ℕ) → 0 < length s → Between 48 57 s → readFrom 0 s ≡ Value n → signedOf s ≡ Is (pos n)
