@@ -3,7 +3,7 @@
 -- (`Opens-of-Placed`); what the readers answer by it.
 -- Assumes nothing.
 use mathlib.Core.Path.{_≡_, refl, sym, ap, _∙_}
-use mathlib.Core.Bool.{Bool, true, false, cond, not, _&&_, _||_, false≢true, and-false}
+use mathlib.Core.Bool.{Bool, true, false, cond, not, _&&_, _||_, and-false}
 use mathlib.Core.List.{List, [], _∷_}
 use Prim.Native.Nat.{ℕ, zero, suc, _+_, _^_, _≤_, _<_}
 use native.Mathlib.Omega.{arith}
@@ -23,6 +23,7 @@ use Rattle.text.proofs.Lists.{by-test, both}
 use Rattle.text.proofs.Runs.{past-add, run-le-length, same-drop-past, has-cons}
 use Rattle.text.proofs.Taking.{ltb-zero-length-words, getD-words-zero, drop-one-words}
 use Rattle.text.proofs.Numbers.{digit-range, signedOf-of-numeral-lt, numeral-of-digits, numeral-le-run, numeral-leading, isSign-leading}
+use Rattle.header.proofs.Texts.{not-has-of-cons}
 use Rattle.header.specs.Offset.{onlyWord, fieldsOf}
 use Rattle.header.specs.Header.{number64, orElse, secondsOf, headerOffset, headerTime, headerOfWords, headerOf}
 use Rattle.header.specs.Raw.{Limits, rawTime, rawOfWords, rawOf}
@@ -123,14 +124,10 @@ ascii-drop s zero e = e
 ascii-drop [] (suc i) e = e
 ascii-drop (b ∷ s) (suc i) e = ascii-drop s i (both (ltb b 128) (ascii s) e .1)
 
-neither : (a b : Bool) → (a || b) ≡ false → (a ≡ false) × (b ≡ false)
-neither true b e = absurd (false≢true (sym e))
-neither false b e = (refl, e)
-
 has-drop : (s : List ℕ) (i : ℕ) → has 58 s ≡ false → has 58 (drop i s) ≡ false
 has-drop s zero e = e
 has-drop [] (suc i) e = e
-has-drop (b ∷ s) (suc i) e = has-drop s i (neither (eqb b 58) (has 58 s) (sym (has-cons 58 b s) ∙ e) .1)
+has-drop (b ∷ s) (suc i) e = has-drop s i (not-has-of-cons 58 b s e .1)
 
 isPlain-is : (b : ℕ) → eqb b 58 ≡ false → ltb b 128 ≡ true → isPlain b ≡ no isSpace b
 unfolding isPlain
@@ -141,7 +138,7 @@ unfolding run ascii
 run-isPlain [] a h = refl
 run-isPlain (b ∷ s) a h =
     let l = both (ltb b 128) (ascii s) a in
-    let k = neither (eqb b 58) (has 58 s) (sym (has-cons 58 b s) ∙ h) in
+    let k = not-has-of-cons 58 b s h in
     rw (isPlain-is b (k .0) (l .0), run-isPlain s (l .1) (k .1))
 
 onlyWord-is : (ws : List (List ℕ)) → onlyWord ws ≡ cond (ltb 0 (length (drop 1 ws))) [] (getD ws 0 [])

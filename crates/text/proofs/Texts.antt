@@ -34,7 +34,7 @@ module _ (c : ℕ) where
   neither true b e = absurd (false≢true (sym e))
   neither false b e = (refl, e)
 
-  not-has-of-cons : (b : ℕ) (s : List ℕ) → has c (b ∷ s) ≡ false → (eqb b c ≡ false) × (has c s ≡ false)
+  pub not-has-of-cons : (b : ℕ) (s : List ℕ) → has c (b ∷ s) ≡ false → (eqb b c ≡ false) × (has c s ≡ false)
   not-has-of-cons b s h = neither (eqb b c) (has c s) (sym (has-cons c b s) ∙ h)
 
   not-has-append : (s t : List ℕ) → has c s ≡ false → has c t ≡ false → has c (s ++ t) ≡ false
