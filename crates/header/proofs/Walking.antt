@@ -23,7 +23,7 @@ use Rattle.text.proofs.Lists.{by-test, both}
 use Rattle.text.proofs.Runs.{past-add, run-le-length, same-drop-past, has-cons}
 use Rattle.text.proofs.Taking.{ltb-zero-length-words, getD-words-zero, drop-one-words}
 use Rattle.text.proofs.Numbers.{digit-range, signedOf-of-numeral-lt, numeral-of-digits, numeral-le-run, numeral-leading, isSign-leading}
-use Rattle.header.proofs.Texts.{not-has-of-cons}
+use Rattle.text.proofs.Texts.{not-has-of-cons}
 use Rattle.header.specs.Offset.{onlyWord, fieldsOf}
 use Rattle.header.specs.Header.{number64, orElse, secondsOf, headerOffset, headerTime, headerOfWords, headerOf}
 use Rattle.header.specs.Raw.{Limits, rawTime, rawOfWords, rawOf}
@@ -38,6 +38,10 @@ space-range : (b : ℕ) → isSpace b ≡ true → b ≤ 32
 unfolding isSpace
 space-range b e = by-test (leb 9 b && leb b 13) (λ k. omega (arith, leb-true b 13 (both (leb 9 b) (leb b 13) k .1))) (λ k. omega (arith, eqb-true b 32 (rw k at e)))
 
+pub isSpace-of-lt : (b : ℕ) → 32 < b → isSpace b ≡ false
+unfolding isSpace
+isSpace-of-lt b h = rw (lt-leb b 13 (omega arith), and-false (leb 9 b), ne-eqb b 32 (λ e. omega arith))
+
 record Plain (b : ℕ) : Type 0 where
   no-space : no isSpace b ≡ true
   no-colon : eqb b 58 ≡ false
@@ -51,21 +55,21 @@ plain b e =
     record { no-space = q .0; no-colon = not-true (eqb b 58) (q .1); low = p .1 }
 
 isPlain-of-between : (b : ℕ) → 33 ≤ b → b ≤ 57 → isPlain b ≡ true
-unfolding isPlain isSpace
-isPlain-of-between b h k = rw (lt-leb b 13 (omega arith), and-false (leb 9 b), ne-eqb b 32 (λ e. omega arith), ne-eqb b 58 (λ e. omega arith), lt-ltb b 128 (omega arith))
+unfolding isPlain
+isPlain-of-between b h k = rw (isSpace-of-lt b (omega arith), ne-eqb b 58 (λ e. omega arith), lt-ltb b 128 (omega arith))
 
 sign-between : (b : ℕ) → isSign b ≡ true → (33 ≤ b) × (b ≤ 57)
 unfolding isSign
 sign-between b e =
     by-test (eqb b 43) (λ k. let q = eqb-true b 43 k in (omega arith, omega arith)) (λ k. let q = eqb-true b 45 (rw k at e) in (omega arith, omega arith))
 
-isPlain-of-isSign : (b : ℕ) → isSign b ≡ true → isPlain b ≡ true
+pub isPlain-of-isSign : (b : ℕ) → isSign b ≡ true → isPlain b ≡ true
 isPlain-of-isSign b e = let r = sign-between b e in isPlain-of-between b (r .0) (r .1)
 
-isPlain-of-isDigit : (b : ℕ) → isDigit b ≡ true → isPlain b ≡ true
+pub isPlain-of-isDigit : (b : ℕ) → isDigit b ≡ true → isPlain b ≡ true
 isPlain-of-isDigit b e = let r = digit-range b e in isPlain-of-between b (omega arith) (r .1)
 
-no-space-of-isSign : (b : ℕ) → isSign b ≡ true → no isSpace b ≡ true
+pub no-space-of-isSign : (b : ℕ) → isSign b ≡ true → no isSpace b ≡ true
 no-space-of-isSign b e = plain b (isPlain-of-isSign b e) .no-space
 
 no-space-of-isDigit : (b : ℕ) → isDigit b ≡ true → no isSpace b ≡ true

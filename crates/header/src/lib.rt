@@ -7,11 +7,13 @@ mod walk;
 
 ghost use mathlib.Core.Path.{_≡_};
 ghost use Rattle.header.specs.Header.{headerOffset, headerOf};
+ghost use Rattle.header.specs.Walk.{Opened};
 use crate::offset::Field;
 use crate::offset::Parsed;
 use crate::walk::Walked;
 use text::bytes;
 use text::number::Integer;
+use text::number::LeadingInteger;
 use time::Answer;
 use time::Refusal;
 use time::Time;
@@ -21,7 +23,28 @@ use time::Time;
 pub fn parse_header(s: &[u8]) -> Answer
     ensures { λ r. ⌜ r ≡ headerOf (now (s .entry)) ⌝ }
 {
-    let walked = walk::walk(s);
+    let opening = walk::open(s);
+    let usual = offset::usual_fields(s, opening.end);
+    let Parsed::Offset(f) = usual else {
+        return parse_other(s, opening);
+    };
+    let seconds = opening.number;
+    let Integer::Is(z) = seconds else {
+        return Answer::Refused(Refusal::Form);
+    };
+    let o = offset::seconds_of(f);
+    Answer::Time(Time {
+        seconds: z,
+        offset: o,
+    })
+}
+
+// Of any other form.
+fn parse_other(s: &[u8], opening: LeadingInteger) -> Answer
+    requires { ⌜ Opened (now s) opening ⌝ }
+    ensures { λ r. ⌜ r ≡ headerOf (now (s .entry)) ⌝ }
+{
+    let walked = walk::walk(s, opening);
     match walked {
         Walked::NotAscii => Answer::Refused(Refusal::NotAscii),
         Walked::Colon => Answer::Refused(Refusal::Form),

@@ -7,6 +7,7 @@ ghost use lib.IntN.{pos};
 ghost use lib.ListN.{length};
 ghost use Rattle.text.specs.Bytes.{isDigit};
 ghost use Rattle.text.specs.Number.{plus, AtMost};
+ghost use Rattle.header.specs.Walk.{usualOf};
 ghost use Rattle.header.specs.Offset.{fiveOrSeven, fieldOf, lastField, fieldsOf, offsetOf, Small};
 use text::bytes;
 use text::number;
@@ -31,6 +32,33 @@ pub struct Fields {
 pub enum Parsed {
     Offset(Fields),
     NoOffset,
+}
+
+// The tail that every commit's date has from `at` on: a space, a sign, four digits, and nothing behind them. Any other gives none.
+pub fn usual_fields(s: &[u8], at: usize) -> Parsed
+    requires { ⌜ at ≤ length (now s) ⌝ }
+    ensures { λ r. ⌜ r ≡ usualOf (now (s .entry)) at ⌝ }
+{
+    if s.len() - at == 6 {
+        let space = s[at];
+        let sign = s[at + 1];
+        let h = s[at + 2];
+        let i = s[at + 3];
+        let m = s[at + 4];
+        let j = s[at + 5];
+        if (space == 32) & bytes::is_sign(sign) & both_digits(h, i) & both_digits(m, j) {
+            let hours = two_digits(h, i);
+            let minutes = two_digits(m, j);
+            return Parsed::Offset(Fields {
+                minus: sign == 45,
+                hours,
+                minutes,
+                seconds: 0,
+            });
+        }
+        return Parsed::NoOffset;
+    }
+    Parsed::NoOffset
 }
 
 pub fn parse_fields(w: &[u8], by: Field) -> Parsed

@@ -2,6 +2,7 @@
 // minutes are those of a rule.
 ghost use mathlib.Core.Path.{_≡_};
 ghost use Rattle.header.specs.Raw.{rule1, limitsOf, allows as allowsOf, rawOf};
+ghost use Rattle.header.specs.Walk.{Opened};
 use crate::offset;
 use crate::offset::Field;
 use crate::offset::Fields;
@@ -9,6 +10,7 @@ use crate::offset::Parsed;
 use crate::walk;
 use crate::walk::Walked;
 use text::number::Integer;
+use text::number::LeadingInteger;
 use time::Answer;
 use time::Refusal;
 use time::Time;
@@ -26,11 +28,35 @@ pub fn parse_raw(s: &[u8]) -> Answer
     parse_raw_by(s, Rule::One)
 }
 
-// A `:` stands in no number and in no offset.
+// The form that every commit has is told right behind its number; all else goes the whole walk.
 fn parse_raw_by(s: &[u8], rule: Rule) -> Answer
     ensures { λ r. ⌜ r ≡ rawOf (limitsOf rule) (now (s .entry)) ⌝ }
 {
-    let walked = walk::walk(s);
+    let opening = walk::open(s);
+    let usual = offset::usual_fields(s, opening.end);
+    let Parsed::Offset(f) = usual else {
+        return parse_other(s, opening, rule);
+    };
+    let seconds = opening.number;
+    let Integer::Is(z) = seconds else {
+        return Answer::Refused(Refusal::Form);
+    };
+    if allows(rule, f) {
+        let o = offset::seconds_of(f);
+        return Answer::Time(Time {
+            seconds: z,
+            offset: o,
+        });
+    }
+    Answer::Refused(Refusal::Form)
+}
+
+// Of any other form. A `:` stands in no number and in no offset.
+fn parse_other(s: &[u8], opening: LeadingInteger, rule: Rule) -> Answer
+    requires { ⌜ Opened (now s) opening ⌝ }
+    ensures { λ r. ⌜ r ≡ rawOf (limitsOf rule) (now (s .entry)) ⌝ }
+{
+    let walked = walk::walk(s, opening);
     match walked {
         Walked::NotAscii => Answer::Refused(Refusal::NotAscii),
         Walked::Colon => Answer::Refused(Refusal::Form),

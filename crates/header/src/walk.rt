@@ -7,10 +7,11 @@ ghost use lib.ListN.{drop};
 ghost use Rattle.text.specs.Bytes.{ascii as asciiOf};
 ghost use Rattle.text.specs.Places.{past, has};
 ghost use Rattle.text.specs.declared.number.Integer.the-variants.{NotOne};
-ghost use Rattle.header.specs.Walk.{isPlain, nowhere, spanOf, Walks};
+ghost use Rattle.header.specs.Walk.{isPlain, nowhere, spanOf, Opened, Walks};
 use text::bytes;
 use text::number;
 use text::number::Integer;
+use text::number::LeadingInteger;
 use text::words;
 use text::words::Separator;
 use text::words::Span;
@@ -29,13 +30,20 @@ pub enum Walked {
     NotAscii,
 }
 
-// Past white space, the first word, white space, the second, and white space again there is nothing left, or a third word, or a
-// byte that no reader takes.
-pub fn walk(s: &[u8]) -> Walked
-    ensures { λ r. ⌜ Walks (now (s .entry)) r ⌝ }
+// Past white space: the number that the first word opens with.
+pub fn open(s: &[u8]) -> LeadingInteger
+    ensures { λ r. ⌜ Opened (now (s .entry)) r ⌝ }
 {
     let first = words::word_start(s, 0, Separator::Space);
-    let opening = number::leading_integer(s, first, 9223372036854775808);
+    number::leading_integer(s, first, 9223372036854775808)
+}
+
+// Past the rest of the first word, white space, the second, and white space again there is nothing left, or a third word, or a
+// byte that no reader takes.
+pub fn walk(s: &[u8], opening: LeadingInteger) -> Walked
+    requires { ⌜ Opened (now s) opening ⌝ }
+    ensures { λ r. ⌜ Walks (now (s .entry)) r ⌝ }
+{
     let o = opening.end;
     let first_end = past_plain(s, o);
     let second = words::word_start(s, first_end, Separator::Space);
@@ -74,10 +82,14 @@ fn past_plain(s: &[u8], at: usize) -> usize
     i
 }
 
+// Past 32 there is no white space.
 fn is_plain(b: u8) -> bool
     ensures { λ r. ⌜ r ≡ isPlain b ⌝ }
 {
-    !bytes::is_space(b) & (b != 58) & (b < 128)
+    if 32 < b {
+        return (b != 58) & (b < 128);
+    }
+    !bytes::is_space(b)
 }
 
 // A number with a sign counts as a whole word only; digits count with any bytes behind them.

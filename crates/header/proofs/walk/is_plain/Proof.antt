@@ -1,16 +1,24 @@
--- `header::walk::is_plain` meets its contract.
+-- `header::walk::is_plain` meets its contract: white space is 32 at most, and what is 32 at most is ASCII and no `:`.
 -- Assumes nothing.
+use mathlib.Core.Bool.{not, and-true}
+use native.Mathlib.Omega.{arith}
+use borrow.Author.Tests.{lt-ltb, ne-eqb}
 use Rattle.header.specs.Walk.{isPlain}
+use Rattle.header.proofs.Walking.{isSpace-of-lt}
 use borrow.Author.Needs.{needs}
 use Rattle.header.proofs.walk.is_plain.Statement.{statement}
 use Rattle.header.proofs.walk.is_plain.Tie as tie
 
-is-space-requires : tie.Need-is-space-requires
-is-space-requires c κs = search needs
-
 returns : tie.Need-returns
 unfolding isPlain
-returns c = rw (← c .is-space .ensures)
+returns c = rw (isSpace-of-lt _ (c .if1 .taken))
+
+returns-2 : tie.Need-returns-2
+unfolding isPlain
+returns-2 c =
+    let b = c .before .before .args .b in
+    let h = c .before .if1 .left in
+    rw (← c .is-space .ensures, ne-eqb b 58 (λ e. omega arith), lt-ltb b 128 (omega arith), and-true (not (c .is-space .result)), and-true (not (c .is-space .result)))
 
 pub is-plain-spec : {M : Type 1} → statement M
-is-plain-spec = tie.close (tie.spec is-space-requires returns)
+is-plain-spec = tie.close (tie.spec returns (λ c κs. search needs) returns-2)

@@ -1,9 +1,9 @@
 -- `header::walk::walk` meets its contract: its places are those of the law, what was passed has no byte that no reader takes, and
 -- the rest tells.
 -- Assumes nothing.
-use mathlib.Core.Path.{_≡_, sym, _∙_}
-use Rattle.text.specs.Bytes.{ascii}
-use Rattle.text.specs.Places.{has}
+use mathlib.Core.Path.{_≡_, refl, sym, _∙_}
+use Rattle.text.specs.Bytes.{isSpace, ascii}
+use Rattle.text.specs.Places.{past, has}
 use Rattle.header.proofs.Walking.{Placed, ascii-kept, has-kept, Opens-of-Placed}
 use borrow.Author.Needs.{needs}
 use Rattle.header.proofs.walk.walk.Statement.{statement}
@@ -13,27 +13,25 @@ use Rattle.header.proofs.walk.walk.Tie as tie
 placed : (c : tie.After-look-through)
     → let at-third = c .before in
     let at-second = at-third .before .before in
-    let at-opening = at-second .before .before in
-    let at-first = at-opening .before in
-    Placed (at-first .before .before .args .s .now) (at-first .word-start .result) (at-opening .leading-integer .result .end) (at-second .before .past-plain .result) (at-second .word-start2 .result) (at-third .before .past-plain2 .result) (at-third .word-start3 .result)
+    let a = at-second .before .before .before .args in
+    Placed (a .s .now) (past isSpace (a .s .now) 0) (a .opening .end) (at-second .before .past-plain .result) (at-second .word-start .result) (at-third .before .past-plain2 .result) (at-third .word-start2 .result)
 placed c =
     let at-third = c .before in
     let at-second = at-third .before .before in
-    let at-opening = at-second .before .before in
     record {
-      first-is = at-opening .before .word-start .ensures;
-      o-is = at-opening .leading-integer .ensures .end-is;
+      first-is = refl;
+      o-is = at-second .before .before .before .pre .end-is;
       first-end-is = at-second .before .past-plain .ensures;
-      second-is = at-second .word-start2 .ensures;
+      second-is = at-second .word-start .ensures;
       second-end-is = at-third .before .past-plain2 .ensures;
-      third-is = at-third .word-start3 .ensures;
+      third-is = at-third .word-start2 .ensures;
     }
 
 -- so the rest tells of the whole
-ascii-is : (c : tie.After-look-through) → ascii (c .before .before .before .before .before .before .before .before .args .s .now) ≡ c .look-through .result .ascii
+ascii-is : (c : tie.After-look-through) → ascii (c .before .before .before .before .before .before .args .s .now) ≡ c .look-through .result .ascii
 ascii-is c = ascii-kept _ _ _ _ _ _ _ (placed c) ∙ sym (c .look-through .ensures .0)
 
-has-is : (c : tie.After-look-through) → has 58 (c .before .before .before .before .before .before .before .before .args .s .now) ≡ c .look-through .result .colon
+has-is : (c : tie.After-look-through) → has 58 (c .before .before .before .before .before .before .args .s .now) ≡ c .look-through .result .colon
 has-is c = has-kept _ _ _ _ _ _ _ (placed c) ∙ sym (c .look-through .ensures .1)
 
 -- a `:`
@@ -45,7 +43,7 @@ returns-2 c =
     let at-rest = c .before .before .before .before in
     let a = ascii-is at-rest ∙ c .before .before .before .if1 .taken in
     let h = has-is at-rest ∙ c .before .before .if2 .left in
-    let l = at-rest .before .before .before .before .before .leading-integer .ensures in
+    let l = at-rest .before .before .before .before .before .before .pre in
     (a, h, rw (c .only-bounds .ensures) (Opens-of-Placed _ a h _ _ _ _ _ _ (placed at-rest) _ l _ (c .before .seconds-in .ensures)))
 
 -- a byte of 128 or more
@@ -56,8 +54,6 @@ pub walk-spec : {M : Type 1} → statement M
 walk-spec =
     tie.close
     (tie.spec
-    (λ c κs. search needs)
-    (λ c κs. search needs)
     (λ c κs. search needs)
     (λ c κs. search needs)
     (λ c κs. search needs)
