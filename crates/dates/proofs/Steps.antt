@@ -1,7 +1,7 @@
 -- "Any" by the step that settles it: the answers of the steps before it are refused by form, its own is not, or it is the last. A
 -- byte of 128 or more needs no test of its own: no number is read with it, and the first step that looks at the whole text says 1.
 -- Assumes nothing.
-use mathlib.Core.Path.{_≡_, refl, sym, _∙_}
+use mathlib.Core.Path.{_≡_, sym, _∙_}
 use mathlib.Core.Bool.{true, false, false≢true}
 use mathlib.Core.List.{List, [], _∷_}
 use Prim.Native.Nat.{ℕ}
