@@ -2,9 +2,9 @@
 -- fields in them, which are numbers of either kind; where the walk's scans stop in it; what the readers answer.
 -- Assumes nothing.
 use mathlib.Core.Path.{_≡_, refl, sym, ap, _∙_}
-use mathlib.Core.Bool.{Bool, true, false, cond, not, _&&_, _||_}
+use mathlib.Core.Bool.{Bool, true, false, _&&_}
 use mathlib.Core.List.{List, []}
-use Prim.Native.Nat.{ℕ, _+_, _-_, _*_, _^_, _≤_, _<_}
+use Prim.Native.Nat.{ℕ, _+_, _-_, _*_, _≤_}
 use native.Mathlib.Omega.{arith}
 use borrow.Author.Tests.{eqb-true, eq-eqb, ne-eqb, le-ltb, not-true}
 use lib.Dec.{eqb, ltb}
@@ -12,9 +12,7 @@ use lib.IntN.{pos}
 use lib.ListN.{length, drop, getD, length-drop, drop-of-length-le}
 use lib.Seq.{take-all, getD-drop}
 use Rattle.text.specs.Bytes.{isSpace, isDigit, isSign, ascii}
-use Rattle.text.specs.Places.{run, past, has, part}
-use Rattle.text.specs.Number.{numeral}
-use Rattle.text.specs.declared.number.Integer.the-variants.{NotOne}
+use Rattle.text.specs.Places.{past, has, part}
 use Rattle.text.specs.declared.number.LeadingInteger.{LeadingInteger}
 use Rattle.text.proofs.Lists.{by-test, both}
 use Rattle.text.proofs.Runs.{run-le-length, past-le-length, past-of-true, past-of-false, past-of-length-le, has-nil}

@@ -1,6 +1,5 @@
 -- `header::offset::two_digits` meets its contract: two digits are at most 99.
 -- Assumes nothing.
-use mathlib.Core.Path.{_≡_}
 use Prim.Native.Nat.{_+_, _-_, _*_, _<_, _^_}
 use native.Mathlib.Omega.{arith}
 use mir.Syntax.{w64}

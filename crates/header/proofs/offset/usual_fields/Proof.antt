@@ -1,16 +1,13 @@
 -- `header::offset::usual_fields` meets its contract: its tests are the definition's, and two digits are a field.
 -- Assumes nothing.
-use mathlib.Core.Path.{_≡_, refl, sym, ap, _∙_}
+use mathlib.Core.Path.{_≡_, sym, _∙_}
 use mathlib.Core.Bool.{true}
 use Prim.Native.Nat.{_+_}
 use native.Mathlib.Omega.{arith}
-use borrow.Author.Tests.{ne-eqb}
 use lib.ListN.{length}
 use mir.Syntax.{w64}
 use Rattle.ints.proofs.Machine.{back}
 use Rattle.text.proofs.Numbers.{digit-range}
-use Rattle.header.specs.Walk.{isUsual, usualOf}
-use Rattle.header.specs.declared.offset.Parsed.the-variants.{Offset}
 use Rattle.header.proofs.Usual.{tests, Usual, Usual-of-tests, usualOf-of-tests, usualOf-of-no-test, usualOf-of-length, fieldsOf-of-usual}
 use borrow.Author.Needs.{needs}
 use Rattle.header.proofs.offset.usual_fields.Statement.{statement}
