@@ -41,7 +41,7 @@ Opened s r = let first = past isSpace s 0 in LeadsWith (2 ^ 63) (drop first s) f
 unfoldable pub isUsual : List ℕ → ℕ → Bool
 isUsual s at =
     eqb (length s) (at + 6)
-    && (eqb (getD s at 0) 32 && isSign (getD s (at + 1) 0) && (isDigit (getD s (at + 2) 0) && isDigit (getD s (at + 3) 0)) && (isDigit (getD s (at + 4) 0) && isDigit (getD s (at + 5) 0)))
+    && (eqb (getD s at 0) (code " ") && isSign (getD s (at + 1) 0) && (isDigit (getD s (at + 2) 0) && isDigit (getD s (at + 3) 0)) && (isDigit (getD s (at + 4) 0) && isDigit (getD s (at + 5) 0)))
 
 -- and the fields in it
 unfoldable pub usualOf : List ℕ → ℕ → Parsed

@@ -1,6 +1,7 @@
 // The dates of commits: the header reader, `1745582210 +0200`, and in `raw` the stricter one. Each
 // answers for every text, of any length and any bytes, in one pass from front to end, and copies no
-// part of it.
+// part of it. The form that every commit has is told right behind its number; only a text of another
+// form has the six bytes of that test read again.
 mod offset;
 pub mod raw;
 mod walk;
@@ -19,7 +20,8 @@ use time::Refusal;
 use time::Time;
 
 // A header date. 1 for a byte of 128 or more, then 2 for a `:` anywhere and for a first word that
-// gives no number. A bad or surplus second word is no refusal: it gives offset 0.
+// gives no number. A bad or surplus second word is no refusal: it gives offset 0. In the form that
+// every commit has, nothing more is asked of the words: the number and the six bytes behind it are all.
 pub fn parse_header(s: &[u8]) -> Answer
     ensures { λ r. ⌜ r ≡ headerOf (now (s .entry)) ⌝ }
 {
@@ -39,7 +41,7 @@ pub fn parse_header(s: &[u8]) -> Answer
     })
 }
 
-// Of any other form.
+// A text of any other form goes the whole walk, on from the number.
 fn parse_other(s: &[u8], opening: LeadingInteger) -> Answer
     requires { ⌜ Opened (now s) opening ⌝ }
     ensures { λ r. ⌜ r ≡ headerOf (now (s .entry)) ⌝ }

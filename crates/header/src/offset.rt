@@ -1,5 +1,6 @@
 // What an offset's word holds, for both readers: 5 or 7 bytes, a sign, and behind it two-byte
-// fields: hours, minutes, perhaps seconds. The readers differ in the numbers that a field may be.
+// fields: hours, minutes, perhaps seconds. The readers differ in the numbers that a field may be. The
+// word of every commit, a sign and four digits, is read in one step.
 ghost use mathlib.Core.Path.{_≡_};
 ghost use mathlib.Core.Bool.{_&&_};
 ghost use Prim.Native.Nat.{_+_, _-_, _*_, _≤_};
@@ -34,7 +35,8 @@ pub enum Parsed {
     NoOffset,
 }
 
-// The tail that every commit's date has from `at` on: a space, a sign, four digits, and nothing behind them. Any other gives none.
+// The tail that every commit's date has behind its number: a space, a sign, four digits, and nothing more. It holds an offset for both
+// readers, since two digits are a field of either kind. One test tells it, with no branch between its bytes; any other tail gives none.
 pub fn usual_fields(s: &[u8], at: usize) -> Parsed
     requires { ⌜ at ≤ length (now s) ⌝ }
     ensures { λ r. ⌜ r ≡ usualOf (now (s .entry)) at ⌝ }

@@ -28,7 +28,7 @@ pub fn parse_raw(s: &[u8]) -> Answer
     parse_raw_by(s, Rule::One)
 }
 
-// The form that every commit has is told right behind its number; all else goes the whole walk.
+// The form that every commit has is told right behind its number, as the header reader tells it.
 fn parse_raw_by(s: &[u8], rule: Rule) -> Answer
     ensures { λ r. ⌜ r ≡ rawOf (limitsOf rule) (now (s .entry)) ⌝ }
 {
@@ -51,7 +51,7 @@ fn parse_raw_by(s: &[u8], rule: Rule) -> Answer
     Answer::Refused(Refusal::Form)
 }
 
-// Of any other form. A `:` stands in no number and in no offset.
+// A text of any other form goes the whole walk. A `:` stands in no number and in no offset.
 fn parse_other(s: &[u8], opening: LeadingInteger, rule: Rule) -> Answer
     requires { ⌜ Opened (now s) opening ⌝ }
     ensures { λ r. ⌜ r ≡ rawOf (limitsOf rule) (now (s .entry)) ⌝ }

@@ -1,6 +1,7 @@
-// One pass over a text, for both readers: the number that its first word opens with, and where the only other word stands. Whatever
-// no reader takes, a `:` or a byte of 128 or more, stops each scan, so what is passed needs no second look: a byte is looked at once,
-// but for those at which scans stop. Nothing is copied.
+// One pass over a text, for both readers: the number that its first word opens with, and where the only other word stands. The pass
+// halts behind the number (`open`), where the readers tell the form that every commit has; a text of another form goes on from there
+// (`walk`). Whatever no reader takes, a `:` or a byte of 128 or more, stops each scan, so what is passed needs no second look: a byte
+// is looked at once, but for those at which scans stop. Nothing is copied.
 ghost use mathlib.Core.Path.{_≡_};
 ghost use mathlib.Core.Bool.{cond, not, _||_};
 ghost use lib.ListN.{drop};
@@ -82,7 +83,7 @@ fn past_plain(s: &[u8], at: usize) -> usize
     i
 }
 
-// Past 32 there is no white space.
+// Above 32 no byte is white space, and nearly all bytes of a word are above it.
 fn is_plain(b: u8) -> bool
     ensures { λ r. ⌜ r ≡ isPlain b ⌝ }
 {
