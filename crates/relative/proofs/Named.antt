@@ -7,15 +7,16 @@ use mathlib.Core.List.{List, [], _∷_, reverse, reverse-cons, reverse-reverse}
 use Prim.Native.Nat.{ℕ, _≤_, _<_}
 use native.Mathlib.Omega.{arith}
 use native.Mathlib.Nat.{not-suc-le-zero}
-use borrow.Author.Tests.{leb-true, le-leb, lt-leb, lt-ltb, eqb-true}
-use lib.Dec.{leb, eqb}
+use borrow.Author.Tests.{le-leb, lt-leb, lt-ltb, eqb-true}
+use lib.Dec.{eqb}
 use lib.ListN.{length}
-use Rattle.text.specs.Bytes.{between, isSpace, isAlphanumeric, lowerOf, ascii, sameLetters}
+use Rattle.text.specs.Bytes.{isSpace, isAlphanumeric, lowerOf, ascii, sameLetters}
 use Rattle.text.specs.Quote.{bytes}
 use Rattle.text.specs.Trim.{trim, trimStart, trimEnd}
 use Rattle.text.specs.Words.{separator, pieces, full, words}
 use Rattle.text.specs.declared.words.Separator.the-variants.{Mark}
 use Rattle.text.specs.declared.number.Number.the-variants.{Not}
+use Rattle.text.proofs.Digits.{space-range}
 use Rattle.text.proofs.Lists.{by-test, both}
 use Rattle.text.proofs.LowerCase.{isAlphanumeric-lowerOf}
 use Rattle.text.proofs.Taking.{words-cons-separator, words-snoc-separator}
@@ -25,17 +26,10 @@ use Rattle.relative.specs.Pairs.{pairsFrom, pairsOf, known, agoIn}
 use Rattle.relative.specs.Relative.{from, namedOf, byPairs, relativeOf}
 
 -- ---- white space parts words
-isSpace-lt : (b : ℕ) → isSpace b ≡ true → b < 48
-unfolding isSpace
-isSpace-lt b =
-    by-test (between 9 13 b)
-    (λ e h. let l : b ≤ 13 = leb-true b 13 (both (leb 9 b) (leb b 13) e .1) in omega arith)
-    (λ e h. let l : b ≡ 32 = eqb-true b 32 (rw e at h) in omega arith)
-
 isSpace-separates : (b : ℕ) → isSpace b ≡ true → separator Mark b ≡ true
 unfolding isAlphanumeric
 isSpace-separates b h =
-    let l : b < 48 = isSpace-lt b h in
+    let l : b < 48 = omega (arith, space-range b h) in
     rw (lt-leb 48 b l, lt-leb 65 b (omega arith), lt-leb 97 b (omega arith))
 
 words-trimStart : (s : List ℕ) → words (separator Mark) (trimStart s) ≡ words (separator Mark) s

@@ -1,17 +1,17 @@
 -- Digits. In order: what a digit is not, and what is none; two digits of a number below 100, and their value.
 -- Assumes nothing.
 use mathlib.Core.Path.{_≡_, refl, sym, ap, _∙_}
-use mathlib.Core.Bool.{Bool, true, false, false≢true}
+use mathlib.Core.Bool.{Bool, true, false, _&&_, false≢true}
 use mathlib.Core.List.{[]}
 use Prim.Native.Nat.{ℕ, _+_, _-_, _*_, _/_, _%_, _≤_, _<_}
 use native.Mathlib.Omega.{arith}
-use borrow.Author.Tests.{ne-eqb, le-leb, lt-leb}
-use lib.Dec.{eqb}
+use borrow.Author.Tests.{ne-eqb, le-leb, lt-leb, leb-true, eqb-true}
+use lib.Dec.{leb, eqb}
 use Rattle.text.specs.Bytes.{isDigit, isSpace, isSign}
 use Rattle.text.specs.Decimal.{twoBefore}
 use Rattle.text.specs.Number.{readFrom, digitsOf, unsignedOf}
 use Rattle.text.specs.declared.number.Number.the-variants.{Value}
-use Rattle.text.proofs.Lists.{by-test}
+use Rattle.text.proofs.Lists.{by-test, both}
 use Rattle.text.proofs.Numbers.{digit-range, isDigit-of-le}
 
 -- ---- what a digit is not
@@ -41,6 +41,11 @@ isDigit-of-space b h = by-test (isDigit b) (λ p. absurd (false≢true (sym (isS
 pub isSign-of-space : (b : ℕ) → isSpace b ≡ true → isSign b ≡ false
 unfolding isSign isSpace
 isSign-of-space b h = rw (eqb-of-test isSpace b 43 h refl, eqb-of-test isSpace b 45 h refl)
+
+-- white space is byte 32 at most
+pub space-range : (b : ℕ) → isSpace b ≡ true → b ≤ 32
+unfolding isSpace
+space-range b e = by-test (leb 9 b && leb b 13) (λ k. omega (arith, leb-true b 13 (both (leb 9 b) (leb b 13) k .1))) (λ k. omega (arith, eqb-true b 32 (rw k at e)))
 
 module _ (b : ℕ) (p : isDigit b ≡ true) where
   pub no-space : eqb b 32 ≡ false
