@@ -3,13 +3,13 @@
 -- (`Opens-of-Placed`); what the readers answer by it.
 -- Assumes nothing.
 use mathlib.Core.Path.{_≡_, refl, sym, ap, _∙_}
-use mathlib.Core.Bool.{Bool, true, false, cond, not, _&&_, _||_}
+use mathlib.Core.Bool.{Bool, true, false, cond, not, _&&_, _||_, and-false}
 use mathlib.Core.List.{List, [], _∷_}
 use Prim.Native.Nat.{ℕ, zero, suc, _+_, _^_, _≤_, _<_}
 use native.Mathlib.Omega.{arith}
 use native.Mathlib.Nat.{add-sub-cancel-left}
-use borrow.Author.Tests.{lt-ltb, eqb-true, eqb-false, ne-eqb, not-true}
-use lib.Dec.{ltb, eqb}
+use borrow.Author.Tests.{lt-ltb, eqb-true, eqb-false, ne-eqb, lt-leb, not-true}
+use lib.Dec.{leb, ltb, eqb}
 use lib.ListN.{length, take, drop, getD}
 use lib.Seq.{take-all, take-take, length-take-le}
 use Rattle.text.specs.Bytes.{isSpace, isDigit, isSign, ascii}
@@ -20,7 +20,6 @@ use Rattle.text.specs.declared.number.Integer.{Integer}
 use Rattle.text.specs.declared.number.Integer.the-variants.{Is, NotOne}
 use Rattle.text.specs.declared.number.LeadingInteger.{LeadingInteger}
 use Rattle.text.proofs.Lists.{by-test, both}
-use Rattle.text.proofs.Digits.{space-range}
 use Rattle.text.proofs.Runs.{past-add, run-le-length, same-drop-past, has-cons}
 use Rattle.text.proofs.Taking.{ltb-zero-length-words, getD-words-zero, drop-one-words}
 use Rattle.text.proofs.Numbers.{digit-range, signedOf-of-numeral-lt, numeral-of-digits, numeral-le-run, numeral-leading, isSign-leading}
@@ -32,8 +31,13 @@ use Rattle.header.specs.Walk.{isPlain, spanOf, nowhere, Opens, Walks}
 use Rattle.header.specs.declared.offset.Field.the-variants.{Byte}
 use Rattle.header.specs.declared.walk.First.{First}
 use Rattle.header.specs.declared.walk.Walked.the-variants.{Words}
+use Rattle.text.proofs.Digits.{space-range}
 
 -- ---- which bytes are of a word
+pub isSpace-of-lt : (b : ℕ) → 32 < b → isSpace b ≡ false
+unfolding isSpace
+isSpace-of-lt b h = rw (lt-leb b 13 (omega arith), and-false (leb 9 b), ne-eqb b 32 (λ e. omega arith))
+
 record Plain (b : ℕ) : Type 0 where
   no-space : no isSpace b ≡ true
   no-colon : eqb b 58 ≡ false
