@@ -5,7 +5,7 @@
 ghost use mathlib.Core.Path.{_≡_};
 ghost use mathlib.Core.Bool.{cond, not, _||_};
 ghost use lib.ListN.{drop};
-ghost use Rattle.text.specs.Bytes.{ascii as asciiOf};
+ghost use Rattle.text.specs.Bytes.{isSpace, ascii as asciiOf};
 ghost use Rattle.text.specs.Places.{past, has};
 ghost use Rattle.text.specs.declared.number.Integer.the-variants.{NotOne};
 ghost use Rattle.header.specs.Walk.{isPlain, nowhere, spanOf, Opened, Walks};
@@ -35,8 +35,20 @@ pub enum Walked {
 pub fn open(s: &[u8]) -> LeadingInteger
     ensures { λ r. ⌜ Opened (now (s .entry)) r ⌝ }
 {
-    let first = words::word_start(s, 0, Separator::Space);
-    number::leading_integer(s, first, 9223372036854775808)
+    number::leading_integer(s, first_word(s), 9223372036854775808)
+}
+
+// Nearly no text opens with white space, and a byte above 32 is none.
+fn first_word(s: &[u8]) -> usize
+    ensures { λ r. ⌜ r ≡ past isSpace (now (s .entry)) 0 ⌝ }
+{
+    if s.len() == 0 {
+        return 0;
+    }
+    if 32 < s[0] {
+        return 0;
+    }
+    words::word_start(s, 0, Separator::Space)
 }
 
 // Past the rest of the first word, white space, the second, and white space again there is nothing left, or a third word, or a

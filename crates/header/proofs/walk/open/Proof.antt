@@ -1,11 +1,11 @@
--- `header::walk::open` meets its contract: what is read stands past white space.
+-- `header::walk::open` meets its contract: what is read opens the first word.
 -- Assumes nothing.
 use borrow.Author.Needs.{needs}
 use Rattle.header.proofs.walk.open.Statement.{statement}
 use Rattle.header.proofs.walk.open.Tie as tie
 
 returns : tie.Need-returns
-returns c = rw (c .before .word-start .ensures) at (c .leading-integer .ensures)
+returns c = rw (c .before .first-word .ensures) at (c .leading-integer .ensures)
 
 pub open-spec : {M : Type 1} → statement M
 open-spec = tie.close (tie.spec (λ c κs. search needs) (λ c κs. search needs) returns)
