@@ -93,6 +93,22 @@ fn allows(rule: Rule, f: Fields) -> bool
     let m = f.minutes;
     let x = f.seconds;
     match rule {
-        Rule::One => (h <= 14) & ((m == 0) | (m == 15) | (m == 30) | (m == 45)) & (x == 0),
+        Rule::One => (h <= 14) & is_quarter(m) & (x == 0),
     }
+}
+
+// Rule 1's minutes, tested one by one: so they become one test of bits.
+fn is_quarter(m: i64) -> bool
+    ensures { λ r. ⌜ r ≡ rule1 .minutes m ⌝ }
+{
+    if m == 0 {
+        return true;
+    }
+    if m == 15 {
+        return true;
+    }
+    if m == 30 {
+        return true;
+    }
+    m == 45
 }

@@ -1,5 +1,6 @@
--- Laws. In order: lists at a place that a loop has reached; runs of bytes and places; trimming; taking words; a walker's words, and
--- what a walker owns; numbers; decimal digits; bytes put in front of a place; the document's examples.
+-- Laws. In order: lists at a place that a loop has reached; runs of bytes and places; the first place of a byte; trimming; taking
+-- words; a walker's words, and what a walker owns; numbers; digits; decimal digits; bytes put in front of a place; texts whose
+-- bytes are known; letter case; the document's examples.
 pub mod Lists
 pub mod Runs
 pub mod FirstPlaces
