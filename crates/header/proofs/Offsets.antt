@@ -25,13 +25,12 @@ use Rattle.text.specs.declared.number.Integer.the-variants.{Is, NotOne}
 use Rattle.text.proofs.Lists.{by-test, drop-cons-add-one}
 use Rattle.text.proofs.Numbers.{digit-range, Short, Below, signedOf-short, unsignedOf-below, fitSigned-of-length, fit-of-length}
 use Rattle.text.proofs.Texts.{signedOf-of-unsignedOf}
-use Rattle.header.specs.Offset.{fiveOrSeven, fieldOf, lastField, together, fieldsOf, Small}
+use Rattle.header.specs.Offset.{fiveOrSeven, fieldOf, lastField, together, fieldsOf, Small, AllSmall}
 use Rattle.header.specs.Header.{headerOffset}
 use Rattle.header.specs.Raw.{eqZ}
 use Rattle.header.specs.declared.offset.Field.{Field}
 use Rattle.header.specs.declared.offset.Field.the-variants.{Signed, Byte}
 use Rattle.header.specs.declared.offset.Fields.{Fields}
-use Rattle.header.specs.declared.offset.Parsed.{Parsed}
 use Rattle.header.specs.declared.offset.Parsed.the-variants.{Offset, NoOffset}
 
 pub le-of-fiveOrSeven : (n : ℕ) → fiveOrSeven n ≡ true → 5 ≤ n
@@ -74,10 +73,6 @@ lastField-two-bytes : (by : Field) (w : List ℕ) → TwoBytes (lastField by w)
 unfolding lastField
 lastField-two-bytes by w = by-test (eqb (length w) 7) (λ e. rw e (fieldOf-two-bytes by w 5)) (λ e. rw e (two-bytes (pos 0) (omega arith)))
 
-abbrev AllSmall : Parsed → Type 0
-AllSmall (Offset f) = Small f
-AllSmall NoOffset = Unit {0}
-
 together-small : (minus : Bool) (h m x : Integer) → TwoBytes h → TwoBytes m → TwoBytes x → AllSmall (together minus h m x)
 together-small minus (Is h) (Is m) (Is x) p q r = record { hours-in = p; minutes-in = q; seconds-in = r }
 together-small minus NotOne m x p q r = tt
@@ -119,7 +114,7 @@ module _ (by : Field) (w : List ℕ) where
   unfolding fieldsOf
   fieldsOf-of-sign b = by-test (fiveOrSeven (length w)) (λ a. rw (a, b)) (λ a. rw a)
 
-  fieldsOf-all-small : AllSmall (fieldsOf by w)
+  pub fieldsOf-all-small : AllSmall (fieldsOf by w)
   fieldsOf-all-small =
       by-test (fiveOrSeven (length w))
       (λ a.
@@ -129,11 +124,12 @@ module _ (by : Field) (w : List ℕ) where
   pub fieldsOf-small : (f : Fields) → fieldsOf by w ≡ Offset f → Small f
   fieldsOf-small f e = rw e at fieldsOf-all-small
 
-pub headerOffset-small : (w : List ℕ) (f : Fields) → headerOffset w ≡ Offset f → Small f
+pub headerOffset-all-small : (w : List ℕ) → AllSmall (headerOffset w)
 unfolding headerOffset
-headerOffset-small w f e =
-    by-test (isDigit (getD w 1 0)) (λ d. fieldsOf-small Signed w f (rw d at e))
-    (λ d. let k = rw d at e in let q : _≡_ {A = ℕ} 0 1 = cc in absurd (omega arith))
+headerOffset-all-small w = by-test (isDigit (getD w 1 0)) (λ d. rw d (fieldsOf-all-small Signed w)) (λ d. rw d tt)
+
+pub headerOffset-small : (w : List ℕ) (f : Fields) → headerOffset w ≡ Offset f → Small f
+headerOffset-small w f e = rw e at (headerOffset-all-small w)
 
 -- ---- the same integer
 eqZ-refl : (z : ℤ) → eqZ z z ≡ true

@@ -10,7 +10,7 @@ use borrow.Author.Tests.{eqb-true, eq-eqb, ne-eqb, le-ltb, not-true}
 use lib.Dec.{eqb, ltb}
 use lib.IntN.{pos}
 use lib.ListN.{length, drop, getD, length-drop, drop-of-length-le}
-use lib.Seq.{take-all, getD-drop}
+use lib.Seq.{take-all, take-nil, getD-drop}
 use Rattle.text.specs.Bytes.{isSpace, isDigit, isSign, ascii}
 use Rattle.text.specs.Places.{past, has, part}
 use Rattle.text.specs.declared.number.LeadingInteger.{LeadingInteger}
@@ -145,33 +145,36 @@ module _ (s : List ℕ) (r : LeadingInteger) (l : Opened s r) where
       let n = numeral-le-run isPlain isPlain-of-isSign isPlain-of-isDigit (drop first s) in
       omega (arith, l .end-is, n, run-le-length isPlain (drop first s), length-drop first s, past-le-length isSpace s 0 (omega arith))
 
-  module _ (u : Usual s (r .end)) where
-    placed : Placed s (past isSpace s 0) (r .end) (r .end) (r .end + 1) (r .end + 6) (r .end + 6)
-    placed =
-        record {
-          first-is = refl;
-          o-is = l .end-is;
-          first-end-is = sym (first-end-is s (r .end) u);
-          second-is = sym (second-is s (r .end) u);
-          second-end-is = sym (second-end-is s (r .end) u);
-          third-is = sym (past-of-length-le isSpace s (r .end + 6) (omega (arith, u .length-is)));
-        }
-
-    nothing-left : drop (r .end + 6) s ≡ []
-    nothing-left = drop-of-length-le s {i = r .end + 6} (omega (arith, u .length-is))
+  -- the number is the first word, and past the second word there is nothing left
+  module _ (second second-end third : ℕ) (p : Placed s (past isSpace s 0) (r .end) (r .end) second second-end third) (n : length s ≤ third) where
+    nothing-left : drop third s ≡ []
+    nothing-left = drop-of-length-le s {i = third} n
 
     ascii-is : ascii s ≡ true
     unfolding ascii
-    ascii-is = ascii-kept _ _ _ _ _ _ _ placed ∙ rw nothing-left
+    ascii-is = ascii-kept _ _ _ _ _ _ _ p ∙ rw nothing-left
 
     has-is : has 58 s ≡ false
-    has-is = has-kept _ _ _ _ _ _ _ placed ∙ rw nothing-left (has-nil 58)
+    has-is = has-kept _ _ _ _ _ _ _ p ∙ rw nothing-left (has-nil 58)
 
-    walks : Walks s (Words (record { seconds = r .number; whole = true; second = spanOf (r .end + 1) (r .end + 6) }))
+    walks : Walks s (Words (record { seconds = r .number; whole = true; second = spanOf second second-end }))
     walks =
         let same : eqb (r .end) (r .end) ≡ true = eq-eqb (r .end) (r .end) refl in
-        let done : ltb (r .end + 6) (length s) ≡ false = le-ltb (r .end + 6) (length s) (omega (arith, u .length-is)) in
-        (ascii-is, has-is, rw (same, done) at (Opens-of-Placed s ascii-is has-is _ _ _ _ _ _ placed r l (r .number) (rw same)))
+        let done : ltb third (length s) ≡ false = le-ltb third (length s) n in
+        (ascii-is, has-is, rw (same, done) at (Opens-of-Placed s ascii-is has-is _ _ _ _ _ _ p r l (r .number) (rw same)))
+
+  usual-walks : Usual s (r .end) → Walks s (Words (record { seconds = r .number; whole = true; second = spanOf (r .end + 1) (r .end + 6) }))
+  usual-walks u =
+      walks (r .end + 1) (r .end + 6) (r .end + 6)
+      (record {
+        first-is = refl;
+        o-is = l .end-is;
+        first-end-is = sym (first-end-is s (r .end) u);
+        second-is = sym (second-is s (r .end) u);
+        second-end-is = sym (second-end-is s (r .end) u);
+        third-is = sym (past-of-length-le isSpace s (r .end + 6) (omega (arith, u .length-is)));
+      })
+      (omega (arith, u .length-is))
 
   -- ---- what the readers answer
   module _ (f : Fields) (e : usualOf s (r .end) ≡ Offset f) where
@@ -181,9 +184,19 @@ module _ (s : List ℕ) (r : LeadingInteger) (l : Opened s r) where
     pub headerOf-of-usual : headerOf s ≡ headerTime (r .number) (Offset f)
     headerOf-of-usual =
         let t = usual-told s (r .end) f e in
-        headerOf-of-Words s _ (walks (t .0)) ∙ rw (part-is s (r .end) (t .0), headerOffset-of-usual s (r .end) (t .0), t .1)
+        headerOf-of-Words s _ (usual-walks (t .0)) ∙ rw (part-is s (r .end) (t .0), headerOffset-of-usual s (r .end) (t .0), t .1)
 
     pub rawOf-of-usual : (limits : Limits) → rawOf limits s ≡ rawTime limits (r .number) (Offset f)
     rawOf-of-usual limits =
         let t = usual-told s (r .end) f e in
-        rawOf-of-Words s _ (walks (t .0)) limits ∙ rw (part-is s (r .end) (t .0), t .1)
+        rawOf-of-Words s _ (usual-walks (t .0)) limits ∙ rw (part-is s (r .end) (t .0), t .1)
+
+  -- a number alone has no second word
+  pub headerOf-of-alone : r .end ≡ length s → headerOf s ≡ headerTime (r .number) NoOffset
+  unfolding headerOffset isDigit
+  headerOf-of-alone e =
+      let done : length s ≤ r .end = omega arith in
+      let there : (q : ℕ → Bool) → r .end ≡ past q s (r .end) = λ q. sym (past-of-length-le q s (r .end) done) in
+      let w = walks (r .end) (r .end) (r .end) (record { first-is = refl; o-is = l .end-is; first-end-is = there isPlain; second-is = there isSpace; second-end-is = there isPlain; third-is = there isSpace }) done in
+      let none : part s (spanOf (r .end) (r .end)) ≡ [] = rw (drop-of-length-le s {i = r .end} done) (take-nil (r .end - r .end)) in
+      headerOf-of-Words s _ w ∙ rw none

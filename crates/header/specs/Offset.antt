@@ -66,3 +66,7 @@ pub record Small (f : Fields) : Type 0 where
   pub hours-in : In (negsuc 98) (pos 99) (f .hours)
   pub minutes-in : In (negsuc 98) (pos 99) (f .minutes)
   pub seconds-in : In (negsuc 98) (pos 99) (f .seconds)
+
+abbrev pub AllSmall : Parsed → Type 0
+AllSmall (Offset f) = Small f
+AllSmall NoOffset = Unit {0}

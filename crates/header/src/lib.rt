@@ -7,7 +7,8 @@ pub mod raw;
 mod walk;
 
 ghost use mathlib.Core.Path.{_≡_};
-ghost use Rattle.header.specs.Header.{headerOffset, headerOf};
+ghost use Rattle.header.specs.Header.{headerOffset, headerTime, headerOf};
+ghost use Rattle.header.specs.Offset.{AllSmall};
 ghost use Rattle.header.specs.Walk.{Opened};
 use crate::offset::Field;
 use crate::offset::Parsed;
@@ -20,25 +21,22 @@ use time::Refusal;
 use time::Time;
 
 // A header date. 1 for a byte of 128 or more, then 2 for a `:` anywhere and for a first word that
-// gives no number. A bad or surplus second word is no refusal: it gives offset 0. In the form that
-// every commit has, nothing more is asked of the words: the number and the six bytes behind it are all.
+// gives no number. A bad or surplus second word is no refusal: it gives offset 0. Of a number alone, and
+// in the form that every commit has, nothing more is asked of the words.
 pub fn parse_header(s: &[u8]) -> Answer
     ensures { λ r. ⌜ r ≡ headerOf (now (s .entry)) ⌝ }
 {
     let opening = walk::open(s);
-    let usual = offset::usual_fields(s, opening.end);
+    let seconds = opening.number;
+    let end = opening.end;
+    if end == s.len() {
+        return header_time(seconds, Parsed::NoOffset);
+    }
+    let usual = offset::usual_fields(s, end);
     let Parsed::Offset(f) = usual else {
         return parse_other(s, opening);
     };
-    let seconds = opening.number;
-    let Integer::Is(z) = seconds else {
-        return Answer::Refused(Refusal::Form);
-    };
-    let o = offset::seconds_of(f);
-    Answer::Time(Time {
-        seconds: z,
-        offset: o,
-    })
+    header_time(seconds, Parsed::Offset(f))
 }
 
 // A text of any other form goes the whole walk, on from the number.
@@ -52,24 +50,24 @@ fn parse_other(s: &[u8], opening: LeadingInteger) -> Answer
         Walked::Colon => Answer::Refused(Refusal::Form),
         Walked::Words(first) => {
             let seconds = first.seconds;
-            let Integer::Is(z) = seconds else {
-                return Answer::Refused(Refusal::Form);
-            };
             let second = first.second;
             let parsed = parse_offset(text::words::within(s, second));
-            let Parsed::Offset(f) = parsed else {
-                let utc = Time {
-                    seconds: z,
-                    offset: 0,
-                };
-                return Answer::Time(utc);
-            };
-            let o = offset::seconds_of(f);
-            Answer::Time(Time {
-                seconds: z,
-                offset: o,
-            })
+            header_time(seconds, parsed)
         }
+    }
+}
+
+// No number is 2; no offset is 0.
+fn header_time(n: Integer, p: Parsed) -> Answer
+    requires { ⌜ AllSmall p ⌝ }
+    ensures { λ r. ⌜ r ≡ headerTime n p ⌝ }
+{
+    let Integer::Is(z) = n else {
+        return Answer::Refused(Refusal::Form);
+    };
+    match p {
+        Parsed::Offset(f) => Answer::Time(Time::new(z, offset::seconds_of(f))),
+        Parsed::NoOffset => Answer::Time(Time::new(z, 0)),
     }
 }
 

@@ -1,7 +1,8 @@
 // The raw reader: two words, the header's form with nothing forgiven. Its limits on hours and
 // minutes are those of a rule.
 ghost use mathlib.Core.Path.{_≡_};
-ghost use Rattle.header.specs.Raw.{rule1, limitsOf, allows as allowsOf, rawOf};
+ghost use Rattle.header.specs.Raw.{rule1, limitsOf, allows as allowsOf, rawTime, rawOf};
+ghost use Rattle.header.specs.Offset.{AllSmall};
 ghost use Rattle.header.specs.Walk.{Opened};
 use crate::offset;
 use crate::offset::Field;
@@ -38,17 +39,7 @@ fn parse_raw_by(s: &[u8], rule: Rule) -> Answer
         return parse_other(s, opening, rule);
     };
     let seconds = opening.number;
-    let Integer::Is(z) = seconds else {
-        return Answer::Refused(Refusal::Form);
-    };
-    if allows(rule, f) {
-        let o = offset::seconds_of(f);
-        return Answer::Time(Time {
-            seconds: z,
-            offset: o,
-        });
-    }
-    Answer::Refused(Refusal::Form)
+    raw_time(rule, seconds, Parsed::Offset(f))
 }
 
 // A text of any other form goes the whole walk. A `:` stands in no number and in no offset.
@@ -63,26 +54,30 @@ fn parse_other(s: &[u8], opening: LeadingInteger, rule: Rule) -> Answer
         Walked::Words(first) => {
             if first.whole {
                 let seconds = first.seconds;
-                let Integer::Is(z) = seconds else {
-                    return Answer::Refused(Refusal::Form);
-                };
                 let second = first.second;
                 let parsed = offset::parse_fields(text::words::within(s, second), Field::Byte);
-                let Parsed::Offset(f) = parsed else {
-                    return Answer::Refused(Refusal::Form);
-                };
-                if allows(rule, f) {
-                    let o = offset::seconds_of(f);
-                    return Answer::Time(Time {
-                        seconds: z,
-                        offset: o,
-                    });
-                }
-                return Answer::Refused(Refusal::Form);
+                return raw_time(rule, seconds, parsed);
             }
             Answer::Refused(Refusal::Form)
         }
     }
+}
+
+// 2 unless both are read, and the rule lets the fields through.
+fn raw_time(rule: Rule, n: Integer, p: Parsed) -> Answer
+    requires { ⌜ AllSmall p ⌝ }
+    ensures { λ r. ⌜ r ≡ rawTime (limitsOf rule) n p ⌝ }
+{
+    let Integer::Is(z) = n else {
+        return Answer::Refused(Refusal::Form);
+    };
+    let Parsed::Offset(f) = p else {
+        return Answer::Refused(Refusal::Form);
+    };
+    if allows(rule, f) {
+        return Answer::Time(Time::new(z, offset::seconds_of(f)));
+    }
+    Answer::Refused(Refusal::Form)
 }
 
 // Rule 1: hours at most 14; minutes 0, 15, 30 or 45. By any rule seconds are 0.

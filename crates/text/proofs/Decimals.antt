@@ -1,9 +1,9 @@
 -- Laws of plain decimal: what stands behind the digits (`decimalBefore-append`), that they are digits, at least one, and that reading
 -- them gives the number back (`readFrom-decimalBefore`). Assumes nothing.
-use mathlib.Core.Path.{_≡_, refl, ap, _∙_}
+use mathlib.Core.Path.{_≡_, refl, sym, ap, _∙_}
 use mathlib.Core.Bool.{Bool, true, false}
 use mathlib.Core.List.{List, [], _∷_, _++_}
-use Prim.Native.Nat.{ℕ, zero, suc, _+_, _-_, _*_, _/_, _%_, _^_, _≤_, _<_}
+use Prim.Native.Nat.{ℕ, zero, suc, _+_, _*_, _/_, _%_, _^_, _≤_, _<_}
 use native.Mathlib.Omega.{arith}
 use borrow.Author.Tests.{ltb-true, ltb-false}
 use lib.Dec.{ltb}
@@ -11,7 +11,7 @@ use lib.ListN.{length, length-append}
 use Rattle.text.specs.Number.{readFrom}
 use Rattle.text.proofs.Lists.{by-test}
 use Rattle.text.proofs.Numbers.{readFrom-cons, isDigit-of-le}
-use native.Mathlib.Nat.{pow-suc, one-le-pow}
+use native.Mathlib.Nat.{pow-suc, pow-succ', one-le-pow, zero-add, div-one, div-div-eq-div-mul}
 use Rattle.text.specs.Decimal.{decimal, decimalBefore, decimalBy}
 
 -- every byte from lo to hi
@@ -129,9 +129,6 @@ length-decimal-le (suc k) n h =
     let m : n / 10 < 10 ^ suc k = omega arith in
     omega (arith, length-decimal-of-le n (ltb-false n 10 e), length-decimal-le k (n / 10) m))
 
-pub length-decimal-le-20 : (n : ℕ) → n < 2 ^ 64 → length (decimal n) ≤ 20
-length-decimal-le-20 n h = length-decimal-le 19 n (omega arith)
-
 -- at least k + 1 digits from 10 ^ k on
 pub le-length-decimal : (k n : ℕ) → 10 ^ k ≤ n → suc k ≤ length (decimal n)
 le-length-decimal zero n h = length-decimal-pos n
@@ -140,3 +137,18 @@ le-length-decimal (suc k) n h =
     let o : 1 ≤ 10 ^ k = one-le-pow k 10 (omega arith) in
     let m : 10 ^ k ≤ n / 10 = omega arith in
     omega (arith, length-decimal-of-le n (omega arith), le-length-decimal k (n / 10) m)
+
+-- so just k + 1 digits between the two
+pub length-decimal-between : (k n : ℕ) → 10 ^ k ≤ n → n < 10 ^ suc k → length (decimal n) ≡ suc k
+length-decimal-between k n h i = omega (arith, le-length-decimal k n h, length-decimal-le k n i)
+
+-- k digits stand behind those of n / 10 ^ k
+pub length-decimal-div : (k n : ℕ) → 10 ^ k ≤ n → length (decimal n) ≡ k + length (decimal (n / 10 ^ k))
+length-decimal-div zero n h = ap (λ (m : ℕ). length (decimal m)) (sym (div-one n)) ∙ sym (zero-add _)
+length-decimal-div (suc k) n h =
+    let p : 10 ^ suc k ≡ 10 * 10 ^ k = pow-succ' 10 k in
+    let o : 1 ≤ 10 ^ k = one-le-pow k 10 (omega arith) in
+    let m : 10 ^ k ≤ n / 10 = omega arith in
+    let d : n / 10 / 10 ^ k ≡ n / 10 ^ suc k = div-div-eq-div-mul n 10 (10 ^ k) ∙ ap (λ (x : ℕ). n / x) (sym p) in
+    let e : length (decimal (n / 10)) ≡ k + length (decimal (n / 10 ^ suc k)) = rw d at (length-decimal-div k (n / 10) m) in
+    omega (arith, length-decimal-of-le n (omega arith), e)

@@ -1,13 +1,13 @@
 -- Bytes put in front of a place e of a room. In order: one byte; what stands before the place and from it on; digits put one by one
--- from the last; two bytes; a second put in front of the first.
+-- from the last; two bytes; digits put two by two; a second put in front of the first.
 -- Assumes nothing.
 use mathlib.Core.Path.{_≡_, sym, ap, _∙_}
 use mathlib.Core.List.{List, _∷_, _++_}
 use Prim.Native.Nat.{ℕ, suc, _+_, _-_, _/_, _%_, _≤_, _<_}
 use native.Mathlib.Omega.{arith}
-use lib.ListN.{length, take, drop, set, length-set}
+use lib.ListN.{length, take, drop, set, length-set, length-append, length-drop}
 use lib.Seq.{set-split, take-append-le, take-take, drop-at, length-take-le}
-use Rattle.text.specs.Decimal.{decimal, decimalBefore}
+use Rattle.text.specs.Decimal.{decimal, decimalBefore, twoBefore}
 use Rattle.text.proofs.Decimals.{decimalBefore-of-le, decimalBefore-of-lt, length-decimal-of-le, length-decimal-of-lt, length-decimal-pos}
 
 pub set-put : (l : List ℕ) (e b : ℕ) → 0 < e → e ≤ length l → set l (e - 1) b ≡ take (e - 1) l ++ b ∷ drop e l
@@ -50,6 +50,33 @@ two-put l e a b p h =
     let i : e - 2 ≤ e - 1 = omega arith in
     let j : e - 1 ≤ length l = omega arith in
     rw (k, take-put (e - 2) (e - 1) l (b ∷ drop e l) i j, drop-put (e - 1) l (b ∷ drop e l) j)
+
+pub length-two-put : (l : List ℕ) (e a b : ℕ) → 1 < e → e ≤ length l → length (take (e - 2) l ++ a ∷ b ∷ drop e l) ≡ length l
+length-two-put l e a b p h =
+    let t : length (take (e - 2) l) ≡ e - 2 = length-take-le (e - 2) l (omega arith) in
+    length-append (take (e - 2) l) (a ∷ b ∷ drop e l) ∙ omega (arith, t, length-drop e l)
+
+-- the last two digits first, and two digits alone
+pub put-two-of-le : (n e : ℕ) (l : List ℕ) → 100 ≤ n → length (decimal n) ≤ e → e ≤ length l
+    → put n e l ≡ put (n / 100) (e - 2) (take (e - 2) l ++ twoBefore (n % 100) (drop e l))
+put-two-of-le n e l h k i =
+    let d : length (decimal n) ≡ length (decimal (n / 10)) + 1 = length-decimal-of-le n (omega arith) in
+    let s : 0 < length (decimal (n / 10)) = length-decimal-pos (n / 10) in
+    let m : length (take (e - 1) l ++ (48 + n % 10) ∷ drop e l) ≡ length l = length-put l e (48 + n % 10) (omega arith) i in
+    let q : n / 10 / 10 ≡ n / 100 = omega arith in
+    let o : e - 1 - 1 ≡ e - 2 = omega arith in
+    let t : n / 10 % 10 ≡ n % 100 / 10 = omega arith in
+    let u : n % 10 ≡ n % 100 % 10 = omega arith in
+    put-of-le n e l (omega arith) k i
+    ∙ put-of-le (n / 10) (e - 1) _ (omega arith) (omega arith) (omega arith)
+    ∙ ap (put (n / 10 / 10) (e - 1 - 1)) (two-put l e (48 + n / 10 % 10) (48 + n % 10) (omega arith) i)
+    ∙ (λ j. put (q j) (o j) (take (e - 2) l ++ (48 + t j) ∷ (48 + u j) ∷ drop e l))
+
+pub put-two-of-lt : (n e : ℕ) (l : List ℕ) → 10 ≤ n → n < 100 → length (decimal n) ≤ e → e ≤ length l → put n e l ≡ take (e - 2) l ++ twoBefore n (drop e l)
+put-two-of-lt n e l h g k i =
+    let d : length (decimal n) ≡ length (decimal (n / 10)) + 1 = length-decimal-of-le n h in
+    let s : 0 < length (decimal (n / 10)) = length-decimal-pos (n / 10) in
+    put-of-le n e l h k i ∙ put-of-lt (n / 10) (e - 1) _ (omega arith) ∙ two-put l e (48 + n / 10) (48 + n % 10) (omega arith) i
 
 -- a second put, in front of the first
 pub put-put : (f : List ℕ → List ℕ) (l t r r′ : List ℕ) (i j e : ℕ) → r ≡ take e l ++ t → r′ ≡ take i r ++ f (drop e r) → i ≡ j → j ≤ e → e ≤ length l → r′ ≡ take j l ++ f t

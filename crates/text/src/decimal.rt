@@ -6,31 +6,58 @@ ghost use Prim.Native.Nat.{_+_, _-_, _≤_, _<_};
 ghost use lib.ListN.{length, take, drop};
 ghost use Rattle.text.specs.Decimal.{decimal, decimalBefore, twoBefore};
 
-// How many digits n has: powers of ten one by one, up to the last that is not above n. Zero has one digit.
+// How many digits n has, in fives: few comparisons find how many fives stand behind the first digits, which are counted. Zero has
+// one digit.
 pub fn count_digits(n: u64) -> usize
     ensures { λ r. ⌜ (r ≡ length (decimal n)) × (1 ≤ r) × (r ≤ 20) ⌝ }
 {
-    let tenth = n / 10;
-    let mut power: u64 = 1;
-    let mut k: usize = 1;
-    while power <= tenth {
-        power = 10 * power;
-        k += 1;
+    if n < 100000 {
+        return up_to_five(n);
     }
-    k
+    if n < 10000000000 {
+        return 5 + up_to_five(n / 100000);
+    }
+    if n < 1000000000000000 {
+        return 10 + up_to_five(n / 10000000000);
+    }
+    15 + up_to_five(n / 1000000000000000)
 }
 
-// The digits of n in front of `end`.
+// The times of our day have ten digits, so the test for five comes first.
+fn up_to_five(n: u64) -> usize
+    requires { ⌜ n < 100000 ⌝ }
+    ensures { λ r. ⌜ (r ≡ length (decimal n)) × (1 ≤ r) × (r ≤ 5) ⌝ }
+{
+    if 10000 <= n {
+        return 5;
+    }
+    if 1000 <= n {
+        return 4;
+    }
+    if 100 <= n {
+        return 3;
+    }
+    if 10 <= n {
+        return 2;
+    }
+    1
+}
+
+// The digits of n in front of `end`, two at a time: half as many divisions, of which each waits for the one before.
 pub fn put_decimal(n: u64, end: usize, room: &mut [u8])
     requires { ⌜ (length (decimal n) ≤ end) × (end ≤ length (now room)) ⌝ }
     ensures { λ _. ⌜ now (room .exit) ≡ take (end - length (decimal n)) (now (room .entry)) ++ decimalBefore n (drop end (now (room .entry))) ⌝ }
 {
     let mut v = n;
     let mut i = end;
-    while 10 <= v {
-        put_byte(digit(v % 10), i, room);
-        v = v / 10;
-        i -= 1;
+    while 100 <= v {
+        put_two(v % 100, i, room);
+        v = v / 100;
+        i -= 2;
+    }
+    if 10 <= v {
+        put_two(v, i, room);
+        return;
     }
     put_byte(digit(v), i, room);
 }

@@ -1,11 +1,7 @@
 -- `header::raw::parse_raw_by` meets its contract: in the usual form the number and the fields behind it decide, and any other is read
 -- word by word.
 -- Assumes nothing.
-use mathlib.Core.Path.{_≡_, sym, _∙_}
-use mir.Syntax.{w32, w64}
-use Rattle.ints.proofs.Machine.{back}
-use Rattle.header.specs.Raw.{limitsOf, rawOf, rawTime}
-use Rattle.header.specs.declared.offset.Parsed.the-variants.{Offset}
+use mathlib.Core.Path.{sym, _∙_}
 use Rattle.header.proofs.Usual.{end-le-length, usual-small, rawOf-of-usual}
 use borrow.Author.Needs.{needs}
 use Rattle.header.proofs.raw.parse_raw_by.Statement.{statement}
@@ -15,38 +11,16 @@ usual-fields-requires : tie.Need-usual-fields-requires
 usual-fields-requires c κs = end-le-length _ _ (c .«open» .ensures)
 
 -- the usual form
-usual-is : (c : tie.After-known-told) → let at-open = c .before .before .before .before in let a = at-open .before .before .args in rawOf (limitsOf (a .rule)) (a .s .now) ≡ rawTime (limitsOf (a .rule)) (at-open .«open» .result .number) (Offset (c .before .usual .given .0 .0))
-usual-is c =
+raw-time-requires : tie.Need-raw-time-requires
+raw-time-requires c κs =
     let at-fields = c .before .before .before in
-    rawOf-of-usual _ _ (at-fields .before .«open» .ensures) _ (sym (at-fields .usual-fields .ensures) ∙ c .before .usual .given .1) _
+    usual-small _ _ (at-fields .before .«open» .ensures) _ (sym (at-fields .usual-fields .ensures) ∙ c .before .usual .given .1)
 
--- a first word that is no number
 returns-2 : tie.Need-returns-2
-returns-2 c = rw (usual-is (c .before .before), c .enum-told2 .given .1)
-
-seconds-of-requires : tie.Need-seconds-of-requires
-seconds-of-requires c κs =
-    let at-fields = c .before .before .before .before .before .before .before .before in
-    usual-small _ _ (at-fields .before .«open» .ensures) _ (sym (at-fields .usual-fields .ensures) ∙ c .before .before .before .before .before .before .usual .given .1)
-
-returns-3 : tie.Need-returns-3
-returns-3 c =
-    let at-z = c .before .before .before in
-    rw (
-      back w64 (at-z .before .seconds .given .0 .0) (at-z .known-told2 .given .0 .1),
-      back w32 (c .seconds-of .result) (c .seconds-of .ok),
-      c .seconds-of .ensures,
-      usual-is (at-z .before .before .before),
-      at-z .before .seconds .given .1,
-      ← c .before .before .allows .ensures,
-      c .before .if1 .taken,
-    )
-
--- outside the limits
-returns-4 : tie.Need-returns-4
-returns-4 c =
-    let at-z = c .before .before in
-    rw (usual-is (at-z .before .before .before), at-z .before .seconds .given .1, ← c .before .allows .ensures, c .if1 .left)
+returns-2 c =
+    let at-usual = c .before .before in
+    let at-fields = at-usual .before .before in
+    c .raw-time .ensures ∙ sym (rawOf-of-usual _ _ (at-fields .before .«open» .ensures) _ (sym (at-fields .usual-fields .ensures) ∙ at-usual .usual .given .1) _)
 
 pub parse-raw-by-spec : {M : Type 1} → statement M
 parse-raw-by-spec =
@@ -58,10 +32,5 @@ parse-raw-by-spec =
     (λ c. search needs)
     (λ c κs. search needs)
     (λ c. search needs)
-    (λ c. search needs)
-    (λ c. search needs)
-    returns-2
-    (λ c κs. search needs)
-    seconds-of-requires
-    returns-3
-    returns-4)
+    raw-time-requires
+    returns-2)
