@@ -13,7 +13,11 @@ use lib.ListN.{length, drop, getD, length-drop, drop-of-length-le}
 use lib.Seq.{take-all, take-nil, getD-drop}
 use Rattle.text.specs.Bytes.{isSpace, isDigit, isSign, ascii}
 use Rattle.text.specs.Places.{past, has, part}
+use Rattle.text.specs.declared.number.Integer.{Integer}
+use Rattle.text.specs.declared.number.Integer.the-variants.{Is, NotOne}
 use Rattle.text.specs.declared.number.LeadingInteger.{LeadingInteger}
+use Rattle.time.specs.declared.Answer.the-variants.{Refused}
+use Rattle.time.specs.declared.Refusal.the-variants.{Form}
 use Rattle.text.proofs.Lists.{by-test, both}
 use Rattle.text.proofs.Runs.{run-le-length, past-le-length, past-of-true, past-of-false, past-of-length-le, has-nil}
 use Rattle.text.proofs.Numbers.{numeral-le-run}
@@ -192,11 +196,26 @@ module _ (s : List ℕ) (r : LeadingInteger) (l : Opened s r) where
         rawOf-of-Words s _ (usual-walks (t .0)) limits ∙ rw (part-is s (r .end) (t .0), t .1)
 
   -- a number alone has no second word
-  pub headerOf-of-alone : r .end ≡ length s → headerOf s ≡ headerTime (r .number) NoOffset
-  unfolding headerOffset isDigit
-  headerOf-of-alone e =
-      let done : length s ≤ r .end = omega arith in
-      let there : (q : ℕ → Bool) → r .end ≡ past q s (r .end) = λ q. sym (past-of-length-le q s (r .end) done) in
-      let w = walks (r .end) (r .end) (r .end) (record { first-is = refl; o-is = l .end-is; first-end-is = there isPlain; second-is = there isSpace; second-end-is = there isPlain; third-is = there isSpace }) done in
-      let none : part s (spanOf (r .end) (r .end)) ≡ [] = rw (drop-of-length-le s {i = r .end} done) (take-nil (r .end - r .end)) in
-      headerOf-of-Words s _ w ∙ rw none
+  module _ (e : r .end ≡ length s) where
+    alone-walks : Walks s (Words (record { seconds = r .number; whole = true; second = spanOf (r .end) (r .end) }))
+    alone-walks =
+        let done : length s ≤ r .end = omega arith in
+        let there : (q : ℕ → Bool) → r .end ≡ past q s (r .end) = λ q. sym (past-of-length-le q s (r .end) done) in
+        walks (r .end) (r .end) (r .end)
+        (record { first-is = refl; o-is = l .end-is; first-end-is = there isPlain; second-is = there isSpace; second-end-is = there isPlain; third-is = there isSpace })
+        done
+
+    no-second : part s (spanOf (r .end) (r .end)) ≡ []
+    no-second = rw (drop-of-length-le s {i = r .end} (omega arith)) (take-nil (r .end - r .end))
+
+    pub headerOf-of-alone : headerOf s ≡ headerTime (r .number) NoOffset
+    unfolding headerOffset isDigit
+    headerOf-of-alone = headerOf-of-Words s _ alone-walks ∙ rw no-second
+
+    pub rawOf-of-alone : (limits : Limits) → rawOf limits s ≡ Refused Form
+    unfolding fieldsOf fiveOrSeven
+    rawOf-of-alone limits = rawOf-of-Words s _ alone-walks limits ∙ rw no-second (none (r .number))
+      where
+        none : (n : Integer) → rawTime limits n NoOffset ≡ Refused Form
+        none (Is z) = refl
+        none NotOne = refl

@@ -29,12 +29,16 @@ pub fn parse_raw(s: &[u8]) -> Answer
     parse_raw_by(s, Rule::One)
 }
 
-// The form that every commit has is told right behind its number, as the header reader tells it.
+// A number alone, and the form that every commit has, are told right behind the number, as the header reader tells them.
 fn parse_raw_by(s: &[u8], rule: Rule) -> Answer
     ensures { λ r. ⌜ r ≡ rawOf (limitsOf rule) (now (s .entry)) ⌝ }
 {
     let opening = walk::open(s);
-    let usual = offset::usual_fields(s, opening.end);
+    let end = opening.end;
+    if end == s.len() {
+        return Answer::Refused(Refusal::Form);
+    }
+    let usual = offset::usual_fields(s, end);
     let Parsed::Offset(f) = usual else {
         return parse_other(s, opening, rule);
     };
