@@ -4,7 +4,7 @@ pub mod entries;
 
 ghost use mathlib.Core.Path.{_≡_};
 ghost use Rattle.calendar.specs.Table.{IsMonths};
-ghost use Rattle.dates.specs.Any.{isOther, isSettled, numbered as numberedOf, atOf, plainOf, anyOf};
+ghost use Rattle.dates.specs.Any.{isOther, isSettled, numbered as numberedOf, markedOf, plainOf, anyOf};
 use text::number::Integer;
 use time::Answer;
 use time::Now;
@@ -39,13 +39,15 @@ pub fn parse_with(months: &[u32], s: &[u8], current: Now) -> Answer
     header::raw::parse_raw(s)
 }
 
-// What looks at no calendar: `@` and raw or a number, or a number large enough to be no count.
+// What looks at no calendar: `@` and raw or a number, or a number large enough to be no count. What opens with `@` is no number.
 fn parse_plain(s: &[u8]) -> Answer
     ensures { λ r. ⌜ r ≡ plainOf (now (s .entry)) ⌝ }
 {
-    let marked = parse_at(s);
-    if is_settled(marked) {
-        return marked;
+    if s.len() == 0 {
+        return Answer::Refused(Refusal::Form);
+    }
+    if s[0] == 64 {
+        return parse_marked(&s[1..]);
     }
     numbered(
         100000000,
@@ -53,24 +55,18 @@ fn parse_plain(s: &[u8]) -> Answer
     )
 }
 
-fn parse_at(s: &[u8]) -> Answer
-    ensures { λ r. ⌜ r ≡ atOf (now (s .entry)) ⌝ }
+// What stands behind `@`.
+fn parse_marked(s: &[u8]) -> Answer
+    ensures { λ r. ⌜ r ≡ markedOf (now (s .entry)) ⌝ }
 {
-    if s.len() == 0 {
-        return Answer::Refused(Refusal::Form);
+    let raw = header::raw::parse_raw(s);
+    if is_settled(raw) {
+        return raw;
     }
-    if s[0] == 64 {
-        let rest = &s[1..];
-        let raw = header::raw::parse_raw(rest);
-        if is_settled(raw) {
-            return raw;
-        }
-        return numbered(
-            -9223372036854775808,
-            text::number::signed_number(rest, 9223372036854775808),
-        );
-    }
-    Answer::Refused(Refusal::Form)
+    numbered(
+        -9223372036854775808,
+        text::number::signed_number(s, 9223372036854775808),
+    )
 }
 
 // A number from `least` on, as seconds at offset 0.

@@ -1,38 +1,43 @@
 -- `dates::parse_plain` meets its contract.
 -- Assumes nothing.
-use Rattle.dates.specs.Any.{plainOf, numberFrom}
+use mathlib.Core.Path.{sym, _∙_}
+use native.Mathlib.Omega.{arith}
+use denote.Ref.{now}
+use lib.ListN.{drop-of-length-le}
+use Rattle.text.proofs.Lists.{drop-cons-add-one, take-length-sub-drop}
+use Rattle.dates.specs.Any.{numberFrom}
+use Rattle.dates.proofs.Steps.{plainOf-nil, plainOf-of-at, plainOf-of-other}
 use borrow.Author.Needs.{needs}
 use Rattle.dates.proofs.parse_plain.Statement.{statement}
 use Rattle.dates.proofs.parse_plain.Tie as tie
 
-parse-at-requires : tie.Need-parse-at-requires
-parse-at-requires c κs = search needs
-
-is-settled-requires : tie.Need-is-settled-requires
-is-settled-requires c κs = search needs
-
 returns : tie.Need-returns
-unfolding plainOf
-returns c = rw (← c .before .before .parse-at .ensures, ← c .before .is-settled .ensures, c .if1 .taken)
-
-signed-number-requires : tie.Need-signed-number-requires
-signed-number-requires c κs = search needs
-
-numbered-requires : tie.Need-numbered-requires
-numbered-requires c κs = search needs
+returns c = rw (drop-of-length-le (now (c .before .before .args .s)) {i = 0} (omega arith)) (sym plainOf-nil)
 
 returns-2 : tie.Need-returns-2
-unfolding plainOf numberFrom
-returns-2 c = let at-call = c .before .before .before .before in
-    rw (← at-call .parse-at .ensures, ← c .before .before .before .is-settled .ensures, c .before .before .if1 .left, c .numbered .ensures, c .before .signed-number .ensures)
+returns-2 c =
+    let start = c .before .before .before .before .before .before in
+    rw (drop-cons-add-one (now (start .args .s)) 0 (omega arith))
+    ((rw take-length-sub-drop at (c .parse-marked .ensures)) ∙ sym (plainOf-of-at _ _ (c .before .before .if2 .taken)))
+
+returns-3 : tie.Need-returns-3
+unfolding numberFrom
+returns-3 c =
+    let start = c .before .before .before .before .before .before in
+    rw (c .numbered .ensures, c .before .signed-number .ensures, drop-cons-add-one (now (start .args .s)) 0 (omega arith))
+    (sym (plainOf-of-other _ _ (c .before .before .if2 .left)))
 
 pub parse-plain-spec : {M : Type 1} → statement M
 parse-plain-spec =
     tie.close
     (tie.spec
-    parse-at-requires
-    is-settled-requires
     returns
-    signed-number-requires
-    numbered-requires
-    returns-2)
+    (λ c. search needs)
+    (λ c. search needs)
+    (λ c. search needs)
+    (λ c. search needs)
+    (λ c κs. search needs)
+    returns-2
+    (λ c κs. search needs)
+    (λ c κs. search needs)
+    returns-3)
