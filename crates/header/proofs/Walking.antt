@@ -23,6 +23,7 @@ use Rattle.text.proofs.Lists.{by-test, both}
 use Rattle.text.proofs.Runs.{past-add, run-le-length, same-drop-past, has-cons}
 use Rattle.text.proofs.Taking.{ltb-zero-length-words, getD-words-zero, drop-one-words}
 use Rattle.text.proofs.Numbers.{digit-range, signedOf-of-numeral-lt, numeral-of-digits, numeral-le-run, numeral-leading, isSign-leading}
+use Rattle.text.proofs.Digits.{isDigit-of-sign, space-range}
 use Rattle.text.proofs.Texts.{not-has-of-cons}
 use Rattle.header.specs.Offset.{onlyWord, fieldsOf}
 use Rattle.header.specs.Header.{number64, orElse, secondsOf, headerOffset, headerTime, headerOfWords, headerOf}
@@ -31,7 +32,6 @@ use Rattle.header.specs.Walk.{isPlain, spanOf, nowhere, Opens, Walks}
 use Rattle.header.specs.declared.offset.Field.the-variants.{Byte}
 use Rattle.header.specs.declared.walk.First.{First}
 use Rattle.header.specs.declared.walk.Walked.the-variants.{Words}
-use Rattle.text.proofs.Digits.{space-range}
 
 -- ---- which bytes are of a word
 pub isSpace-of-lt : (b : ℕ) → 32 < b → isSpace b ≡ false
@@ -147,14 +147,10 @@ onlyWord-is (w ∷ []) = refl
 onlyWord-is (w ∷ v ∷ ws) = rw (lt-ltb 0 (suc (length ws)) (omega arith))
 
 -- ---- the first word as a number
-isDigit-of-isSign : (b : ℕ) → isSign b ≡ true → isDigit b ≡ false
-unfolding isSign isDigit
-isDigit-of-isSign b e = by-test (eqb b 43) (λ k. rw (eqb-true b 43 k)) (λ k. rw (eqb-true b 45 (rw k at e)))
-
 leading-of-isSign : (w : List ℕ) → isSign (getD w 0 0) ≡ true → leading isDigit w ≡ []
 unfolding run
 leading-of-isSign [] e = refl
-leading-of-isSign (b ∷ w) e = rw (isDigit-of-isSign b e)
+leading-of-isSign (b ∷ w) e = rw (isDigit-of-sign b e)
 
 orElse-NotOne : (i : Integer) → orElse i NotOne ≡ i
 orElse-NotOne (Is z) = refl

@@ -1,13 +1,14 @@
--- The cut into time and offset. In order: the place of the sign; the cut, by what was found.
+-- The cut into time and offset. In order: the place of the sign; the cut, by what was found; what follows the last space.
 -- Assumes nothing.
 use mathlib.Core.Path.{_≡_, refl}
-use mathlib.Core.Bool.{Bool, true, false, _&&_}
+use mathlib.Core.Bool.{true, false}
 use mathlib.Core.List.{List, [], _∷_}
 use Prim.Native.Nat.{ℕ, suc, _-_, _≤_, _<_}
 use native.Mathlib.Omega.{arith}
 use borrow.Author.Tests.{lt-ltb, le-ltb, ltb-true, ltb-false}
 use lib.Dec.{eqb, ltb}
 use lib.ListN.{length, getD, drop}
+use Rattle.text.specs.Bytes.{isSign}
 use Rattle.text.specs.Places.{lastWhere, lastPlace}
 use Rattle.text.specs.Trim.{trim}
 use Rattle.text.proofs.Lists.{by-test}
@@ -52,16 +53,32 @@ pub cut-zed : (s : List ℕ) → eqb (getD s (length s - 1) 0) 90 ≡ true → l
 unfolding cut endsWithZ
 cut-zed s e = rw e
 
--- the last space at r, and whether what follows opens with a sign
-module _ (s : List ℕ) (r : ℕ) (o : Bool) (e : eqb (getD s (length s - 1) 0) 90 ≡ false) (q : r ≡ lastPlace 32 s) (w : o ≡ isSigned (trim (drop r s))) where
-  spaced-is : (ltb 5 r && o) ≡ spaced s
+-- the last space at r
+module _ (s : List ℕ) (e : eqb (getD s (length s - 1) 0) 90 ≡ false) where
+  pub cut-space : (r : ℕ) → r ≡ lastPlace 32 s → spaced s ≡ true → r ≡ cut s
+  unfolding cut endsWithZ
+  cut-space r q h = rw (e, h) q
+
+  pub cut-sign : spaced s ≡ false → signPlace s ≡ cut s
+  unfolding cut endsWithZ
+  cut-sign h = rw (e, h)
+
+-- ---- what follows the last space, at r
+module _ (s : List ℕ) (r : ℕ) (q : r ≡ lastPlace 32 s) where
+  pub spaced-of-le : r ≤ 5 → spaced s ≡ false
   unfolding spaced
-  spaced-is = rw (w, q)
+  spaced-of-le h = rw (← q, le-ltb 5 r h)
 
-  pub cut-space : (ltb 5 r && o) ≡ true → r ≡ cut s
-  unfolding cut endsWithZ
-  cut-space h = rw (e, ← spaced-is, h) q
+  pub spaced-of-lt : 5 < r → spaced s ≡ isSigned (trim (drop r s))
+  unfolding spaced
+  spaced-of-lt h = rw (← q, lt-ltb 5 r h)
 
-  pub cut-sign : (ltb 5 r && o) ≡ false → signPlace s ≡ cut s
-  unfolding cut endsWithZ
-  cut-sign h = rw (e, ← spaced-is, h)
+pub isSigned-of-lt : (s : List ℕ) → 0 < length s → isSigned s ≡ isSign (getD s 0 0)
+unfolding isSigned
+isSigned-of-lt [] h = absurd (omega arith)
+isSigned-of-lt (b ∷ s) h = refl
+
+pub isSigned-of-length : (s : List ℕ) → length s ≡ 0 → isSigned s ≡ false
+unfolding isSigned
+isSigned-of-length [] h = refl
+isSigned-of-length (b ∷ s) h = absurd (omega arith)

@@ -31,16 +31,9 @@ isSpace-of-digit b p =
     let n : 9 ≤ b = omega (arith, r .0) in
     rw (le-leb 9 b n, lt-leb b 13 l, ne-eqb b 32 (λ e. omega (arith, r .0, e)))
 
--- nor is white space a digit or a sign, nor a sign a digit
+-- nor is a sign a digit
 pub isDigit-of-sign : (b : ℕ) → isSign b ≡ true → isDigit b ≡ false
 isDigit-of-sign b h = by-test (isDigit b) (λ p. absurd (false≢true (sym (isSign-of-digit b p) ∙ h))) (λ p. p)
-
-pub isDigit-of-space : (b : ℕ) → isSpace b ≡ true → isDigit b ≡ false
-isDigit-of-space b h = by-test (isDigit b) (λ p. absurd (false≢true (sym (isSpace-of-digit b p) ∙ h))) (λ p. p)
-
-pub isSign-of-space : (b : ℕ) → isSpace b ≡ true → isSign b ≡ false
-unfolding isSign isSpace
-isSign-of-space b h = rw (eqb-of-test isSpace b 43 h refl, eqb-of-test isSpace b 45 h refl)
 
 -- white space is byte 32 at most
 pub space-range : (b : ℕ) → isSpace b ≡ true → b ≤ 32

@@ -3,17 +3,17 @@
 -- place at which a test holds, found from the end.
 -- Assumes nothing.
 use mathlib.Core.Path.{_≡_, refl, ap, _∙_, sym}
-use mathlib.Core.Bool.{Bool, true, false, not, _&&_, _||_, or-true, false≢true}
-use mathlib.Core.List.{List, [], _∷_}
-use Prim.Native.Nat.{ℕ, zero, suc, _+_, _≤_, _<_}
+use mathlib.Core.Bool.{Bool, true, false, not, _||_, false≢true}
+use mathlib.Core.List.{List, [], _∷_, _++_}
+use Prim.Native.Nat.{ℕ, zero, suc, _+_, _-_, _≤_, _<_}
 use native.Mathlib.Nat.{le-refl, zero-add, not-suc-le-zero}
 use native.Mathlib.Omega.{arith}
-use borrow.Author.Tests.{ltb-true, ltb-false, lt-ltb, le-ltb, eqb-false}
+use borrow.Author.Tests.{ltb-true, ltb-false, lt-ltb, le-ltb}
 use lib.Dec.{ltb, eqb}
-use lib.ListN.{length, getD, drop, length-drop, drop-of-length-le}
+use lib.ListN.{length, getD, take, drop, length-drop, drop-of-length-le, take-append-drop}
 use lib.Seq.{drop-drop, length-take-le}
-use Rattle.text.specs.Places.{run, leading, past, firstPlace, has, lastWhere}
-use Rattle.text.proofs.Lists.{by-test, drop-cons-add-one}
+use Rattle.text.specs.Places.{run, leading, past, firstPlace, has, lastWhere, lastPlace, opensWith}
+use Rattle.text.proofs.Lists.{by-test, drop-cons-add-one, drop-sub-one}
 
 pub run-le-length : (p : ℕ → Bool) (s : List ℕ) → run p s ≤ length s
 unfolding run
@@ -108,6 +108,12 @@ pub has-nil : (c : ℕ) → has c [] ≡ false
 unfolding has firstPlace run
 has-nil c = refl
 
+pub has-drop-cons : (c : ℕ) (s : List ℕ) (i : ℕ) → i < length s → has c (drop i s) ≡ (eqb (getD s i 0) c || has c (drop (i + 1) s))
+has-drop-cons c s i h = rw (drop-cons-add-one s i h) (has-cons c _ _)
+
+pub has-drop-nil : (c : ℕ) (s : List ℕ) (i : ℕ) → length s ≤ i → has c (drop i s) ≡ false
+has-drop-nil c s i h = rw (drop-of-length-le s h) (has-nil c)
+
 -- ---- the last place
 module _ (p : List ℕ → Bool) where
   pub lastWhere-le-length : (s : List ℕ) → lastWhere p s ≤ length s
@@ -120,17 +126,6 @@ module _ (p : List ℕ → Bool) where
   pub lastWhere-none : (b : ℕ) (s : List ℕ) → lastWhere p s ≡ length s → p (b ∷ s) ≡ false → lastWhere p (b ∷ s) ≡ length (b ∷ s)
   unfolding lastWhere
   lastWhere-none b s h e = let l : ltb (lastWhere p s) (length s) ≡ false = le-ltb (lastWhere p s) (length s) (omega arith) in rw (l, e) (ap suc h)
-
-  -- none at b, or one behind it
-  pub lastWhere-on : (b : ℕ) (s : List ℕ) → (p (b ∷ s) && eqb (lastWhere p s) (length s)) ≡ false → lastWhere p (b ∷ s) ≡ suc (lastWhere p s)
-  unfolding lastWhere
-  lastWhere-on b s h =
-      by-test (p (b ∷ s))
-      (λ e.
-      let n : lastWhere p s ≡ length s → ⊥ = eqb-false (lastWhere p s) (length s) (rw e at h) in
-      let l : ltb (lastWhere p s) (length s) ≡ true = lt-ltb (lastWhere p s) (length s) (omega (arith, lastWhere-le-length s, n)) in
-      rw l)
-      (λ e. rw (e, or-true (ltb (lastWhere p s) (length s))))
 
   -- one at b, none behind it
   pub lastWhere-here : (b : ℕ) (s : List ℕ) → lastWhere p s ≡ length s → p (b ∷ s) ≡ true → lastWhere p (b ∷ s) ≡ 0
@@ -146,3 +141,38 @@ module _ (p : List ℕ → Bool) where
       let e : lastWhere p s ≡ i + lastWhere p (drop i s) = lastWhere-drop s i h in
       let l : ltb (lastWhere p s) (length s) ≡ true = lt-ltb (lastWhere p s) (length s) (omega (arith, length-drop i s)) in
       rw l (omega arith)
+
+  -- none from e on: a walk from the end has come there and met none
+  abbrev pub None : List ℕ → ℕ → Type 0
+  None s e = (e ≤ length s) × (lastWhere p (drop e s) ≡ length (drop e s))
+
+  pub none-at-end : (s : List ℕ) → None s (length s)
+  unfolding lastWhere
+  none-at-end s = (le-refl (length s), rw (drop-of-length-le s (le-refl (length s))))
+
+  -- it goes on by one byte: there is the last, or there is none either
+  module _ (s : List ℕ) (e : ℕ) (h : 0 < e) (n : None s e) where
+    pub last-here : p (getD s (e - 1) 0 ∷ drop e s) ≡ true → e - 1 ≡ lastWhere p s
+    last-here k =
+        let w : lastWhere p (drop (e - 1) s) ≡ 0 = rw (drop-sub-one s e h (n .0)) (lastWhere-here _ _ (n .1) k) in
+        let l : lastWhere p (drop (e - 1) s) < length (drop (e - 1) s) = omega (arith, length-drop (e - 1) s, n .0) in
+        omega (arith, lastWhere-drop s (e - 1) l)
+
+    pub none-before : p (getD s (e - 1) 0 ∷ drop e s) ≡ false → None s (e - 1)
+    none-before k = (omega (arith, n .0), rw (drop-sub-one s e h (n .0)) (lastWhere-none _ _ (n .1) k))
+
+-- and for one byte by as many as do not hold it
+lastPlace-append : (b : ℕ) (u t : List ℕ) → has b u ≡ false → lastPlace b t ≡ length t → lastPlace b (u ++ t) ≡ length (u ++ t)
+unfolding lastPlace
+lastPlace-append b [] t h n = n
+lastPlace-append b (x ∷ u) t h n =
+    let k = rw (has-cons b x u) at h in
+    by-test (eqb x b) (λ e. absurd (false≢true (sym (rw e at k)))) (λ e. lastWhere-none (opensWith b) x (u ++ t) (lastPlace-append b u t (rw e at k) n) e)
+
+pub none-before-block : (b : ℕ) (s : List ℕ) (e n : ℕ) → n ≤ e → None (opensWith b) s e → has b (take (e - (e - n)) (drop (e - n) s)) ≡ false → None (opensWith b) s (e - n)
+unfolding lastPlace
+none-before-block b s e n h m k =
+    let w : e - n + (e - (e - n)) ≡ e = omega arith in
+    let d : drop (e - (e - n)) (drop (e - n) s) ≡ drop e s = drop-drop (e - (e - n)) (e - n) s ∙ ap (λ (i : ℕ). drop i s) w in
+    let l = lastPlace-append b (take (e - (e - n)) (drop (e - n) s)) (drop (e - (e - n)) (drop (e - n) s)) k (rw d (m .1)) in
+    (omega (arith, m .0), rw (take-append-drop (e - (e - n)) (drop (e - n) s)) at l)

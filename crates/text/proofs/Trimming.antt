@@ -1,5 +1,5 @@
--- Trimming. In order: the clause of `trimEnd` from the end, and from a byte in front that is no white space; a text that opens with
--- no white space still does without the white space that ends it; trimming what is trimmed changes nothing.
+-- Trimming. In order: the clause of `trimEnd` from the end; a text that opens with no white space still does without the white space
+-- that ends it; trimming what is trimmed changes nothing; a text that white space neither opens nor ends.
 -- Assumes nothing.
 use mathlib.Core.Path.{_≡_, refl, ap, _∙_}
 use mathlib.Core.Bool.{Bool, true, false, cond}
@@ -19,16 +19,6 @@ trimEnd-snoc s b = rw (reverse-append s (b ∷ [])) (go (isSpace b))
     go : (t : Bool) → reverse (cond t (trimStart (reverse s)) (b ∷ reverse s)) ≡ cond t (reverse (trimStart (reverse s))) (s ++ (b ∷ []))
     go true = refl
     go false = reverse-cons b (reverse s) ∙ rw reverse-reverse
-
-trimStart-snoc : (s : List ℕ) (b : ℕ) → isSpace b ≡ false → trimStart (s ++ (b ∷ [])) ≡ trimStart s ++ (b ∷ [])
-unfolding trimStart
-trimStart-snoc [] b h = rw h
-trimStart-snoc (c ∷ s) b h = by-test (isSpace c) (λ e. rw e (trimStart-snoc s b h)) (λ e. rw e)
-
--- a byte in front that is no white space stays
-pub trimEnd-cons : (b : ℕ) (s : List ℕ) → isSpace b ≡ false → trimEnd (b ∷ s) ≡ b ∷ trimEnd s
-unfolding trimEnd
-trimEnd-cons b s h = rw (reverse-cons b s, trimStart-snoc (reverse s) b h, reverse-append (trimStart (reverse s)) (b ∷ []))
 
 pub length-trimStart-le : (s : List ℕ) → length (trimStart s) ≤ length s
 unfolding trimStart

@@ -5,10 +5,17 @@ ghost use Prim.Native.Nat.{_≤_};
 ghost use lib.ListN.{length};
 ghost use Rattle.text.specs.Places.{has as hasOf, firstPlace};
 
+// Whether b stands anywhere. The loop does not stop there: without a way out the compiler tests many bytes at once.
 pub fn has(s: &[u8], b: u8) -> bool
     ensures { λ r. ⌜ r ≡ hasOf b (now (s .entry)) ⌝ }
 {
-    first_place(s, b) < s.len()
+    let mut found = false;
+    let mut i = 0;
+    while i < s.len() {
+        found = found | (s[i] == b);
+        i += 1;
+    }
+    found
 }
 
 pub fn first_place(s: &[u8], b: u8) -> usize

@@ -1,15 +1,15 @@
 -- `header::walk::look_through` meets its contract. The invariant: what was seen so far, with what is left, tells of the whole.
 -- Assumes nothing.
 use mathlib.Core.Path.{_≡_, refl, sym, ap, _∙_}
-use mathlib.Core.Bool.{Bool, true, false, _&&_, _||_, and-true, or-false, and-assoc, or-assoc}
+use mathlib.Core.Bool.{Bool, true, _&&_, _||_, and-true, or-false, and-assoc, or-assoc}
 use mathlib.Core.List.{List}
 use Prim.Native.Nat.{ℕ, _-_, _+_, _≤_, _<_}
-use lib.Dec.{ltb, eqb}
+use lib.Dec.{ltb}
 use lib.ListN.{length, drop, getD, drop-of-length-le}
 use Rattle.text.specs.Bytes.{ascii}
 use Rattle.text.specs.Places.{has}
 use Rattle.text.proofs.Lists.{drop-cons-add-one}
-use Rattle.text.proofs.Runs.{has-cons, has-nil}
+use Rattle.text.proofs.Runs.{has-drop-cons, has-drop-nil}
 use borrow.Author.Needs.{needs}
 use Rattle.header.proofs.walk.look_through.Statement.{statement}
 use Rattle.header.proofs.walk.look_through.Tie as tie
@@ -25,29 +25,23 @@ module _ (s : List ℕ) (i : ℕ) where
   unfolding ascii
   ascii-here h = rw (drop-cons-add-one s i h)
 
-  has-here : i < length s → has 58 (drop i s) ≡ (eqb (getD s i 0) 58 || has 58 (drop (i + 1) s))
-  has-here h = rw (drop-cons-add-one s i h) (has-cons 58 _ _)
-
   ascii-end : length s ≤ i → ascii (drop i s) ≡ true
   unfolding ascii
   ascii-end h = rw (drop-of-length-le s h)
-
-  has-end : length s ≤ i → has 58 (drop i s) ≡ false
-  has-end h = rw (drop-of-length-le s h) (has-nil 58)
 
 loop-again : tie.Need-loop-again Inv-loop μ-loop
 loop-again c =
     let at-test = c .before .before in
     let l = at-test .before .loop in (
       l .inv .0 ∙ ap (λ (x : Bool). l .ascii && x) (ascii-here _ _ (at-test .loop-test .taken)) ∙ sym (and-assoc (l .ascii) _ _),
-      l .inv .1 ∙ ap (λ (x : Bool). l .colon || x) (has-here _ _ (at-test .loop-test .taken)) ∙ sym (or-assoc (l .colon) _ _),
+      l .inv .1 ∙ ap (λ (x : Bool). l .colon || x) (has-drop-cons 58 _ _ (at-test .loop-test .taken)) ∙ sym (or-assoc (l .colon) _ _),
     )
 
 returns : tie.Need-returns Inv-loop μ-loop
 returns c =
     let l = c .before .loop in (
       sym (l .inv .0 ∙ ap (λ (x : Bool). l .ascii && x) (ascii-end _ _ (c .loop-test .left)) ∙ and-true (l .ascii)),
-      sym (l .inv .1 ∙ ap (λ (x : Bool). l .colon || x) (has-end _ _ (c .loop-test .left)) ∙ or-false (l .colon)),
+      sym (l .inv .1 ∙ ap (λ (x : Bool). l .colon || x) (has-drop-nil 58 _ _ (c .loop-test .left)) ∙ or-false (l .colon)),
     )
 
 pub look-through-spec : {M : Type 1} → statement M

@@ -1,77 +1,93 @@
--- `iso::cut::find_marks` meets its contract. The invariant: what was met from e on (`Met`). The measure is e.
+-- `iso::cut::find_marks` meets its contract. The invariant: from e on there is no space, no sign has a digit after it, and `digit`
+-- says whether a digit stands at e. The measure is e.
 -- Assumes nothing.
-use mathlib.Core.Path.{_≡_, sym, _∙_}
-use native.Mathlib.Nat.{zero-add}
+use mathlib.Core.Path.{_≡_, sym}
+use mathlib.Core.Bool.{false}
+use mathlib.Core.List.{List}
+use Prim.Native.Nat.{ℕ}
+use native.Mathlib.Nat.{le-refl}
 use native.Mathlib.Omega.{arith}
 use borrow.Author.Needs.{needs}
-use Rattle.iso.proofs.Marks.{Met, met-start, met-space, met-sign, met-other, met-place, met-opens, met-no-digit, met-signs}
+use borrow.Author.Tests.{eq-eqb, ne-eqb}
+use lib.ListN.{length, getD, drop, drop-of-length-le}
+use Rattle.text.specs.Bytes.{isDigit, isSign}
+use Rattle.text.specs.Places.{lastPlace, opensWith}
+use Rattle.text.proofs.Lists.{drop-sub-one}
+use Rattle.text.proofs.Runs.{None, none-at-end, last-here, none-before}
+use Rattle.iso.specs.Cut.{isOffset}
+use Rattle.iso.proofs.Marks.{sign-here, sign-before}
 use Rattle.iso.proofs.cut.find_marks.Statement.{statement}
 use Rattle.iso.proofs.cut.find_marks.Tie as tie
 
 abbrev Inv-loop : tie.InvT-loop
-Inv-loop s e₀ opens₀ sign₀ digit₀ e opens sign digit = Met s e opens sign digit
+Inv-loop s e₀ digit₀ e digit = None (opensWith 32) s e × None isOffset s e × (isDigit (getD (drop e s) 0 0) ≡ digit)
 
 abbrev μ-loop : tie.MeasureT-loop
-μ-loop s e₀ opens₀ sign₀ digit₀ e opens sign digit = e
+μ-loop s e₀ digit₀ e digit = e
+
+no-digit : (s : List ℕ) → isDigit (getD (drop (length s) s) 0 0) ≡ false
+unfolding isDigit
+no-digit s = rw (drop-of-length-le s (le-refl (length s)))
 
 loop-holds : tie.Need-loop-holds Inv-loop μ-loop
-loop-holds c = met-start _
+loop-holds c = let s = c .before .args .s .now in (none-at-end (opensWith 32) s, none-at-end isOffset s, no-digit s)
 
 shared-slice-read-b : tie.Need-shared-slice-read-b Inv-loop μ-loop
-shared-slice-read-b c = omega (arith, c .before .before .loop .inv .within)
+shared-slice-read-b c = omega (arith, c .before .before .loop .inv .0 .0)
 
--- the last space: the walk goes on if no sign was met behind it
+-- a space is neither sign nor digit
 last-sign-requires : tie.Need-last-sign-requires Inv-loop μ-loop
+unfolding isSign isDigit
 last-sign-requires c κs =
-    let at-loop-test = c .before .before in
-    let p = at-loop-test .loop-test .taken in
-    let m = at-loop-test .before .loop .inv in
-    let h = c .if1 .taken in
-    (omega (arith, m .within), met-signs _ p m h, met-no-digit _ p m h)
+    let at-test = c .before .before in
+    let p = at-test .loop-test .taken in
+    let v = at-test .before .loop .inv in
+    let n = sign-before _ p (v .1) (v .2) (rw (c .if1 .taken)) in
+    (n .0, n .1, rw (drop-sub-one _ _ p (v .0 .0), c .if1 .taken))
 
+-- the last space
 returns : tie.Need-returns Inv-loop μ-loop
+unfolding lastPlace
 returns c =
-    let at-if1 = c .before in
-    let at-loop-test = at-if1 .before .before in
-    let p = at-loop-test .loop-test .taken in
-    let m = at-loop-test .before .loop .inv in
-    let h = at-if1 .if1 .taken in
-    (met-place _ p m h, (met-opens _ p m h, c .last-sign .ensures))
+    let at-if = c .before in
+    let at-test = at-if .before .before in
+    (last-here (opensWith 32) _ _ (at-test .loop-test .taken) (at-test .before .loop .inv .0) (eq-eqb _ _ (at-if .if1 .taken)), c .last-sign .ensures)
 
--- white space that is no space
-loop-again : tie.Need-loop-again Inv-loop μ-loop
-loop-again c =
-    let at-is-space = c .before in
-    let at-if1 = at-is-space .before in
-    let at-loop-test = at-if1 .before .before in
-    met-space _ (at-loop-test .loop-test .taken) (at-loop-test .before .loop .inv) (at-if1 .if1 .left) (sym (at-is-space .is-space .ensures) ∙ c .if2 .taken)
+-- the rightmost sign
+last-space-requires : tie.Need-last-space-requires Inv-loop μ-loop
+unfolding lastPlace
+last-space-requires c κs =
+    let at-if = c .before .before in
+    let at-test = at-if .before .before in
+    none-before (opensWith 32) _ _ (at-test .loop-test .taken) (at-test .before .loop .inv .0) (ne-eqb _ _ (at-if .if1 .left))
 
--- the first sign that has a digit after it
-loop-again-2 : tie.Need-loop-again-2 Inv-loop μ-loop
-loop-again-2 c =
-    let at-is-sign = c .before in
-    let at-if2 = at-is-sign .before in
-    let at-is-space = at-if2 .before in
-    let at-if1 = at-is-space .before in
-    let at-loop-test = at-if1 .before .before in
-    rw (at-is-sign .is-sign .ensures) (met-sign _ (at-loop-test .loop-test .taken) (at-loop-test .before .loop .inv) (at-if1 .if1 .left) (sym (at-is-space .is-space .ensures) ∙ at-if2 .if2 .left) (rw (← at-is-sign .is-sign .ensures) (c .if3 .taken)))
-
--- any other byte
-loop-again-3 : tie.Need-loop-again-3 Inv-loop μ-loop
-loop-again-3 c =
-    let at-is-sign = c .before .before in
-    let at-if2 = at-is-sign .before in
-    let at-is-space = at-if2 .before in
-    let at-if1 = at-is-space .before in
-    let at-loop-test = at-if1 .before .before in
-    rw (at-is-sign .is-sign .ensures, c .is-digit .ensures) (met-other _ (at-loop-test .loop-test .taken) (at-loop-test .before .loop .inv) (at-if1 .if1 .left) (sym (at-is-space .is-space .ensures) ∙ at-if2 .if2 .left) (rw (← at-is-sign .is-sign .ensures) (c .before .if3 .left)))
-
--- no space
 returns-2 : tie.Need-returns-2 Inv-loop μ-loop
 returns-2 c =
-    let m = c .before .loop .inv in
+    let at-is-sign = c .before .before in
+    let at-test = at-is-sign .before .before .before in
+    let v = at-test .before .loop .inv in
+    (c .last-space .ensures, sign-here _ (at-test .loop-test .taken) (v .1) (v .2) (rw (← at-is-sign .is-sign .ensures) (c .before .if2 .taken)))
+
+-- any other byte
+loop-again : tie.Need-loop-again Inv-loop μ-loop
+loop-again c =
+    let at-is-sign = c .before .before in
+    let at-if = at-is-sign .before in
+    let at-test = at-if .before .before in
+    let p = at-test .loop-test .taken in
+    let v = at-test .before .loop .inv in (
+      none-before (opensWith 32) _ _ p (v .0) (ne-eqb _ _ (at-if .if1 .left)),
+      sign-before _ p (v .1) (v .2) (rw (← at-is-sign .is-sign .ensures) (c .before .if2 .left)),
+      rw (drop-sub-one _ _ p (v .0 .0)) (sym (c .is-digit .ensures)),
+    )
+
+-- neither
+returns-3 : tie.Need-returns-3 Inv-loop μ-loop
+unfolding lastPlace
+returns-3 c =
+    let v = c .before .loop .inv in
     let e : c .before .loop .e ≡ 0 = omega arith in
-    (sym (rw e at (m .spaces)), (met-start (c .before .before .before .args .s .now) .opening, rw (e, zero-add) at (m .signs)))
+    (sym (rw e at (v .0 .1)), sym (rw e at (v .1 .1)))
 
 pub find-marks-spec : {M : Type 1} → statement M
 find-marks-spec =
@@ -85,12 +101,9 @@ find-marks-spec =
     last-sign-requires
     returns
     (λ c κs. search needs)
+    last-space-requires
+    returns-2
+    (λ c κs. search needs)
     (λ c. omega arith)
     loop-again
-    (λ c κs. search needs)
-    (λ c. omega arith)
-    loop-again-2
-    (λ c κs. search needs)
-    (λ c. omega arith)
-    loop-again-3
-    returns-2)
+    returns-3)
