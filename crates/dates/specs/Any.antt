@@ -50,10 +50,11 @@ numbered least NotOne = Refused Form
 unfoldable pub numberFrom : ℤ → List ℕ → Answer
 numberFrom least s = numbered least (fitSigned (2 ^ 63) (signedOf s))
 
--- `@` first: the rest as raw, else as a 64-bit number at offset 0; the least of those is -2^63
+-- behind `@`: the rest as raw, else as a 64-bit number at offset 0; the least of those is -2^63
 unfoldable pub markedOf : List ℕ → Answer
 markedOf s = orElse (rawOf rule1 s) (numberFrom (negsuc (2 ^ 63 - 1)) s)
 
+-- `@` first
 unfoldable pub atOf : List ℕ → Answer
 atOf [] = Refused Form
 atOf (b ∷ s) = cond (eqb b (code "@")) (markedOf s) (Refused Form)
