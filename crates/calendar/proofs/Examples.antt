@@ -1,4 +1,4 @@
--- What document 01 says of the calendar at single years, days and months, each under its words: antt computes the definitions
+-- What RULES 3 says of the calendar at single years, days and months, each under its words: antt computes the definitions
 -- there. Days and months are counted as in Calendar. A time is its seconds from 1 January 1970, and 377,736,739,200 more.
 -- Assumes nothing.
 use mathlib.Core.Path.{_≡_, refl}

@@ -1,4 +1,4 @@
--- What document 01, "Calendar", promises, over the definitions of specs/; the contracts carry it to the code. In order: four
+-- What RULES 3 promises of the calendar, over the definitions of specs/; the contracts carry it to the code. In order: four
 -- hundred years have 146,097 days; the leap rule with a signed year; 1 January 1970 is day 0; date to
 -- day and day to date undo each other over the years -9999 to 9999; a day has exactly one date. Last, that the counts which the
 -- code answers with are those of the signed definitions.

@@ -4808,7 +4808,7 @@ const MONTHS: [u32; 4800] = [
     146066,
 ];
 
-// The table, to be lent: entry k is the first day of month k.
+// The table: entry k is the first day of month k.
 pub fn months() -> [u32; 4800]
     ensures entries { λ r. ⌜ IsMonths r ⌝ }
     ensures length { λ r. ⌜ length r ≡ 4800 ⌝ }
