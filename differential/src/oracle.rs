@@ -16,6 +16,8 @@ pub const MAX_SECONDS: i64 = 253402207200;
 pub const MAX_OFFSET: i32 = 93599;
 /// The most pairs that are read.
 pub const MAX_PAIRS: usize = 32;
+/// The least number that "any" reads as seconds without an `@` before it.
+pub const LEAST_PLAIN: i64 = 100_000_000;
 
 /// A form of text, each with its reader.
 #[derive(Clone, Copy, PartialEq, Eq, PartialOrd, Ord, Debug)]
@@ -153,7 +155,7 @@ fn has_too_many_pairs(text: &str) -> bool {
 /// Whether "any" gets as far as its relative step. Asked of texts with many pairs only.
 fn is_read_as_relative(text: &str) -> bool {
     let at = text.strip_prefix('@').is_some_and(|rest| visible::raw(rest).is_some() || rest.parse::<i64>().is_ok());
-    let number = text.parse::<i64>().is_ok_and(|number| number >= 100_000_000);
+    let number = text.parse::<i64>().is_ok_and(|number| number >= LEAST_PLAIN);
     !at && !number && visible::iso(text).is_none() && visible::relative(text, None).is_some()
 }
 

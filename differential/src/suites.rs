@@ -178,21 +178,9 @@ fn offsets_7(ledger: &mut Ledger, size: Size) {
     });
 }
 
-/// Numbers at which a width or a count of digits ends.
-fn edges() -> Vec<i128> {
-    let mut edges = vec![0, 99_999_999, i128::from(MAX_SECONDS), i128::from(MIN_SECONDS)];
-    for power in 0..=38 {
-        edges.push(10_i128.pow(power));
-    }
-    for width in [7, 8, 15, 16, 31, 32, 63, 64, 126] {
-        edges.push(1 << width);
-    }
-    edges
-}
-
 fn numbers(ledger: &mut Ledger, _: Size) {
     let nows = [Now::missing(), Now::at(MAX_SECONDS, 0)];
-    for edge in edges() {
+    for edge in texts::every_edge() {
         for delta in -130..=130 {
             let value = edge + delta;
             for number in [
@@ -682,7 +670,7 @@ fn write_seconds(ledger: &mut Ledger, _: Size) {
         0, 1, -1, 59, -59, 60, -60, -30, 3599, 3600, -3600, 7200, 86340, 86399, -86399, 86400, -86400, 359_999,
         -359_999, 360_000, -360_000,
     ];
-    for edge in edges() {
+    for edge in texts::every_edge() {
         for delta in -130..=130 {
             for value in [edge + delta, -edge + delta] {
                 let Ok(seconds) = i64::try_from(value) else { continue };

@@ -1,6 +1,6 @@
 //! Texts: a list of telling ones, good ones at random and around each boundary, and damaged copies of good ones.
 
-use crate::oracle::{MAX_OFFSET, MAX_SECONDS, MIN_SECONDS, Now};
+use crate::oracle::{LEAST_PLAIN, MAX_OFFSET, MAX_SECONDS, MIN_SECONDS, Now};
 use crate::rng::Rng;
 
 /// Texts that a plausible mistake gets wrong, of every form. Also what damaged copies are made from.
@@ -152,8 +152,10 @@ pub const TELLING: &[&str] = &[
     " ",
 ];
 
-/// Numbers at which something changes.
-const EDGES: [i128; 24] = [
+/// Boundary numbers that random texts draw from: the limits of fields, of widths and of the range.
+///
+/// A seed picks from this list by place, so a change to it changes every random text.
+pub const EDGES: [i128; 24] = [
     0,
     5,
     9,
@@ -169,8 +171,8 @@ const EDGES: [i128; 24] = [
     255,
     256,
     10_000,
-    99_999_999,
-    100_000_000,
+    LEAST_PLAIN as i128 - 1,
+    LEAST_PLAIN as i128,
     1 << 31,
     1 << 32,
     MAX_SECONDS as i128,
@@ -179,6 +181,16 @@ const EDGES: [i128; 24] = [
     1 << 64,
     10_i128.pow(19),
 ];
+
+/// Boundary numbers around which whole suites try every number: the range, each power of ten and each width.
+///
+/// The suites go 130 to either side, so they meet every number of [`EDGES`] too.
+pub fn every_edge() -> impl Iterator<Item = i128> {
+    let limits = [0, LEAST_PLAIN - 1, MAX_SECONDS, MIN_SECONDS].map(i128::from);
+    let powers_of_ten = (0..=38).map(|power| 10_i128.pow(power));
+    let widths = [7, 8, 15, 16, 31, 32, 63, 64, 126].map(|width| 1 << width);
+    limits.into_iter().chain(powers_of_ten).chain(widths)
+}
 
 const SPACES: [&str; 12] = [" ", " ", " ", " ", "\t", "\n", "\x0b", "\x0c", "\r", "  ", " \t", "\x0b "];
 const SEPARATORS: [&str; 12] = [" ", " ", " ", ".", "-", "_", ",", ", ", "  ", "\t", "+", "/"];
