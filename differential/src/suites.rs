@@ -7,7 +7,7 @@ use jiff::ToSpan as _;
 use crate::ledger::Ledger;
 use crate::oracle::{Form, MAX_OFFSET, MAX_SECONDS, MIN_SECONDS, Now, Writer};
 use crate::rng::Rng;
-use crate::texts::{self, TELLING, month_length, seconds_of};
+use crate::texts::{self, COUNTS, NAMES, TELLING, UNITS, month_length, seconds_of};
 
 /// How much is asked.
 #[derive(Clone, Copy)]
@@ -407,8 +407,8 @@ fn in_every_case(word: &str, mut ask: impl FnMut(&str)) {
 
 fn spellings(ledger: &mut Ledger, _: Size) {
     let now = Now::at(NOON, 0);
-    for named in ["now", "today", "yesterday"] {
-        in_every_case(named, |named| {
+    for name in NAMES {
+        in_every_case(name, |name| {
             for (before, after) in [
                 ("", ""),
                 (" ", ""),
@@ -419,11 +419,11 @@ fn spellings(ledger: &mut Ledger, _: Size) {
                 ("\0", ""),
                 ("", "."),
             ] {
-                ledger.ask_all(format!("{before}{named}{after}").as_bytes(), &now);
+                ledger.ask_all(format!("{before}{name}{after}").as_bytes(), &now);
             }
         });
     }
-    for unit in ["second", "minute", "hour", "day", "week", "month", "year", "ago", "fortnight"] {
+    for unit in UNITS.into_iter().chain(["ago", "fortnight"]) {
         in_every_case(unit, |unit| {
             for plural in ["", "s", "S", "ss", "sS", "x"] {
                 for ago in ["", " ago", " AgO"] {
@@ -432,9 +432,7 @@ fn spellings(ledger: &mut Ledger, _: Size) {
             }
         });
     }
-    for count in
-        ["one", "two", "three", "four", "five", "six", "seven", "eight", "nine", "ten", "last", "zero", "eleven"]
-    {
+    for count in COUNTS.into_iter().chain(["zero", "eleven"]) {
         in_every_case(count, |count| {
             for unit in ["day", "months", "x"] {
                 for ago in ["", " ago"] {
@@ -443,22 +441,8 @@ fn spellings(ledger: &mut Ledger, _: Size) {
             }
         });
     }
-    // a word less a letter, or with one letter changed, is another word
-    for word in [
-        "second",
-        "minute",
-        "hour",
-        "day",
-        "week",
-        "month",
-        "year",
-        "last",
-        "three",
-        "ago",
-        "yesterday",
-        "today",
-        "now",
-    ] {
+    // a word with one byte changed is another word
+    for word in UNITS.into_iter().chain(["last", "three", "ago"]).chain(NAMES.into_iter().rev()) {
         for place in 0..word.len() {
             for byte in b'\0'..=127 {
                 let mut changed = word.as_bytes().to_vec();

@@ -358,8 +358,13 @@ pub fn iso(rng: &mut Rng, text: &mut Vec<u8>) {
     iso_offset(rng, text);
 }
 
-const COUNT_NAMES: [&str; 11] = ["one", "two", "three", "four", "five", "six", "seven", "eight", "nine", "ten", "last"];
-const UNITS: [&str; 7] = ["second", "minute", "hour", "day", "week", "month", "year"];
+/// The words that are a whole relative date (RULES 7.1).
+pub const NAMES: [&str; 3] = ["now", "today", "yesterday"];
+/// The words that are a count (RULES 7.3).
+pub const COUNTS: [&str; 11] = ["one", "two", "three", "four", "five", "six", "seven", "eight", "nine", "ten", "last"];
+/// The units, without their final `s` (RULES 7.5).
+pub const UNITS: [&str; 7] = ["second", "minute", "hour", "day", "week", "month", "year"];
+/// Words that are passed over where a count is awaited.
 const PASSED_OVER: [&str; 12] =
     ["and", "the", "zero", "eleven", "x", "99999999999999999999", "3days", "noon", "s", "monday", "1st", "lasts"];
 
@@ -376,7 +381,7 @@ fn in_some_case(rng: &mut Rng, word: &str) -> String {
 fn pair(rng: &mut Rng, text: &mut Vec<u8>, small: bool) {
     let count = match rng.below(8) {
         0 | 1 => {
-            let name = rng.pick(&COUNT_NAMES);
+            let name = rng.pick(&COUNTS);
             in_some_case(rng, name)
         }
         2 if !small => number(rng).trim_start_matches(['+', '-', ' ']).to_string(),
@@ -423,7 +428,7 @@ pub fn relative(rng: &mut Rng, text: &mut Vec<u8>) {
         if rng.once_in(3) {
             push_spaces(rng, text);
         }
-        let word = rng.pick(&["now", "today", "yesterday"]);
+        let word = rng.pick(&NAMES);
         text.extend(in_some_case(rng, word).bytes());
         if rng.once_in(3) {
             push_spaces(rng, text);
