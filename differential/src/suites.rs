@@ -7,7 +7,7 @@ use jiff::ToSpan as _;
 use crate::ledger::Ledger;
 use crate::oracle::{Form, MAX_OFFSET, MAX_SECONDS, MIN_SECONDS, Now, Writer};
 use crate::rng::Rng;
-use crate::texts::{self, COUNTS, NAMES, TELLING, UNITS, month_length, seconds_of};
+use crate::texts::{self, COUNTS, NAMES, NOON, TELLING, UNITS, YEAR_0, month_length, seconds_of};
 
 /// How much is asked.
 #[derive(Clone, Copy)]
@@ -46,9 +46,6 @@ pub const SUITES: &[Suite] = &[
     Suite { name: "write-seconds", about: "both writers, seconds around every edge, all rooms", run: write_seconds },
     Suite { name: "write-random", about: "both writers, times at random", run: write_random },
 ];
-
-/// 31 May 2021, noon: a day that April does not have.
-const NOON: i64 = 1622462400;
 
 /// Every text of `len` bytes over `alphabet`, handed to `ask`.
 fn every(alphabet: &[u8], len: usize, mut ask: impl FnMut(&[u8])) {
@@ -626,11 +623,11 @@ fn long(ledger: &mut Ledger, size: Size) {
 
 fn write_offsets(ledger: &mut Ledger, _: Size) {
     for offset in -400_000_i32..=400_000 {
-        let seconds = [0, -1, 1745582210, i64::MIN, i64::MAX, -62167219200][(offset.unsigned_abs() % 6) as usize];
+        let seconds = [0, -1, 1745582210, i64::MIN, i64::MAX, YEAR_0][(offset.unsigned_abs() % 6) as usize];
         ledger.ask_rooms(Writer::Header, seconds, offset);
         ledger.ask_size(seconds, offset);
         ledger.ask_write(Writer::Header, 1745582210, offset, 16);
-        for seconds in [0, 951782400, -62167219200, -62167219200 - i64::from(offset), MIN_SECONDS, MAX_SECONDS] {
+        for seconds in [0, 951782400, YEAR_0, YEAR_0 - i64::from(offset), MIN_SECONDS, MAX_SECONDS] {
             ledger.ask_write(Writer::Iso, seconds, offset, 25);
         }
         if offset % 60 == 0 || !(100..86_300).contains(&offset.abs()) && offset.abs() < 90_000 {
@@ -667,7 +664,7 @@ fn write_seconds(ledger: &mut Ledger, _: Size) {
         }
     }
     // both ends of the range and of the years that are written, second by second over two days
-    for edge in [MIN_SECONDS, MAX_SECONDS, -62167219200, 0] {
+    for edge in [MIN_SECONDS, MAX_SECONDS, YEAR_0, 0] {
         for delta in -90_000..=90_000 {
             for offset in [0, -1, 1, 86399, -86399, -62, 3600] {
                 ledger.ask_write(Writer::Iso, edge + delta, offset, 25);
@@ -675,7 +672,7 @@ fn write_seconds(ledger: &mut Ledger, _: Size) {
         }
     }
     // the first and the last second of every day of the years that are written
-    for day in seconds_of(0, 1, 1) / 86400..=MAX_SECONDS / 86400 {
+    for day in YEAR_0 / 86400..=MAX_SECONDS / 86400 {
         ledger.ask_write(Writer::Iso, day * 86400, 0, 25);
         ledger.ask_write(Writer::Iso, day * 86400 - 1, 0, 26);
     }
@@ -688,7 +685,7 @@ fn write_random(ledger: &mut Ledger, size: Size) {
             0 => rng.bits() as i64,
             1 => (rng.bits() >> rng.below(64)) as i64,
             2 => rng.within(MIN_SECONDS, MAX_SECONDS),
-            _ => rng.within(-62167219200, MAX_SECONDS),
+            _ => rng.within(YEAR_0, MAX_SECONDS),
         };
         let offset = match rng.below(4) {
             0 => rng.bits() as i32,

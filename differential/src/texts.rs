@@ -152,6 +152,11 @@ pub const TELLING: &[&str] = &[
     " ",
 ];
 
+/// Noon of 31 May 2021 at offset 0: a day that April does not have.
+pub const NOON: i64 = 1_622_462_400;
+/// The first second of year 0 at offset 0: the first that the ISO writer shows there.
+pub const YEAR_0: i64 = -62_167_219_200;
+
 /// Boundary numbers that random texts draw from: the limits of fields, of widths and of the range.
 ///
 /// A seed picks from this list by place, so a change to it changes every random text.

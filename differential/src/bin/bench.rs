@@ -6,6 +6,7 @@ use std::time::Instant;
 
 use chowderbell::entries;
 use differential::oracle::{self, Form, Now};
+use differential::texts::NOON;
 use gix_date::parse::{TimeBuf, visible};
 
 const HELP: &str = "\
@@ -19,8 +20,8 @@ nanoseconds for one call, the best of N rounds (default 40), in which the two si
   --names   the rows of the first table
   --run     make N passes over the 64 inputs of a row by one side and print nothing: for counting instructions";
 
-/// 31 May 2021, noon.
-const NOW: (i64, i32) = (1622462400, 3600);
+/// The current time: seconds and offset.
+const NOW: (i64, i32) = (NOON, 3600);
 /// Nanoseconds that one round of one side is to take.
 const ROUND: f64 = 2e6;
 /// The inputs of a row: several of a kind, so that no branch is learned by heart.

@@ -13,7 +13,7 @@ use std::process::ExitCode;
 
 use differential::oracle::{self, Answer, By, FORMS, Form, MAX_OFFSET, MAX_SECONDS, MIN_SECONDS, Now};
 use differential::rng::Rng;
-use differential::texts::{self, TELLING};
+use differential::texts::{self, NOON, TELLING};
 
 const HELP: &str = "\
 Usage: sample FOLDER
@@ -90,7 +90,7 @@ fn now_for(form: Form, rng: &mut Rng) -> Now {
 fn sample() -> Vec<(String, Answer)> {
     let mut sample = Sample { lines: Vec::new(), seen: HashSet::new() };
     let mut rng = Rng::new(1, "sample");
-    let noon = Now::at(1622462400, 3600);
+    let noon = Now::at(NOON, 3600);
     for form in FORMS {
         for text in TELLING {
             let now = if matches!(form, Form::Relative | Form::Any) { noon.clone() } else { Now::missing() };
