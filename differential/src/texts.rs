@@ -200,8 +200,14 @@ pub fn every_edge() -> impl Iterator<Item = i128> {
 const SPACES: [&str; 12] = [" ", " ", " ", " ", "\t", "\n", "\x0b", "\x0c", "\r", "  ", " \t", "\x0b "];
 const SEPARATORS: [&str; 12] = [" ", " ", " ", ".", "-", "_", ",", ", ", "  ", "\t", "+", "/"];
 
+/// Appends `more` to the text.
+fn push(text: &mut Vec<u8>, more: &str) {
+    text.extend_from_slice(more.as_bytes());
+}
+
+/// Appends some white space.
 fn push_spaces(rng: &mut Rng, text: &mut Vec<u8>) {
-    text.extend(rng.pick(&SPACES).bytes());
+    push(text, rng.pick(&SPACES));
 }
 
 /// A number: near an edge, near a power of ten, or any; sometimes with leading zeros or an odd sign.
@@ -247,16 +253,16 @@ pub fn header(rng: &mut Rng, text: &mut Vec<u8>) {
     if rng.once_in(8) {
         push_spaces(rng, text);
     }
-    text.extend(number(rng).bytes());
+    push(text, &number(rng));
     if rng.once_in(12) {
         return;
     }
     push_spaces(rng, text);
-    text.extend(header_offset(rng).bytes());
+    push(text, &header_offset(rng));
     if rng.once_in(8) {
         push_spaces(rng, text);
         if rng.once_in(2) {
-            text.extend(rng.pick(&["x", "+0100", "5", "-"]).bytes());
+            push(text, rng.pick(&["x", "+0100", "5", "-"]));
         }
     }
 }
@@ -295,12 +301,12 @@ fn clock(rng: &mut Rng, text: &mut Vec<u8>) {
     let fields = [field(rng, 23), field(rng, 59), field(rng, 59)];
     let count = if rng.once_in(3) { rng.below(3) + 1 } else { 3 };
     let between = if rng.once_in(3) { "" } else { ":" };
-    text.extend(fields[..count].join(between).bytes());
+    push(text, &fields[..count].join(between));
     match rng.below(16) {
-        0 => text.extend(format!(".{:03}", rng.below(1000)).bytes()),
-        1 => text.extend(format!(":{}", rng.below(100)).bytes()),
-        2 => text.extend(format!(" .{}", rng.below(10)).bytes()),
-        3 => text.extend(format!(".{}", rng.pick(&["", "5+", "5-x", "+5 ", "-05 x", ":"])).bytes()),
+        0 => push(text, &format!(".{:03}", rng.below(1000))),
+        1 => push(text, &format!(":{}", rng.below(100))),
+        2 => push(text, &format!(" .{}", rng.below(10))),
+        3 => push(text, &format!(".{}", rng.pick(&["", "5+", "5-x", "+5 ", "-05 x", ":"]))),
         4 => text.push(b':'),
         _ => {}
     }
@@ -310,22 +316,22 @@ fn clock(rng: &mut Rng, text: &mut Vec<u8>) {
 fn iso_offset(rng: &mut Rng, text: &mut Vec<u8>) {
     match rng.below(10) {
         0 => return,
-        1 => text.extend(b"Z"),
-        2 => text.extend(b" Z"),
+        1 => push(text, "Z"),
+        2 => push(text, " Z"),
         kind => {
             if kind < 7 {
                 push_spaces(rng, text);
             }
-            text.extend(rng.pick(&["+", "-"]).bytes());
-            text.extend(field(rng, 23).bytes());
+            push(text, rng.pick(&["+", "-"]));
+            push(text, &field(rng, 23));
             if rng.below(4) > 0 {
                 if rng.once_in(2) {
                     text.push(b':');
                 }
-                text.extend(field(rng, 59).bytes());
+                push(text, &field(rng, 59));
             }
             if rng.once_in(12) {
-                text.extend(rng.pick(&[":", "::", "0", ":00", "Z", " "]).bytes());
+                push(text, rng.pick(&[":", "::", "0", ":00", "Z", " "]));
             }
         }
     }
@@ -358,7 +364,7 @@ pub fn iso(rng: &mut Rng, text: &mut Vec<u8>) {
         2 => format!("{year_text}-{month}-{day}T"),
         _ => format!("{year_text}-{month}-{day} "),
     };
-    text.extend(date.bytes());
+    push(text, &date);
     clock(rng, text);
     iso_offset(rng, text);
 }
@@ -399,31 +405,31 @@ fn pair(rng: &mut Rng, text: &mut Vec<u8>, small: bool) {
     let unit = in_some_case(rng, unit);
     let plural = rng.pick(&["s", "s", "", "", "S", "ss"]);
     let plural = if plural == "ss" && !rng.once_in(10) { "s" } else { plural };
-    text.extend(count.bytes());
-    text.extend(rng.pick(&SEPARATORS).bytes());
-    text.extend(unit.bytes());
-    text.extend(plural.bytes());
+    push(text, &count);
+    push(text, rng.pick(&SEPARATORS));
+    push(text, &unit);
+    push(text, plural);
 }
 
 /// A relative date of `pairs` pairs.
 pub fn pairs(rng: &mut Rng, text: &mut Vec<u8>, pairs: usize, small: bool) {
     let ago = rng.below(4);
     if ago == 0 {
-        text.extend(b"ago ");
+        push(text, "ago ");
     }
     for place in 0..pairs {
         if place > 0 {
-            text.extend(rng.pick(&SEPARATORS).bytes());
+            push(text, rng.pick(&SEPARATORS));
         }
         if rng.once_in(20) {
-            text.extend(rng.pick(&PASSED_OVER).bytes());
+            push(text, rng.pick(&PASSED_OVER));
             text.push(b' ');
         }
         pair(rng, text, small);
     }
     if ago >= 2 {
-        text.extend(rng.pick(&SEPARATORS).bytes());
-        text.extend(in_some_case(rng, "ago").bytes());
+        push(text, rng.pick(&SEPARATORS));
+        push(text, &in_some_case(rng, "ago"));
     }
 }
 
@@ -434,7 +440,7 @@ pub fn relative(rng: &mut Rng, text: &mut Vec<u8>) {
             push_spaces(rng, text);
         }
         let word = rng.pick(&NAMES);
-        text.extend(in_some_case(rng, word).bytes());
+        push(text, &in_some_case(rng, word));
         if rng.once_in(3) {
             push_spaces(rng, text);
         }
@@ -451,7 +457,7 @@ fn any(rng: &mut Rng, text: &mut Vec<u8>) {
         text.push(b'@');
     }
     if rng.once_in(2) {
-        text.extend(number(rng).bytes());
+        push(text, &number(rng));
     } else {
         header(rng, text);
     }
@@ -464,7 +470,7 @@ pub fn good(rng: &mut Rng, text: &mut Vec<u8>) {
         2..=4 => iso(rng, text),
         5 | 6 => relative(rng, text),
         7 => any(rng, text),
-        _ => text.extend(rng.pick(TELLING).bytes()),
+        _ => push(text, rng.pick(TELLING)),
     }
 }
 
