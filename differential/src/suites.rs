@@ -78,6 +78,19 @@ fn joined<'a>(buffer: &'a mut Vec<u8>, first: &[u8], second: &[u8]) -> &'a [u8] 
     buffer
 }
 
+/// Runs `count` rounds, as many times as `size` asks for, and stops early once the ledger is over.
+///
+/// The rounds share a generator that depends on the seed and on `name` alone.
+fn seeded(ledger: &mut Ledger, size: Size, name: &str, count: usize, mut round: impl FnMut(&mut Ledger, &mut Rng)) {
+    let mut rng = Rng::new(size.seed, name);
+    for _ in 0..count * size.times {
+        round(ledger, &mut rng);
+        if ledger.is_over() {
+            return;
+        }
+    }
+}
+
 /// Current times of every kind.
 fn some_nows() -> Vec<Now> {
     let mut nows = vec![Now::missing()];
@@ -553,58 +566,45 @@ fn range(ledger: &mut Ledger, _: Size) {
 }
 
 fn pairs(ledger: &mut Ledger, size: Size) {
-    let mut rng = Rng::new(size.seed, "pairs");
     let mut text = Vec::new();
-    for _ in 0..40_000 * size.times {
+    seeded(ledger, size, "pairs", 40_000, |ledger, rng| {
         for count in 1..=34 {
             text.clear();
             let small = rng.below(8) > 0;
-            texts::pairs(&mut rng, &mut text, count, small);
-            let now = texts::now(&mut rng);
+            texts::pairs(rng, &mut text, count, small);
+            let now = texts::now(rng);
             ledger.ask(Form::Relative, &text, &now);
             if count % 8 == 1 {
                 ledger.ask(Form::Any, &text, &now);
             }
         }
-        if ledger.is_over() {
-            return;
-        }
-    }
+    });
 }
 
 fn random(ledger: &mut Ledger, size: Size) {
-    let mut rng = Rng::new(size.seed, "random");
     let mut text = Vec::new();
-    for _ in 0..3_000_000 * size.times {
+    seeded(ledger, size, "random", 3_000_000, |ledger, rng| {
         text.clear();
-        texts::good(&mut rng, &mut text);
-        ledger.ask_all(&text, &texts::now(&mut rng));
-        if ledger.is_over() {
-            return;
-        }
-    }
+        texts::good(rng, &mut text);
+        ledger.ask_all(&text, &texts::now(rng));
+    });
 }
 
 fn damaged(ledger: &mut Ledger, size: Size) {
-    let mut rng = Rng::new(size.seed, "damaged");
     let mut text = Vec::new();
-    for _ in 0..5_000_000 * size.times {
+    seeded(ledger, size, "damaged", 5_000_000, |ledger, rng| {
         text.clear();
-        texts::good(&mut rng, &mut text);
-        texts::damage(&mut rng, &mut text);
-        ledger.ask_all(&text, &texts::now(&mut rng));
-        if ledger.is_over() {
-            return;
-        }
-    }
+        texts::good(rng, &mut text);
+        texts::damage(rng, &mut text);
+        ledger.ask_all(&text, &texts::now(rng));
+    });
 }
 
 fn long(ledger: &mut Ledger, size: Size) {
-    let mut rng = Rng::new(size.seed, "long");
     let mut text = Vec::new();
-    for _ in 0..20_000 * size.times {
+    seeded(ledger, size, "long", 20_000, |ledger, rng| {
         text.clear();
-        texts::good(&mut rng, &mut text);
+        texts::good(rng, &mut text);
         for _ in 0..=rng.below(3) {
             let at = rng.below(text.len() + 1);
             let count = 1 << rng.below(12);
@@ -614,11 +614,8 @@ fn long(ledger: &mut Ledger, size: Size) {
             text.splice(at..at, filler.repeat(count));
         }
         text.truncate(20_000);
-        ledger.ask_all(&text, &texts::now(&mut rng));
-        if ledger.is_over() {
-            return;
-        }
-    }
+        ledger.ask_all(&text, &texts::now(rng));
+    });
 }
 
 fn write_offsets(ledger: &mut Ledger, _: Size) {
@@ -679,8 +676,7 @@ fn write_seconds(ledger: &mut Ledger, _: Size) {
 }
 
 fn write_random(ledger: &mut Ledger, size: Size) {
-    let mut rng = Rng::new(size.seed, "write-random");
-    for _ in 0..1_000_000 * size.times {
+    seeded(ledger, size, "write-random", 1_000_000, |ledger, rng| {
         let seconds = match rng.below(4) {
             0 => rng.bits() as i64,
             1 => (rng.bits() >> rng.below(64)) as i64,
@@ -698,8 +694,5 @@ fn write_random(ledger: &mut Ledger, size: Size) {
         ledger.ask_write(Writer::Iso, seconds, offset, room);
         ledger.ask_write(Writer::Header, seconds, offset, 27);
         ledger.ask_write(Writer::Iso, seconds, offset, 26);
-        if ledger.is_over() {
-            return;
-        }
-    }
+    });
 }
