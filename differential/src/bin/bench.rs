@@ -6,6 +6,7 @@ use std::time::Instant;
 
 use chowderbell::entries;
 use differential::oracle::{self, Form, Now};
+use differential::side::Ours;
 use differential::texts::NOON;
 use gix_date::parse::{TimeBuf, visible};
 
@@ -70,13 +71,7 @@ fn time_of(count: u64, pass: &mut Pass) -> f64 {
 fn our_answer(form: Form, text: &[u8]) -> (u8, i64, i32) {
     let (mut seconds, mut offset) = (0, 0);
     let (now, zone) = black_box(NOW);
-    let number = match form {
-        Form::Header => entries::header(text, &mut seconds, &mut offset),
-        Form::Raw => entries::raw(text, &mut seconds, &mut offset),
-        Form::Iso => entries::iso(text, &mut seconds, &mut offset),
-        Form::Relative => entries::relative(text, 1, now, zone, &mut seconds, &mut offset),
-        Form::Any => entries::any(text, 1, now, zone, &mut seconds, &mut offset),
-    };
+    let number = Ours::call(form, text, (1, now, zone), &mut seconds, &mut offset);
     (number, seconds, offset)
 }
 
