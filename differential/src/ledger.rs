@@ -82,8 +82,8 @@ pub struct Row {
     pub compared: u64,
     /// Answered 0.
     pub accepted: u64,
-    /// Answers that are document 01's alone: by intent, or where gix-date cannot be asked.
-    pub by_document: u64,
+    /// Answers that follow from the rules alone, see [`By::Rules`].
+    pub by_rules: u64,
     pub differ: u64,
     pub smallest: Option<Difference>,
 }
@@ -173,7 +173,7 @@ impl<'a> Ledger<'a> {
         let row = &mut self.rows[form as usize];
         row.compared += 1;
         row.accepted += u64::from(wanted.number == 0);
-        row.by_document += u64::from(by == By::Document);
+        row.by_rules += u64::from(by == By::Rules);
         if got != wanted {
             let question = Question::Read { form, text: text.to_vec(), now: now.time };
             self.note(form as usize, question, shown(wanted), shown(got));
@@ -329,7 +329,7 @@ impl<'a> Ledger<'a> {
         println!();
         println!(
             "{:<14} {:>14} {:>14} {:>14} {:>16} {:>8}",
-            "", "compared", "accepted", "refused", "document 01's", "differ"
+            "", "compared", "accepted", "refused", "rules alone", "differ"
         );
         for (name, row) in ROW_NAMES.iter().zip(&self.rows) {
             println!(
@@ -337,12 +337,14 @@ impl<'a> Ledger<'a> {
                 grouped(row.compared),
                 grouped(row.accepted),
                 grouped(row.compared - row.accepted),
-                grouped(row.by_document),
+                grouped(row.by_rules),
                 grouped(row.differ)
             );
         }
         println!("{:<14} {:>14} {:>62}", "all", grouped(self.compared()), grouped(self.differ()));
-        println!("\"document 01's\": answers that gix-date cannot give (4) or gives otherwise by intent (1, 5).");
+        println!(
+            "\"rules alone\": answers that gix-date cannot give (4), or where the rules differ on purpose (1, 5)."
+        );
         for (row, name) in ROW_NAMES.iter().enumerate() {
             if let Some(difference) = self.smallest_of(row) {
                 println!("\nsmallest of {name}: {difference}");

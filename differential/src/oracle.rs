@@ -1,8 +1,8 @@
-//! What gix-date answers, in the numbers of document 01.
+//! What gix-date answers, with the numbers of RULES 2.
 //!
-//! gix-date says "read" or "not read"; which number a text that is not read has follows from the reader that failed and
-//! from the current time. Three answers are document 01's alone, since the Rust has none of the kind: 1 for a byte of 128
-//! or more, 4 for a current time out of range, 5 for more than 32 pairs.
+//! gix-date says "read" or "not read". The number of a text that is not read follows from the reader that failed and from
+//! the current time. Three answers follow from the rules alone, because gix-date has nothing like them: 1 for a byte of
+//! 128 or more, 4 for a current time out of range, 5 for more than 32 pairs.
 
 use gix_date::Time;
 use gix_date::parse::visible;
@@ -62,13 +62,13 @@ impl Answer {
     }
 }
 
-/// Who gave the answer.
+/// Where an answer comes from.
 #[derive(Clone, Copy, PartialEq, Eq, Debug)]
 pub enum By {
     /// gix-date read the text, or did not.
     Rust,
-    /// Document 01, where it differs by intent or where the Rust cannot be asked.
-    Document,
+    /// The rules alone: they differ from gix-date on purpose (1, 5), or gix-date cannot be asked (4).
+    Rules,
 }
 
 /// A current time, made ready for gix-date.
@@ -107,7 +107,7 @@ impl Now {
 /// What is to be answered to `text`.
 pub fn wanted(form: Form, text: &[u8], now: &Now) -> (Answer, By) {
     let Some(text) = text.is_ascii().then(|| std::str::from_utf8(text).expect("ASCII is UTF-8")) else {
-        return (Answer::refused(1), By::Document);
+        return (Answer::refused(1), By::Rules);
     };
     match form {
         Form::Header => plain(gix_date::parse_header(text)),
@@ -115,16 +115,16 @@ pub fn wanted(form: Form, text: &[u8], now: &Now) -> (Answer, By) {
         Form::Iso => plain(visible::iso(text)),
         Form::Relative => match visible::relative(text, now.zoned()) {
             None => (Answer::refused(2), By::Rust),
-            Some(_) if has_too_many_pairs(text) => (Answer::refused(5), By::Document),
+            Some(_) if has_too_many_pairs(text) => (Answer::refused(5), By::Rules),
             Some(Ok(zoned)) => (landed(&zoned), By::Rust),
             Some(Err(_)) => unread(now),
         },
         Form::Any => match visible::any(text, now.zoned()) {
-            Ok(_) if has_too_many_pairs(text) && is_read_as_relative(text) => (Answer::refused(5), By::Document),
+            Ok(_) if has_too_many_pairs(text) && is_read_as_relative(text) => (Answer::refused(5), By::Rules),
             Ok(time) => (Answer::read(time), By::Rust),
             Err(_) => match visible::relative(text, None) {
                 None => (Answer::refused(2), By::Rust),
-                Some(_) if has_too_many_pairs(text) => (Answer::refused(5), By::Document),
+                Some(_) if has_too_many_pairs(text) => (Answer::refused(5), By::Rules),
                 Some(_) => unread(now),
             },
         },
@@ -139,7 +139,7 @@ fn plain(time: Option<Time>) -> (Answer, By) {
 /// The answer to a relative text that leads to no time.
 fn unread(now: &Now) -> (Answer, By) {
     let number = now.refusal();
-    (Answer::refused(number), if number == 4 { By::Document } else { By::Rust })
+    (Answer::refused(number), if number == 4 { By::Rules } else { By::Rust })
 }
 
 fn landed(zoned: &Zoned) -> Answer {
@@ -183,7 +183,7 @@ pub enum Bytes {
 
 /// What is to be written for a time.
 ///
-/// gix-date has no ISO writer of this shape: fields are jiff's, the line is put together by document 01's sentences.
+/// gix-date has no ISO writer of this shape: jiff computes the fields, and the line is put together as RULES 9.4 says.
 pub fn written(writer: Writer, seconds: i64, offset: i32) -> Bytes {
     let mut bytes = [0; 32];
     let mut rest = &mut bytes[..];

@@ -22,7 +22,7 @@ const RIGHT: Mistake =
     Mistake { name: "", of_writers: false, read: |_, _, _| None, size: oracle::size, write, leaves_outputs: false };
 const WRITERS: Mistake = Mistake { of_writers: true, ..RIGHT };
 
-/// The mistakes: the shortcuts and the worthless programs that document 01 names, and others of their kind.
+/// The mistakes: plausible shortcuts, misread rules, and programs that do no work at all.
 pub const MISTAKES: &[Mistake] = &[
     Mistake { name: "everything is refused", read: |_, _, _| Some(refused(2)), ..RIGHT },
     Mistake { name: "every time is the same", read: |_, _, _| Some(time(0, 0)), ..RIGHT },
