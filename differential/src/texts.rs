@@ -1,9 +1,9 @@
-//! Texts: a list of telling ones, good ones at random and around each boundary, and damaged copies of good ones.
+//! Texts: a list of telling ones, boundary numbers and words, random good texts, and damaged copies of these.
 
 use crate::oracle::{LEAST_PLAIN, MAX_OFFSET, MAX_SECONDS, MIN_SECONDS, Now};
 use crate::rng::Rng;
 
-/// Texts that a plausible mistake gets wrong, of every form. Also what damaged copies are made from.
+/// Texts of every form that a plausible mistake reads wrongly. Damaged copies are made from these too.
 pub const TELLING: &[&str] = &[
     // header, raw
     "1745582210 +0200",
@@ -210,7 +210,7 @@ fn push_spaces(rng: &mut Rng, text: &mut Vec<u8>) {
     push(text, rng.pick(&SPACES));
 }
 
-/// A number: near an edge, near a power of ten, or any; sometimes with leading zeros or an odd sign.
+/// A number: near an edge, near a power of ten, or anywhere. Some have leading zeros or an odd sign.
 pub fn number(rng: &mut Rng) -> String {
     let value = match rng.below(5) {
         0 => rng.one_of(&EDGES) + i128::from(rng.within(-2, 2)),
@@ -229,7 +229,7 @@ pub fn number(rng: &mut Rng) -> String {
     format!("{sign}{}{}", "0".repeat(zeros), value.abs())
 }
 
-/// Two bytes of a field: digits, mostly in bounds.
+/// A field of two bytes: mostly two digits, and mostly at most `most`.
 fn field(rng: &mut Rng, most: i64) -> String {
     match rng.below(12) {
         0 => format!("{:02}", rng.within(most, (most + 2).min(99))),
@@ -280,7 +280,7 @@ pub fn month_length(year: i64, month: i64) -> i64 {
     }
 }
 
-/// Four bytes of a year.
+/// A year, and a field of four bytes for it.
 fn year_field(rng: &mut Rng) -> (i64, String) {
     let year = match rng.below(8) {
         0 => rng.one_of(&[0, 1, 4, 100, 400, 1600, 1900, 2000, 2100, 9998, 9999]),
@@ -388,7 +388,7 @@ fn in_some_case(rng: &mut Rng, word: &str) -> String {
     }
 }
 
-/// One pair of count and unit. `small` keeps the step to some months.
+/// One pair of count and unit. With `small` the count is at most 40.
 fn pair(rng: &mut Rng, text: &mut Vec<u8>, small: bool) {
     let count = match rng.below(8) {
         0 | 1 => {
@@ -451,7 +451,7 @@ pub fn relative(rng: &mut Rng, text: &mut Vec<u8>) {
     pairs(rng, text, count, small);
 }
 
-/// What only "any" reads.
+/// A text that only "any" reads, or one near it.
 fn any(rng: &mut Rng, text: &mut Vec<u8>) {
     if rng.below(4) > 0 {
         text.push(b'@');
@@ -463,7 +463,7 @@ fn any(rng: &mut Rng, text: &mut Vec<u8>) {
     }
 }
 
-/// A good text, or nearly, of any form.
+/// A text of any form that is good, or nearly so.
 pub fn good(rng: &mut Rng, text: &mut Vec<u8>) {
     match rng.below(9) {
         0 | 1 => header(rng, text),
@@ -474,7 +474,7 @@ pub fn good(rng: &mut Rng, text: &mut Vec<u8>) {
     }
 }
 
-/// Bytes that readers look for, and some that they should not take for them.
+/// Bytes that readers look for, and others that are easily mistaken for them.
 const BYTES: &[u8] = b"0123456789+-:. \t\n\x0b\x0c\rTZ@tzagonows,_/x\0\x08\x0e\x1c\x1f\x7f;<=>?!*";
 
 fn any_byte(rng: &mut Rng) -> u8 {
@@ -517,7 +517,7 @@ pub fn damage(rng: &mut Rng, text: &mut Vec<u8>) {
     }
 }
 
-/// A current time: missing, any, at the end of a month, near the ends of the range, out of range.
+/// A current time: missing, anywhere, at the end of a month, near the ends of the range, or out of range.
 pub fn now(rng: &mut Rng) -> Now {
     let offset = match rng.below(8) {
         0 => rng.one_of(&[MAX_OFFSET, -MAX_OFFSET, MAX_OFFSET - 1, 1 - MAX_OFFSET]),
