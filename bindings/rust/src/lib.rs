@@ -7,7 +7,7 @@ mod refusal;
 mod time;
 
 pub use refusal::Refusal;
-pub use time::{Time, TimeBuf, ISO_SIZE, MAX_SIZE};
+pub use time::{Time, TimeBuf, HEADER_MAX, ISO_LENGTH};
 
 /// Reads a header date, as it stands in a commit: `1745582210 +0200`.
 ///

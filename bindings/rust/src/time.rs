@@ -2,9 +2,9 @@ use crate::{entries, Refusal};
 use core::str::FromStr;
 
 /// The most bytes that a header date has: [`Time::MIN`]'s.
-pub const MAX_SIZE: usize = 26;
+pub const HEADER_MAX: usize = 26;
 /// The bytes of an ISO line, `2008-02-14T20:30:45+00:00`.
-pub const ISO_SIZE: usize = 25;
+pub const ISO_LENGTH: usize = 25;
 
 /// A time: seconds since 1970 and the offset of a clock, in seconds east of Greenwich.
 #[derive(Clone, Copy, PartialEq, Eq, Hash, PartialOrd, Ord, Default, Debug)]
@@ -51,14 +51,14 @@ impl Time {
     }
 
     /// Writes the time as `YYYY-MM-DDTHH:MM:SS+HH:MM` at the start of `room`, and returns how many bytes that were:
-    /// [`ISO_SIZE`]. The bytes beyond stay.
+    /// [`ISO_LENGTH`]. The bytes beyond stay.
     ///
     /// # Errors
     /// In the order in which they are tested: [`Refusal::Offset`] for an offset of 24 hours or more,
     /// [`Refusal::Range`], [`Refusal::Room`]; `room` is then as it was.
     ///
     /// ```
-    /// let mut room = [0; chowderbell::ISO_SIZE];
+    /// let mut room = [0; chowderbell::ISO_LENGTH];
     /// assert_eq!(chowderbell::Time::new(1203039045, -18000).write_iso(&mut room), Ok(25));
     /// assert_eq!(&room, b"2008-02-14T20:30:45-05:00");
     /// ```
@@ -111,7 +111,7 @@ impl FromStr for Time {
 /// Room for the longest date that is written.
 #[derive(Clone, Debug, Default)]
 pub struct TimeBuf {
-    room: [u8; MAX_SIZE],
+    room: [u8; HEADER_MAX],
 }
 
 /// The answer of a writer.
