@@ -40,18 +40,21 @@ mod c {
 
 /// Reads a header date, `1745582210 +0200`. Returns 0, 1 or 2.
 #[inline]
+#[must_use]
 pub fn header(text: &[u8], seconds: &mut i64, offset: &mut i32) -> u8 {
     unsafe { c::chowderbell_header(text.as_ptr(), text.len(), seconds, offset) }
 }
 
 /// Reads a raw date, the header's strict form. Returns 0, 1 or 2.
 #[inline]
+#[must_use]
 pub fn raw(text: &[u8], seconds: &mut i64, offset: &mut i32) -> u8 {
     unsafe { c::chowderbell_raw(text.as_ptr(), text.len(), seconds, offset) }
 }
 
 /// Reads one of the three ISO forms. Returns 0, 1 or 2.
 #[inline]
+#[must_use]
 pub fn iso(text: &[u8], seconds: &mut i64, offset: &mut i32) -> u8 {
     unsafe { c::chowderbell_iso(text.as_ptr(), text.len(), seconds, offset) }
 }
@@ -60,6 +63,7 @@ pub fn iso(text: &[u8], seconds: &mut i64, offset: &mut i32) -> u8 {
 ///
 /// The current time is missing if `has_now` is 0; its two numbers are then not looked at.
 #[inline]
+#[must_use]
 pub fn relative(
     text: &[u8],
     has_now: u8,
@@ -75,24 +79,28 @@ pub fn relative(
 ///
 /// The current time is missing if `has_now` is 0; its two numbers are then not looked at.
 #[inline]
+#[must_use]
 pub fn any(text: &[u8], has_now: u8, now_seconds: i64, now_offset: i32, seconds: &mut i64, offset: &mut i32) -> u8 {
     unsafe { c::chowderbell_any(text.as_ptr(), text.len(), has_now, now_seconds, now_offset, seconds, offset) }
 }
 
 /// The number of bytes that [`write_header`] writes, also where the offset is too wide to be written.
 #[inline]
+#[must_use]
 pub fn size(seconds: i64, offset: i32) -> usize {
     unsafe { c::chowderbell_size(seconds, offset) }
 }
 
 /// Writes a time as a header date into `room`, from its start. Returns 0, 7 or 8.
 #[inline]
+#[must_use]
 pub fn write_header(seconds: i64, offset: i32, room: &mut [u8], length: &mut usize) -> u8 {
     unsafe { c::chowderbell_write_header(seconds, offset, room.as_mut_ptr(), room.len(), length) }
 }
 
 /// Writes a time as `YYYY-MM-DDTHH:MM:SS+HH:MM` into `room`, from its start. Returns 0, 6, 7 or 8.
 #[inline]
+#[must_use]
 pub fn write_iso(seconds: i64, offset: i32, room: &mut [u8], length: &mut usize) -> u8 {
     unsafe { c::chowderbell_write_iso(seconds, offset, room.as_mut_ptr(), room.len(), length) }
 }

@@ -2,6 +2,7 @@ use core::fmt;
 
 /// Why a text was not read or a time not written. The numbers are those of the C entries.
 #[derive(Clone, Copy, PartialEq, Eq, Hash, Debug)]
+#[non_exhaustive]
 #[repr(u8)]
 pub enum Refusal {
     /// 1: the text holds a byte of 128 or more.
@@ -25,6 +26,7 @@ pub enum Refusal {
 
 impl Refusal {
     /// Its number at the C entries.
+    #[must_use]
     pub const fn number(self) -> u8 {
         self as u8
     }

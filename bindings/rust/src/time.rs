@@ -7,7 +7,10 @@ pub const HEADER_MAX: usize = 26;
 pub const ISO_LENGTH: usize = 25;
 
 /// A time: seconds since 1970 and the offset of a clock, in seconds east of Greenwich.
+///
+/// Times are made by [`Time::new`].
 #[derive(Clone, Copy, PartialEq, Eq, Hash, PartialOrd, Ord, Default, Debug)]
+#[non_exhaustive]
 pub struct Time {
     /// Seconds since 1 January 1970, 00:00 at offset 0. Negative before that.
     pub seconds: i64,
@@ -22,6 +25,7 @@ impl Time {
     pub const MAX: Time = Time::new(i64::MAX, 359999);
 
     /// The time of `seconds` and `offset`.
+    #[must_use]
     pub const fn new(seconds: i64, offset: i32) -> Time {
         Time { seconds, offset }
     }
@@ -31,6 +35,7 @@ impl Time {
     /// ```
     /// assert_eq!(chowderbell::Time::new(1745582210, 7200).size(), "1745582210 +0200".len());
     /// ```
+    #[must_use]
     pub fn size(self) -> usize {
         entries::size(self.seconds, self.offset)
     }
