@@ -1,4 +1,9 @@
 #![doc = include_str!("../README.md")]
+//!
+//! # Panics
+//!
+//! No call panics when the crate is linked with the library that it was made for. Linked with another version, a call
+//! panics if an entry returns a number that [`Refusal`] does not have.
 #![no_std]
 #![deny(missing_docs)]
 
@@ -6,7 +11,7 @@ pub mod entries;
 mod refusal;
 mod time;
 
-pub use refusal::Refusal;
+pub use refusal::{Refusal, UnknownNumber};
 pub use time::{Time, TimeBuf, HEADER_MAX, ISO_LENGTH};
 
 /// Reads a header date, as it stands in a commit: `1745582210 +0200`.
@@ -25,7 +30,7 @@ pub use time::{Time, TimeBuf, HEADER_MAX, ISO_LENGTH};
 /// assert_eq!(parse_header("5 +01:00"), Err(Refusal::Form));
 /// ```
 pub fn parse_header(text: impl AsRef<[u8]>) -> Result<Time, Refusal> {
-    answer(|seconds, offset| entries::header(text.as_ref(), seconds, offset))
+    read(|seconds, offset| entries::header(text.as_ref(), seconds, offset))
 }
 
 /// Reads a raw date: a header date with an offset that is in use somewhere, and nothing else.
@@ -42,7 +47,7 @@ pub fn parse_header(text: impl AsRef<[u8]>) -> Result<Time, Refusal> {
 /// assert_eq!(parse_raw("5 +1500"), Err(Refusal::Form));
 /// ```
 pub fn parse_raw(text: impl AsRef<[u8]>) -> Result<Time, Refusal> {
-    answer(|seconds, offset| entries::raw(text.as_ref(), seconds, offset))
+    read(|seconds, offset| entries::raw(text.as_ref(), seconds, offset))
 }
 
 /// Reads an ISO date with a time, in one of three forms: dotted, compact, flexible.
@@ -59,7 +64,7 @@ pub fn parse_raw(text: impl AsRef<[u8]>) -> Result<Time, Refusal> {
 /// assert_eq!(parse_iso("2008-02-30 20:30:45"), Err(Refusal::Form));
 /// ```
 pub fn parse_iso(text: impl AsRef<[u8]>) -> Result<Time, Refusal> {
-    answer(|seconds, offset| entries::iso(text.as_ref(), seconds, offset))
+    read(|seconds, offset| entries::iso(text.as_ref(), seconds, offset))
 }
 
 /// Reads a relative date, `2 weeks ago`, as seen from `now`; the offset is that of `now`.
@@ -81,7 +86,7 @@ pub fn parse_iso(text: impl AsRef<[u8]>) -> Result<Time, Refusal> {
 /// ```
 pub fn parse_relative(text: impl AsRef<[u8]>, now: Option<Time>) -> Result<Time, Refusal> {
     let (has_now, at) = current(now);
-    answer(|seconds, offset| entries::relative(text.as_ref(), has_now, at.seconds, at.offset, seconds, offset))
+    read(|seconds, offset| entries::relative(text.as_ref(), has_now, at.seconds, at.offset, seconds, offset))
 }
 
 /// Reads a date of any form: `@` and seconds, seconds from 100000000 on, ISO, relative, raw.
@@ -99,7 +104,7 @@ pub fn parse_relative(text: impl AsRef<[u8]>, now: Option<Time>) -> Result<Time,
 /// ```
 pub fn parse(text: impl AsRef<[u8]>, now: Option<Time>) -> Result<Time, Refusal> {
     let (has_now, at) = current(now);
-    answer(|seconds, offset| entries::any(text.as_ref(), has_now, at.seconds, at.offset, seconds, offset))
+    read(|seconds, offset| entries::any(text.as_ref(), has_now, at.seconds, at.offset, seconds, offset))
 }
 
 /// The current time as the entries take it.
@@ -110,11 +115,9 @@ fn current(now: Option<Time>) -> (u8, Time) {
     }
 }
 
-/// The answer of a reader.
-fn answer(entry: impl FnOnce(&mut i64, &mut i32) -> u8) -> Result<Time, Refusal> {
+/// Calls a reader's entry.
+fn read(entry: impl FnOnce(&mut i64, &mut i32) -> u8) -> Result<Time, Refusal> {
     let mut time = Time::new(0, 0);
-    match entry(&mut time.seconds, &mut time.offset) {
-        0 => Ok(time),
-        number => Err(Refusal::of(number)),
-    }
+    let number = entry(&mut time.seconds, &mut time.offset);
+    refusal::answer(number, time)
 }

@@ -1,3 +1,4 @@
+use crate::refusal::answer;
 use crate::{entries, Refusal};
 use core::str::FromStr;
 
@@ -52,7 +53,7 @@ impl Time {
     /// assert_eq!(&room, b"1745582210 +0200....");
     /// ```
     pub fn write_to(self, room: &mut [u8]) -> Result<usize, Refusal> {
-        written(|length| entries::write_header(self.seconds, self.offset, room, length))
+        write(|length| entries::write_header(self.seconds, self.offset, room, length))
     }
 
     /// Writes the time as `YYYY-MM-DDTHH:MM:SS+HH:MM` at the start of `room`, and returns how many bytes that were:
@@ -68,7 +69,7 @@ impl Time {
     /// assert_eq!(&room, b"2008-02-14T20:30:45-05:00");
     /// ```
     pub fn write_iso(self, room: &mut [u8]) -> Result<usize, Refusal> {
-        written(|length| entries::write_iso(self.seconds, self.offset, room, length))
+        write(|length| entries::write_iso(self.seconds, self.offset, room, length))
     }
 
     /// The time as a header date, kept in `buf`.
@@ -119,11 +120,9 @@ pub struct TimeBuf {
     room: [u8; HEADER_MAX],
 }
 
-/// The answer of a writer.
-fn written(entry: impl FnOnce(&mut usize) -> u8) -> Result<usize, Refusal> {
+/// Calls a writer's entry.
+fn write(entry: impl FnOnce(&mut usize) -> u8) -> Result<usize, Refusal> {
     let mut length = 0;
-    match entry(&mut length) {
-        0 => Ok(length),
-        number => Err(Refusal::of(number)),
-    }
+    let number = entry(&mut length);
+    answer(number, length)
 }
