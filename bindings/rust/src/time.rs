@@ -2,28 +2,28 @@ use crate::refusal::answer;
 use crate::{entries, Refusal};
 use core::str::FromStr;
 
-/// The most bytes that a header date has: [`Time::MIN`]'s.
+/// The length of the longest header date, which is that of [`Time::MIN`]. A room of this many bytes holds every header.
 pub const HEADER_MAX: usize = 26;
-/// The bytes of an ISO line, `2008-02-14T20:30:45+00:00`.
+/// The length of every ISO line, `2008-02-14T20:30:45+00:00`.
 pub const ISO_LENGTH: usize = 25;
 
-/// A time: seconds since 1970 and the offset of a clock, in seconds east of Greenwich.
+/// A time: seconds since 1970, and an offset from UTC in seconds.
 ///
 /// Times are made by [`Time::new`].
 #[derive(Clone, Copy, PartialEq, Eq, Hash, PartialOrd, Ord, Default, Debug)]
 #[non_exhaustive]
 pub struct Time {
-    /// Seconds since 1 January 1970, 00:00 at offset 0. Negative before that.
+    /// Seconds since 1 January 1970, 00:00 UTC. Negative before that.
     pub seconds: i64,
-    /// What the clock is ahead, in seconds. Negative in the west.
+    /// How many seconds the local clock is ahead of UTC. Negative in the west.
     pub offset: i32,
 }
 
 impl Time {
     /// The smallest time.
-    pub const MIN: Time = Time::new(i64::MIN, -359999);
+    pub const MIN: Time = Time::new(i64::MIN, -359_999);
     /// The largest time.
-    pub const MAX: Time = Time::new(i64::MAX, 359999);
+    pub const MAX: Time = Time::new(i64::MAX, 359_999);
 
     /// The time of `seconds` and `offset`.
     #[must_use]
@@ -31,7 +31,7 @@ impl Time {
         Time { seconds, offset }
     }
 
-    /// The number of bytes that [`Time::write_to`] writes, also where the offset is too wide to be written.
+    /// The length of the header date, which [`Time::write_to`] writes; also if the offset is too wide to be written.
     ///
     /// ```
     /// assert_eq!(chowderbell::Time::new(1745582210, 7200).size(), "1745582210 +0200".len());
@@ -41,11 +41,11 @@ impl Time {
         entries::size(self.seconds, self.offset)
     }
 
-    /// Writes the time as a header date at the start of `room`, and returns how many bytes that were: [`Time::size`].
-    /// The bytes beyond stay. Seconds of the offset are dropped.
+    /// Writes the time as a header date at the start of `room` and returns its length, [`Time::size`]. The bytes after it
+    /// are not changed. The offset is cut to whole minutes.
     ///
     /// # Errors
-    /// [`Refusal::Offset`] for an offset of 100 hours or more, [`Refusal::Room`]; `room` is then as it was.
+    /// [`Refusal::Offset`] if the offset is 100 hours or more either way; [`Refusal::Room`]. `room` is not changed then.
     ///
     /// ```
     /// let mut room = [b'.'; 20];
@@ -56,12 +56,12 @@ impl Time {
         write(|length| entries::write_header(self.seconds, self.offset, room, length))
     }
 
-    /// Writes the time as `YYYY-MM-DDTHH:MM:SS+HH:MM` at the start of `room`, and returns how many bytes that were:
-    /// [`ISO_LENGTH`]. The bytes beyond stay.
+    /// Writes the time as `YYYY-MM-DDTHH:MM:SS+HH:MM` at the start of `room` and returns its length, [`ISO_LENGTH`]. The
+    /// bytes after it are not changed.
     ///
     /// # Errors
-    /// In the order in which they are tested: [`Refusal::Offset`] for an offset of 24 hours or more,
-    /// [`Refusal::Range`], [`Refusal::Room`]; `room` is then as it was.
+    /// In the order in which they are tested: [`Refusal::Offset`] if the offset is 24 hours or more either way,
+    /// [`Refusal::Range`], [`Refusal::Room`]. `room` is not changed then.
     ///
     /// ```
     /// let mut room = [0; chowderbell::ISO_LENGTH];
@@ -72,10 +72,10 @@ impl Time {
         write(|length| entries::write_iso(self.seconds, self.offset, room, length))
     }
 
-    /// The time as a header date, kept in `buf`.
+    /// The time as a header date, written into `buf`.
     ///
     /// # Errors
-    /// [`Refusal::Offset`] for an offset of 100 hours or more.
+    /// [`Refusal::Offset`] if the offset is 100 hours or more either way.
     ///
     /// ```
     /// use chowderbell::{Time, TimeBuf};
@@ -86,13 +86,13 @@ impl Time {
     /// ```
     pub fn to_str(self, buf: &mut TimeBuf) -> Result<&str, Refusal> {
         let length = self.write_to(&mut buf.room)?;
-        Ok(core::str::from_utf8(&buf.room[..length]).expect("a header date is ASCII"))
+        Ok(buf.text(length))
     }
 
-    /// The time as `YYYY-MM-DDTHH:MM:SS+HH:MM`, kept in `buf`.
+    /// The time as `YYYY-MM-DDTHH:MM:SS+HH:MM`, written into `buf`.
     ///
     /// # Errors
-    /// [`Refusal::Offset`] for an offset of 24 hours or more, [`Refusal::Range`].
+    /// [`Refusal::Offset`] if the offset is 24 hours or more either way; [`Refusal::Range`].
     ///
     /// ```
     /// use chowderbell::{Time, TimeBuf};
@@ -101,11 +101,14 @@ impl Time {
     /// ```
     pub fn to_iso(self, buf: &mut TimeBuf) -> Result<&str, Refusal> {
         let length = self.write_iso(&mut buf.room)?;
-        Ok(core::str::from_utf8(&buf.room[..length]).expect("an ISO line is ASCII"))
+        Ok(buf.text(length))
     }
 }
 
-/// Reads a header date, as [`parse_header`](crate::parse_header).
+/// Reads a header date, like [`parse_header`](crate::parse_header).
+///
+/// `str::parse` has no argument for the current time, and a header date needs none. [`parse`](crate::parse) reads any
+/// form, but without a current time it would refuse every relative date.
 impl FromStr for Time {
     type Err = Refusal;
 
@@ -114,10 +117,17 @@ impl FromStr for Time {
     }
 }
 
-/// Room for the longest date that is written.
+/// A buffer that holds every header date and every ISO line.
 #[derive(Clone, Debug, Default)]
 pub struct TimeBuf {
     room: [u8; HEADER_MAX],
+}
+
+impl TimeBuf {
+    /// The first `length` bytes, which a writer wrote.
+    fn text(&self, length: usize) -> &str {
+        core::str::from_utf8(&self.room[..length]).expect("the writers write ASCII")
+    }
 }
 
 /// Calls a writer's entry.
