@@ -25,7 +25,7 @@ use Rattle.relative.specs.Pairs.{pairsFrom, agoFrom, known}
 use Rattle.relative.specs.Steps.{monthStart, monthsEarlier, landing, landed, step, steps}
 use Rattle.relative.specs.Joined.{waitsFrom, Whole}
 use Rattle.relative.specs.Months.{OnePair}
-use Rattle.relative.specs.declared.Unit.the-variants.{Months}
+use Rattle.relative.specs.declared.pair.Unit.the-variants.{Months}
 use Rattle.relative.specs.Relative.{maxPairs, from, namedOf, byPairs, relativeOf}
 
 -- a text, read from a current time, and its answer

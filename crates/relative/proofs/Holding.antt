@@ -17,9 +17,9 @@ use Rattle.relative.specs.Words.{is, countOf, unitOf}
 use Rattle.relative.specs.Pairs.{isKnown}
 use Rattle.relative.specs.Steps.{step, steps}
 use Rattle.relative.specs.Held.{unitAt, zipped}
-use Rattle.relative.specs.declared.Unit.{Unit}
-use Rattle.relative.specs.declared.Unit.the-variants.{Unknown}
-use Rattle.relative.specs.declared.Pair.{Pair}
+use Rattle.relative.specs.declared.pair.Unit.{Unit}
+use Rattle.relative.specs.declared.pair.Unit.the-variants.{Unknown}
+use Rattle.relative.specs.declared.pair.Pair.{Pair}
 use Rattle.relative.proofs.Scanning.{Scanned, stored}
 
 pub zipped-set : (cs us : List ℕ) (n c u : ℕ) → zipped (set cs n c) (set us n u) ≡ set (zipped cs us) n (record { count = c; unit = unitAt u })

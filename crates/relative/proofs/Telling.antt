@@ -23,7 +23,7 @@ use Rattle.relative.specs.Pairs.{known, pairsOf, agoIn}
 use Rattle.relative.specs.Steps.{steps}
 use Rattle.relative.specs.Relative.{from, byPairs}
 use Rattle.relative.specs.Held.{toldOf, Holds, startOf}
-use Rattle.relative.specs.declared.Pair.{Pair}
+use Rattle.relative.specs.declared.pair.Pair.{Pair}
 use Rattle.relative.specs.declared.pairs.Told.{Told}
 use Rattle.relative.specs.declared.pairs.Told.the-variants.{Pairs, Not}
 use Rattle.relative.specs.declared.steps.Start.{Start}

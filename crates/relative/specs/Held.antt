@@ -17,9 +17,9 @@ use Rattle.time.specs.declared.Refusal.{Refusal}
 use Rattle.time.specs.declared.Refusal.the-variants.{Form, Missing as NoCurrent, Current, Pairs as TooMany, Range}
 use Rattle.time.specs.declared.Answer.{Answer}
 use Rattle.time.specs.declared.Answer.the-variants.{Time, Refused}
-use Rattle.relative.specs.declared.Unit.{Unit as PairUnit}
-use Rattle.relative.specs.declared.Unit.the-variants.{Seconds, Months, Unknown}
-use Rattle.relative.specs.declared.Pair.{Pair}
+use Rattle.relative.specs.declared.pair.Unit.{Unit as PairUnit}
+use Rattle.relative.specs.declared.pair.Unit.the-variants.{Seconds, Months, Unknown}
+use Rattle.relative.specs.declared.pair.Pair.{Pair}
 use Rattle.relative.specs.declared.pairs.Told.{Told}
 use Rattle.relative.specs.declared.pairs.Told.the-variants.{Pairs, Not}
 use Rattle.relative.specs.declared.steps.Start.{Start}

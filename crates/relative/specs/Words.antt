@@ -14,8 +14,8 @@ use Rattle.text.specs.Number.{digitsOf, fit}
 use Rattle.text.specs.declared.words.Separator.the-variants.{Mark}
 use Rattle.text.specs.declared.number.Number.{Number}
 use Rattle.text.specs.declared.number.Number.the-variants.{Value}
-use Rattle.relative.specs.declared.Unit.{Unit}
-use Rattle.relative.specs.declared.Unit.the-variants.{Seconds, Months, Unknown}
+use Rattle.relative.specs.declared.pair.Unit.{Unit}
+use Rattle.relative.specs.declared.pair.Unit.the-variants.{Seconds, Months, Unknown}
 
 -- words are runs of ASCII letters and digits
 unfoldable pub wordsOf : List ℕ → List (List ℕ)

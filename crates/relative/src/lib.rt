@@ -3,6 +3,7 @@
 //
 // Every text has an answer: a time, or the refusal 1, 2, 5, 3, 4 or 6 that comes first. `parse`
 // reads no month table; `parse_with` is lent it, for callers that read many texts.
+mod pair;
 mod pairs;
 mod steps;
 mod words;
@@ -11,30 +12,16 @@ ghost use mathlib.Core.Path.{_≡_};
 ghost use mathlib.Core.List.{_∷_, []};
 ghost use Rattle.calendar.specs.Table.{IsMonths};
 ghost use Rattle.relative.specs.Relative.{maxPairs, from, namedOf, byPairs, relativeOf};
-ghost use Rattle.relative.specs.declared.Unit.the-variants.{Seconds};
+ghost use Rattle.relative.specs.declared.pair.Unit.the-variants.{Seconds};
+pub use pair::MAX_PAIRS;
+pub use pair::Pair;
+pub use pair::Unit;
 use pairs::Told;
 use steps::Start;
 use text::number::Number;
 use time::Answer;
 use time::Now;
 use time::Refusal;
-
-// The most pairs that a text may have.
-pub const MAX_PAIRS: usize = 32;
-
-// How a unit is subtracted: so many seconds off the time, or so many months off the month count. An
-// unknown one counts as seconds, in a text that has the mark.
-pub enum Unit {
-    Seconds(u64),
-    Months(u64),
-    Unknown,
-}
-
-// A count and its unit.
-pub struct Pair {
-    pub count: u64,
-    pub unit: Unit,
-}
 
 // The time that a relative text says, at the current time's offset. Refused: NotAscii, a byte of
 // 128 or more; Form, no pair, or an unknown unit without the mark; Pairs, more than MAX_PAIRS of

@@ -7,7 +7,7 @@ ghost use lib.ListN.{length, take};
 ghost use Rattle.relative.specs.Held.{unitAt, zipped, toldOf, toldRefusal, Holds};
 ghost use Rattle.relative.specs.Pairs.{isKnown, known, pairsOf, agoIn};
 ghost use Rattle.relative.specs.Relative.{maxPairs};
-use crate::MAX_PAIRS;
+use crate::pair::MAX_PAIRS;
 use crate::words;
 use text::bytes;
 use text::number::Number;

@@ -5,7 +5,7 @@ use mathlib.Core.List.{List}
 use Rattle.time.specs.Range.{timeOf}
 use Rattle.time.specs.declared.Answer.the-variants.{Time}
 use Rattle.relative.specs.Steps.{steps}
-use Rattle.relative.specs.declared.Pair.{Pair}
+use Rattle.relative.specs.declared.pair.Pair.{Pair}
 use Rattle.relative.proofs.Telling.{byPairs-of-told, from-of-start}
 use borrow.Author.Needs.{needs}
 use Rattle.relative.proofs.parse_pairs.Statement.{statement}
