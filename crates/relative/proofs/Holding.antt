@@ -54,7 +54,7 @@ unfolding unitOf unitNamed
 Coded-unitOf w = Coded-unitAmong unitNames (singular w) (search needs)
 
 -- ---- two lists
-pub zipped-set : (cs us : List ℕ) (n c u : ℕ) → zipped (set cs n c) (set us n u) ≡ set (zipped cs us) n (record { count = c; unit = unitAt u })
+zipped-set : (cs us : List ℕ) (n c u : ℕ) → zipped (set cs n c) (set us n u) ≡ set (zipped cs us) n (record { count = c; unit = unitAt u })
 unfolding zipped
 zipped-set [] us n c u = refl
 zipped-set (x ∷ cs) [] zero c u = refl
@@ -62,13 +62,13 @@ zipped-set (x ∷ cs) [] (suc n) c u = refl
 zipped-set (x ∷ cs) (y ∷ us) zero c u = refl
 zipped-set (x ∷ cs) (y ∷ us) (suc n) c u = rw (zipped-set cs us n c u)
 
-pub length-zipped : (cs us : List ℕ) → length cs ≡ length us → length (zipped cs us) ≡ length cs
+length-zipped : (cs us : List ℕ) → length cs ≡ length us → length (zipped cs us) ≡ length cs
 unfolding zipped
 length-zipped [] us h = refl
 length-zipped (x ∷ cs) [] h = omega arith
 length-zipped (x ∷ cs) (y ∷ us) h = ap suc (length-zipped cs us (omega arith))
 
-pub getD-zipped : (cs us : List ℕ) (i : ℕ) (d : Pair) → i < length cs → i < length us → getD (zipped cs us) i d ≡ record { count = getD cs i 0; unit = unitAt (getD us i 0) }
+getD-zipped : (cs us : List ℕ) (i : ℕ) (d : Pair) → i < length cs → i < length us → getD (zipped cs us) i d ≡ record { count = getD cs i 0; unit = unitAt (getD us i 0) }
 unfolding zipped
 getD-zipped [] us i d h k = absurd (not-suc-le-zero h)
 getD-zipped (x ∷ cs) [] i d h k = absurd (not-suc-le-zero k)

@@ -21,6 +21,7 @@ use Rattle.calendar.proofs.Lengths.{firstDay-zero}
 use Rattle.calendar.proofs.Cycle.{firstDay-le, firstDay-add-4800}
 use Rattle.calendar.proofs.Dates.{IsDate-monthOf, IsDate-day-lt, IsDate-month-lt}
 use Rattle.time.specs.Range.{leastSeconds, mostSeconds, secondsInRange, since1970, timeOf, InRange}
+use Rattle.time.specs.declared.Time.{Time}
 use Rattle.time.specs.declared.range.Instant.{Instant}
 use Rattle.time.specs.declared.Refusal.the-variants.{Range}
 use Rattle.time.specs.declared.Answer.the-variants.{Refused}
@@ -59,7 +60,7 @@ pub pos-sub-lt : (m n : ℕ) → m < n → pos m -ℤ pos n ≡ negsuc (n - suc 
 pos-sub-lt m n h = parts-eq _ _ (omega (arith, add-parts (pos m) (negℤ (pos n)), up-neg (pos n), dn-neg (pos n)))
 
 -- months before month 0 begin before day 0
-pub monthStart-negsuc : (j : ℕ) → monthStart (negsuc j) ≤ℤ pos 0
+monthStart-negsuc : (j : ℕ) → monthStart (negsuc j) ≤ℤ pos 0
 unfolding monthStart
 monthStart-negsuc j =
     let a = firstDay-le (4799 - j % 4800) 4800 (omega arith) in
@@ -96,10 +97,13 @@ local-of i r =
     omega (arith, r .early, one-dn (s +ℤ o +ℤ pos 377736739200), natAbs-parts (s +ℤ o +ℤ pos 377736739200), add-parts (s +ℤ o) (pos 377736739200), add-parts s o, add-parts (pos (i .seconds)) (negsuc 377736739199), add-parts (pos (i .offset)) (negsuc 93599))
 
 -- where the calendar has a month n before, the landing is the calendar's
+pub monthsEarlier-is : (x : Time) (n : ℕ) → n ≤ monthOf (localSeconds x / 86400) → monthsEarlier x n ≡ pos (monthsBack (localSeconds x) n) -ℤ pos 377736739200 -ℤ x .offset
+unfolding monthsEarlier monthsBack monthStart
+monthsEarlier-is x n h = rw (pos-sub (monthOf (localSeconds x / 86400)) n h)
+
 pub monthsEarlier-of-le : (i : Instant) (n : ℕ) → InRange i → let t : ℕ = i .seconds + i .offset - 93600 in n ≤ monthOf (t / 86400)
     → monthsEarlier (timeOf i) n ≡ pos (monthsBack t n) -ℤ pos 377736739200 -ℤ (pos (i .offset) -ℤ pos 93600)
-unfolding monthsEarlier monthsBack monthStart
-monthsEarlier-of-le i n r h = rw (local-of i r, pos-sub (monthOf ((i .seconds + i .offset - 93600) / 86400)) n h)
+monthsEarlier-of-le i n r = rw (local-of i r) at (monthsEarlier-is (timeOf i) n)
 
 -- where it has none, the landing is below the range
 module _ (m : ℤ) (k c : ℕ) (o : ℤ) (h : m ≤ℤ pos 0) (a : k < 31) (b : c < 86400) (e : negsuc 93598 ≤ℤ o) where

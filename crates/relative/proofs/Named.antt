@@ -46,7 +46,7 @@ words-reverse-trimStart (b ∷ r) =
     (λ e. rw e (words-reverse-trimStart r ∙ sym (words-snoc-separator (separator Mark) b (reverse r) (isSpace-separates b e)) ∙ ap (words (separator Mark)) (sym (reverse-cons b r))))
     (λ e. rw e)
 
-pub words-trim : (s : List ℕ) → words (separator Mark) (trim s) ≡ words (separator Mark) s
+words-trim : (s : List ℕ) → words (separator Mark) (trim s) ≡ words (separator Mark) s
 unfolding trim trimEnd
 words-trim s = words-reverse-trimStart (reverse (trimStart s)) ∙ ap (words (separator Mark)) (reverse-reverse (trimStart s)) ∙ words-trimStart s
 
@@ -83,7 +83,7 @@ not-same-of-pair s t o h =
     (λ e. absurd (not-suc-le-zero (rw (← words-trim s, no-pair (trim s) (same-one (trim s) t e o)) at h)))
     (λ e. e)
 
-pub namedOf-of-pair : (s : List ℕ) → 0 < length (pairsOf s) → namedOf s ≡ Not
+namedOf-of-pair : (s : List ℕ) → 0 < length (pairsOf s) → namedOf s ≡ Not
 unfolding namedOf isAlphanumeric
 namedOf-of-pair s h =
     rw (not-same-of-pair s (bytes "now") refl h, not-same-of-pair s (bytes "today") refl h, not-same-of-pair s (bytes "yesterday") refl h)

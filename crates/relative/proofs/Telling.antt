@@ -60,7 +60,7 @@ module _ (bound : ℕ) (s : List ℕ) (now : Now) (t : Counted) (e : t ≡ count
     byPairs-of-le h = let p = pairs-of-counted (length (pairsOf s)) n (known (pairsOf s) || agoIn s) (sym e ∙ f) in rw (p .0, le-leb (length (pairsOf s)) bound (omega (arith, p .1)))
 
 -- ---- the start
-abbrev pub byStart : List Pair → Start → Answer
+abbrev byStart : List Pair → Start → Answer
 byStart ps (From i) = steps ps (Time (timeOf i))
 byStart ps (No r) = Refused r
 
@@ -70,7 +70,7 @@ from-startOf Missing ps = refl
 from-startOf (At x) ps = by-test (timeInRange x) (λ e. rw (e, timeOf-instantOf x e)) (λ e. rw e)
 
 -- as a time is moved to numbers from 0
-abbrev pub byMoved : Moved → Start
+abbrev byMoved : Moved → Start
 byMoved (In i) = From i
 byMoved Out = No Current
 

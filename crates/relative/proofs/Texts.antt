@@ -56,7 +56,7 @@ landed-good : (z o : ℤ) → offsetInRange o ≡ true → Good (landed z o)
 unfolding landed timeInRange
 landed-good z o h = by-test (secondsInRange z) (λ e. rw e (rw e h)) (λ e. rw e tt)
 
-pub step-good : (p : Pair) (x : Answer) → Good x → Good (step p x)
+step-good : (p : Pair) (x : Answer) → Good x → Good (step p x)
 unfolding step timeInRange
 step-good p (Time x) g = landed-good (landing x (p .count) (p .unit)) (x .offset) (both (secondsInRange (x .seconds)) (offsetInRange (x .offset)) g .1)
 step-good p (Refused r) g = tt

@@ -11,7 +11,6 @@ use lib.ListN.{length, length-set}
 use Rattle.text.specs.Places.{part}
 use Rattle.text.specs.declared.number.Number.the-variants.{Value}
 use Rattle.relative.specs.Words.{is, countOf, unitOf}
-use Rattle.relative.specs.Pairs.{isKnown}
 use Rattle.relative.specs.Held.{places, zipped}
 use Rattle.relative.proofs.Holding.{Coded-unitOf, stored-two}
 use Rattle.relative.proofs.Scanning.{left, Scanned, scanned-start, all-number, all-known, all-mark, all-stored, marked, passed, dropped, counted, took-word, took-none, took-second, took-last, further}
@@ -90,14 +89,8 @@ module _ (c : tie.After-is-known Inv-loop μ-loop) where
   abbrev at-second : tie.After-known-told3 Inv-loop μ-loop
   at-second = c .before .before .before
 
-  abbrev at-start : tie.At-loop Inv-loop μ-loop
-  at-start = at-loop (at-first at-second)
-
   unit-is : c .before .unit .result ≡ unitOf (word2 at-second)
   unit-is = c .before .unit .ensures ∙ ap unitOf (c .before .before .within2 .ensures)
-
-  known-is : c .is-known .result ≡ isKnown (unitOf (word2 at-second))
-  known-is = c .is-known .ensures ∙ ap isKnown unit-is
 
 -- no word is read yet
 loop-holds : tie.Need-loop-holds Inv-loop μ-loop
@@ -158,7 +151,7 @@ loop-again-3 : tie.Need-loop-again-3 Inv-loop μ-loop
 loop-again-3 c =
     let at-unit = c .before .before in
     let at = at-second at-unit in
-    let inv = at-start at-unit .loop .inv in (
+    let inv = at-loop (at-first at) .loop .inv in (
       omega (arith, inv .0, moved (at-first at), moved2 at),
       (simp length-set (inv .1 .0), simp length-set (inv .1 .1)),
       stored-two _ _ (second at) (not-ago (at-other (at-count at))) (counts (at-count at)) (unit-is at-unit) (at-unit .is-known .ensures) (c .code-of .ensures) (inv .1 .0) (inv .1 .1) (omega (arith, c .before .if2 .taken)),
@@ -168,7 +161,7 @@ add-n-2 : tie.Need-add-n-2 Inv-loop μ-loop
 add-n-2 c =
     let at-unit = c .before in
     let at = at-second at-unit in
-    omega (arith, at-start at-unit .before .before .before .good .0 .0, at-start at-unit .loop .inv .0, moved (at-first at))
+    omega (arith, at-loop (at-first at) .before .before .before .good .0 .0, at-loop (at-first at) .loop .inv .0, moved (at-first at))
 
 loop-less-4 : tie.Need-loop-less-4 Inv-loop μ-loop
 loop-less-4 c = let at = at-second (c .before) in omega (arith, moved (at-first at), moved2 at)
@@ -178,10 +171,10 @@ loop-again-4 : tie.Need-loop-again-4 Inv-loop μ-loop
 loop-again-4 c =
     let at-unit = c .before in
     let at = at-second at-unit in
-    let inv = at-start at-unit .loop .inv in (
+    let inv = at-loop (at-first at) .loop .inv in (
       omega (arith, inv .0, moved (at-first at), moved2 at),
       inv .1,
-      rw (known-is at-unit) (counted (second at) (not-ago (at-other (at-count at))) (counts (at-count at)) (c .if2 .left)),
+      counted (second at) (not-ago (at-other (at-count at))) (counts (at-count at)) (unit-is at-unit) (at-unit .is-known .ensures) (c .if2 .left),
     )
 
 pub scan-spec : {M : Type 1} → statement M
