@@ -14,8 +14,9 @@ use Rattle.text.proofs.decimal.magnitude.Tie as tie
 neg : (c : tie.Then1) → At (least w64) (negsuc 0) (c .before .args .z) (toZ w64 (ofZ w64 (c .before .args .z)))
 neg c = let p = param w64 (c .before .fits .z) in upto p (lt-pred (lt-yes p (lit (pos 0)) (c .if1 .taken)))
 
+-- the difference fits 64 bits: its size is below 2 ^ 63, which 0 - z does not keep for the least z
 sub-result : tie.Need-sub-result
-sub-result c = fits w64 tt (sub (lit (negsuc 0)) (neg c))
+sub-result c = record { sfits = omega (arith, fits w64 tt (sub (lit (negsuc 0)) (neg c)) .sfits) }
 
 cast-result : tie.Need-cast-result
 cast-result c = unsign w64 tt (read w64 tt (sub (lit (negsuc 0)) (neg c)))
