@@ -13,9 +13,8 @@ use Rattle.ints.proofs.Parts.{le-parts, lt-parts, parts-le, parts-lt}
 use Rattle.ints.proofs.Machine.{leZ-true, ltZ-true}
 use Rattle.text.specs.Number.{readFrom, signedOf, fitSigned}
 use Rattle.text.specs.Decimal.{decimal, decimalBefore, signed, signedBefore}
-use Rattle.text.specs.declared.number.Number.the-variants.{Value}
 use Rattle.text.specs.declared.number.Integer.the-variants.{Is}
-use Rattle.text.proofs.Decimals.{Between, decimalBefore-app, decimalBefore-append, decimalBefore-between, length-decimal-pos, length-decimal-le, readFrom-decimalBefore}
+use Rattle.text.proofs.Decimals.{Between, decimalBefore-app, decimalBefore-between, length-decimal-pos, length-decimal-le, readFrom-decimal, decimal-between}
 use Rattle.text.proofs.Putting.{put-put}
 use Rattle.text.proofs.Texts.{signedOf-of-digits, signedOf-of-minus}
 
@@ -78,8 +77,8 @@ signed-between lo hi l h z = signedBefore-between lo hi l h z [] tt
 pub signedOf-signed : (z : ℤ) → signedOf (signed z) ≡ Is z
 unfolding signed signedBefore decimal readFrom
 signedOf-signed (pos n) =
-    signedOf-of-digits (decimal n) n (length-decimal-pos n) (decimalBefore-between 48 57 (omega arith) (omega arith) n [] tt) (readFrom-decimalBefore n [])
-signedOf-signed (negsuc n) = signedOf-of-minus (decimal (suc n)) (suc n) (length-decimal-pos (suc n)) (readFrom-decimalBefore (suc n) [])
+    signedOf-of-digits (decimal n) n (length-decimal-pos n) (decimal-between 48 57 (omega arith) (omega arith) n) (readFrom-decimal n)
+signedOf-signed (negsuc n) = signedOf-of-minus (decimal (suc n)) (suc n) (length-decimal-pos (suc n)) (readFrom-decimal (suc n))
 
 -- in the width that holds it
 pub fitSigned-signed : (z : ℤ) → In (negsuc (2 ^ 63 - 1)) (pos (2 ^ 63 - 1)) z → fitSigned (2 ^ 63) (signedOf (signed z)) ≡ Is z
