@@ -10,7 +10,7 @@ use borrow.Author.Tests.{leb-true, leb-false}
 use lib.Dec.{leb}
 use lib.IntN.{ℤ, pos, negsuc, natAbs, _+ℤ_, _-ℤ_, _*ℤ_, -ℤ-+ℤ-cancel}
 use Rattle.ints.proofs.Parts.{le-parts, parts-le, add-parts, up-mul, dn-mul, parts-eq}
-use Rattle.ints.proofs.Machine.{leZ-sub-sub, In-of-isIn}
+use Rattle.ints.proofs.Machine.{In-of-isIn}
 use Rattle.text.proofs.Lists.{by-test, both}
 use Rattle.calendar.specs.Calendar.{firstDay, monthLength, monthOf, IsDate}
 use Rattle.calendar.specs.Back.{monthsBack}
@@ -20,31 +20,16 @@ use Rattle.calendar.proofs.Dates.{IsDate-monthOf, IsDate-day-lt, monthOf-of-IsD
 use Rattle.ints.proofs.Parts.{natAbs-sub-add, pos-natAbs-add}
 use Rattle.calendar.proofs.Civil.{civilAt, civilDate-sub, monthCount-civilAt}
 use Rattle.time.specs.Answers.{timeAt}
-use Rattle.time.specs.Range.{leastSeconds, mostSeconds, leastOffset, mostOffset, secondsInRange, offsetInRange, timeInRange, since1970, timeOf, instantOf, InRange}
+use Rattle.time.specs.Range.{leastSeconds, mostSeconds, leastOffset, mostOffset, secondsInRange, offsetInRange, timeInRange, instantOf, InRange}
 use Rattle.time.specs.declared.Time.{Time}
-use Rattle.time.specs.declared.range.Instant.{Instant}
 use Rattle.time.specs.declared.Refusal.the-variants.{Range}
 use Rattle.time.specs.declared.Answer.the-variants.{Refused}
-use Rattle.time.proofs.Ranges.{timeOf-instantOf}
+use Rattle.time.proofs.Ranges.{InRange-of-timeOf, timeOf-instantOf}
 use Rattle.relative.specs.Steps.{localSeconds, monthsEarlier, landed}
 use Rattle.relative.specs.Months.{dateAt, clockAt, dayOfMonth, earlierDate, secondsAt, Earlier}
-use Rattle.relative.proofs.Landing.{range-of-secondsInRange, local-of, landed-of-month-lt, monthsEarlier-is}
+use Rattle.relative.proofs.Landing.{local-of, landed-of-month-lt, monthsEarlier-is}
 
 -- ---- a time in range, as numbers from 0
-offset-range : (o : ℕ) → offsetInRange (pos o -ℤ pos 93600) ≡ true → (1 ≤ o) × (o ≤ 187199)
-unfolding offsetInRange
-offset-range o e =
-    let p = both (leb 1 o) (leb o 187199) (rw (leZ-sub-sub 1 o 93600, leZ-sub-sub o 187199 93600) at e) in
-    (leb-true 1 o (p .0), leb-true o 187199 (p .1))
-
-InRange-of-timeOf : (i : Instant) → timeInRange (timeOf i) ≡ true → InRange i
-unfolding timeInRange
-InRange-of-timeOf i e =
-    let p = both (secondsInRange (since1970 (i .seconds))) (offsetInRange (pos (i .offset) -ℤ pos 93600)) e in
-    let s = range-of-secondsInRange (i .seconds) (p .0) in
-    let o = offset-range (i .offset) (p .1) in
-    record { early = s .0; late = s .1; west = o .0; east = o .1 }
-
 -- beyond the months that are counted a landing is refused
 pub landed-of-monthOf-lt : (x : Time) (n : ℕ) (z : ℤ) → timeInRange x ≡ true → monthOf (localSeconds x / 86400) < n → landed (monthsEarlier x n) z ≡ Refused Range
 landed-of-monthOf-lt x n z e h =

@@ -1,12 +1,10 @@
--- Two texts in a row: their words, pairs, marks and steps; an answer in range. In order: pairs; texts; steps; what steps keep.
+-- Two texts in a row: their pairs and steps; an answer in range. In order: pairs; steps; what steps keep.
 -- Assumes nothing.
 use mathlib.Core.Path.{_≡_, refl}
 use mathlib.Core.Bool.{true, _&&_}
 use mathlib.Core.List.{List, [], _∷_, _++_}
 use Prim.Native.Nat.{ℕ}
-use lib.Dec.{ltb}
 use lib.IntN.{ℤ}
-use Rattle.text.specs.Bytes.{ascii}
 use Rattle.text.specs.declared.number.Number.{Number}
 use Rattle.text.specs.declared.number.Number.the-variants.{Value, Not}
 use Rattle.text.proofs.Lists.{by-test, both}
@@ -34,12 +32,6 @@ pub known-append : (a b : List Pair) → known (a ++ b) ≡ (known a && known b)
 unfolding known
 known-append [] b = refl
 known-append (p ∷ a) b = by-test (isKnown (p .unit)) (λ e. rw e (known-append a b)) (λ e. rw e)
-
--- ---- texts
-pub ascii-append : (a b : List ℕ) → ascii (a ++ b) ≡ (ascii a && ascii b)
-unfolding ascii
-ascii-append [] b = refl
-ascii-append (x ∷ a) b = by-test (ltb x 128) (λ e. rw e (ascii-append a b)) (λ e. rw e)
 
 -- ---- steps
 pub steps-append : (a b : List Pair) (x : Answer) → steps (a ++ b) x ≡ steps b (steps a x)

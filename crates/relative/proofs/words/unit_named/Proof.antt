@@ -38,17 +38,11 @@ word-2 c = word-1 (c .before .before .before)
 left-2 : (c : tie.Else2) → Left 2 (word-2 c)
 left-2 c = left-1 (c .before .before .before) ∙ left _ _ _ (sym (c .before .same-ignoring-case2 .ensures) ∙ c .if2 .left)
 
-returns-2 : tie.Need-returns-2
-returns-2 c = sym (left-1 (c .before .before .before) ∙ taken _ _ _ (sym (c .before .same-ignoring-case2 .ensures) ∙ c .if2 .taken))
-
 abbrev word-3 : tie.Else3 → List ℕ
 word-3 c = word-2 (c .before .before .before)
 
 left-3 : (c : tie.Else3) → Left 3 (word-3 c)
 left-3 c = left-2 (c .before .before .before) ∙ left _ _ _ (sym (c .before .same-ignoring-case3 .ensures) ∙ c .if3 .left)
-
-returns-3 : tie.Need-returns-3
-returns-3 c = sym (left-2 (c .before .before .before) ∙ taken _ _ _ (sym (c .before .same-ignoring-case3 .ensures) ∙ c .if3 .taken))
 
 abbrev word-4 : tie.Else4 → List ℕ
 word-4 c = word-3 (c .before .before .before)
@@ -56,17 +50,11 @@ word-4 c = word-3 (c .before .before .before)
 left-4 : (c : tie.Else4) → Left 4 (word-4 c)
 left-4 c = left-3 (c .before .before .before) ∙ left _ _ _ (sym (c .before .same-ignoring-case4 .ensures) ∙ c .if4 .left)
 
-returns-4 : tie.Need-returns-4
-returns-4 c = sym (left-3 (c .before .before .before) ∙ taken _ _ _ (sym (c .before .same-ignoring-case4 .ensures) ∙ c .if4 .taken))
-
 abbrev word-5 : tie.Else5 → List ℕ
 word-5 c = word-4 (c .before .before .before)
 
 left-5 : (c : tie.Else5) → Left 5 (word-5 c)
 left-5 c = left-4 (c .before .before .before) ∙ left _ _ _ (sym (c .before .same-ignoring-case5 .ensures) ∙ c .if5 .left)
-
-returns-5 : tie.Need-returns-5
-returns-5 c = sym (left-4 (c .before .before .before) ∙ taken _ _ _ (sym (c .before .same-ignoring-case5 .ensures) ∙ c .if5 .taken))
 
 abbrev word-6 : tie.Else6 → List ℕ
 word-6 c = word-5 (c .before .before .before)
@@ -74,20 +62,11 @@ word-6 c = word-5 (c .before .before .before)
 left-6 : (c : tie.Else6) → Left 6 (word-6 c)
 left-6 c = left-5 (c .before .before .before) ∙ left _ _ _ (sym (c .before .same-ignoring-case6 .ensures) ∙ c .if6 .left)
 
-returns-6 : tie.Need-returns-6
-returns-6 c = sym (left-5 (c .before .before .before) ∙ taken _ _ _ (sym (c .before .same-ignoring-case6 .ensures) ∙ c .if6 .taken))
-
 abbrev word-7 : tie.Else7 → List ℕ
 word-7 c = word-6 (c .before .before .before)
 
 left-7 : (c : tie.Else7) → Left 7 (word-7 c)
 left-7 c = left-6 (c .before .before .before) ∙ left _ _ _ (sym (c .before .same-ignoring-case7 .ensures) ∙ c .if7 .left)
-
-returns-7 : tie.Need-returns-7
-returns-7 c = sym (left-6 (c .before .before .before) ∙ taken _ _ _ (sym (c .before .same-ignoring-case7 .ensures) ∙ c .if7 .taken))
-
-returns-8 : tie.Need-returns-8
-returns-8 c = sym (left-7 c)
 
 pub unit-named-spec : {M : Type 1} → statement M
 unit-named-spec =
@@ -98,20 +77,20 @@ unit-named-spec =
     returns
     (λ c. search needs)
     (λ c κs. search needs)
-    returns-2
+    (λ c. sym (left-1 (c .before .before .before) ∙ taken _ _ _ (sym (c .before .same-ignoring-case2 .ensures) ∙ c .if2 .taken)))
     (λ c. search needs)
     (λ c κs. search needs)
-    returns-3
+    (λ c. sym (left-2 (c .before .before .before) ∙ taken _ _ _ (sym (c .before .same-ignoring-case3 .ensures) ∙ c .if3 .taken)))
     (λ c. search needs)
     (λ c κs. search needs)
-    returns-4
+    (λ c. sym (left-3 (c .before .before .before) ∙ taken _ _ _ (sym (c .before .same-ignoring-case4 .ensures) ∙ c .if4 .taken)))
     (λ c. search needs)
     (λ c κs. search needs)
-    returns-5
+    (λ c. sym (left-4 (c .before .before .before) ∙ taken _ _ _ (sym (c .before .same-ignoring-case5 .ensures) ∙ c .if5 .taken)))
     (λ c. search needs)
     (λ c κs. search needs)
-    returns-6
+    (λ c. sym (left-5 (c .before .before .before) ∙ taken _ _ _ (sym (c .before .same-ignoring-case6 .ensures) ∙ c .if6 .taken)))
     (λ c. search needs)
     (λ c κs. search needs)
-    returns-7
-    returns-8)
+    (λ c. sym (left-6 (c .before .before .before) ∙ taken _ _ _ (sym (c .before .same-ignoring-case7 .ensures) ∙ c .if7 .taken)))
+    (λ c. sym (left-7 c)))
