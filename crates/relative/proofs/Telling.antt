@@ -30,15 +30,15 @@ use Rattle.relative.specs.declared.steps.Start.{Start}
 use Rattle.relative.specs.declared.steps.Start.the-variants.{From, No}
 
 -- ---- what the count says
-nothing-of-counted : (n : ℕ) (units : Bool) → countedOf n units ≡ Nothing → (ltb 0 n && units) ≡ false
+nothing-of-counted : (n : ℕ) (allowed : Bool) → countedOf n allowed ≡ Nothing → (ltb 0 n && allowed) ≡ false
 unfolding countedOf
-nothing-of-counted zero units e = refl
+nothing-of-counted zero allowed e = refl
 nothing-of-counted (suc n) true e = let z : _≡_ {A = ℕ} 0 1 = cc (rw eqb·suc-zero at e) in absurd (omega arith)
 nothing-of-counted (suc n) false e = rw (lt-ltb 0 (suc n) (omega arith))
 
-pairs-of-counted : (n m : ℕ) (units : Bool) → countedOf n units ≡ Pairs m → ((ltb 0 n && units) ≡ true) × (n ≡ m)
+pairs-of-counted : (n m : ℕ) (allowed : Bool) → countedOf n allowed ≡ Pairs m → ((ltb 0 n && allowed) ≡ true) × (n ≡ m)
 unfolding countedOf
-pairs-of-counted zero m units e = let z : _≡_ {A = ℕ} 0 1 = cc in absurd (omega arith)
+pairs-of-counted zero m allowed e = let z : _≡_ {A = ℕ} 0 1 = cc in absurd (omega arith)
 pairs-of-counted (suc n) m true e = let k : Pairs (suc n) ≡ Pairs m = rw eqb·suc-zero at e in (rw (lt-ltb 0 (suc n) (omega arith)), cc)
 pairs-of-counted (suc n) m false e = let k : Nothing ≡ Pairs m = rw eqb·suc-zero at e in let z : _≡_ {A = ℕ} 0 1 = cc in absurd (omega arith)
 
@@ -83,9 +83,9 @@ pub from-of-start : (now : Now) (ps : List Pair) (s t : Start) → s ≡ startOf
 from-of-start now ps s t e f = from-startOf now ps ∙ ap (byStart ps) (sym e ∙ f)
 
 -- what a scan holds
-pub Holds-of-counted : (n : ℕ) (units : Bool) (held ps : List Pair) (t : Counted) → t ≡ countedOf n units → (n ≤ places → take n held ≡ ps) → Holds t held ps
-Holds-of-counted n units held ps (Pairs m) e h = rw (pairs-of-counted n m units (sym e) .1) at h
-Holds-of-counted n units held ps Nothing e h = tt
+pub Holds-of-counted : (n : ℕ) (allowed : Bool) (held ps : List Pair) (t : Counted) → t ≡ countedOf n allowed → (n ≤ places → take n held ≡ ps) → Holds t held ps
+Holds-of-counted n allowed held ps (Pairs m) e h = rw (pairs-of-counted n m allowed (sym e) .1) at h
+Holds-of-counted n allowed held ps Nothing e h = tt
 
 pub take-of-Holds : (t : Counted) (n : ℕ) (held ps : List Pair) → t ≡ Pairs n → Holds t held ps → n ≤ places → take n held ≡ ps
 take-of-Holds t n held ps e h = rw e at h

@@ -54,9 +54,9 @@ zipped [] us = []
 zipped (c ∷ cs) [] = []
 zipped (c ∷ cs) (u ∷ us) = record { count = c; unit = unitAt u } ∷ zipped cs us
 
--- how many pairs go on to the calendar: of n in the text, if its units are such that it is read
+-- how many pairs a text of n pairs says, if their units are allowed: all known, or with the mark
 unfoldable pub countedOf : ℕ → Bool → Counted
-countedOf n units = cond (eqb n 0) Nothing (cond units (Pairs n) Nothing)
+countedOf n allowed = cond (eqb n 0) Nothing (cond allowed (Pairs n) Nothing)
 
 -- the pairs of the text are those held first, if there are places for them all
 abbrev pub Holds : Counted → List Pair → List Pair → Type 0

@@ -7,6 +7,7 @@ use crate::pair::Unit;
 // How many pairs the arrays have room for: at least MAX_PAIRS (`maxPairs-le-places`).
 pub const PLACES: usize = 32;
 
+// The number of a unit.
 pub fn code_of(u: Unit) -> u64
     requires { ⌜ Coded u ⌝ }
     ensures { λ r. ⌜ r ≡ codeOf u ⌝ }

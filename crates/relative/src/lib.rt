@@ -2,7 +2,7 @@
 // time at a fixed offset.
 //
 // Every text has an answer: a time, or the refusal 1, 2, 5, 3, 4 or 6 that comes first. `parse`
-// reads no month table; `parse_with` is lent it, for callers that read many texts.
+// reads no month table; `parse_with` borrows one, for callers that read many texts.
 mod held;
 mod pair;
 mod pairs;
@@ -35,7 +35,8 @@ pub fn parse(s: &[u8], current: Now) -> Answer
     parse_with(&[], s, current)
 }
 
-// The same by a month table that is lent, or a part that opens it: for many texts in a row.
+// The same with a borrowed month table, the whole or any leading part of it: for many texts in a
+// row.
 pub fn parse_with(months: &[u32], s: &[u8], current: Now) -> Answer
     requires { ⌜ IsMonths (now months) ⌝ }
     ensures { λ r. ⌜ r ≡ relativeOf maxPairs (now (s .entry)) current ⌝ }

@@ -33,13 +33,14 @@ pub fn parse_ago(s: &[u8], counts: &mut [u64; PLACES], units: &mut [u64; PLACES]
     verdict(a.n, a.known | a.ago)
 }
 
-fn verdict(n: usize, units: bool) -> Counted
-    ensures { λ r. ⌜ r ≡ countedOf n units ⌝ }
+// Unknown units are allowed only with the mark.
+fn verdict(n: usize, allowed: bool) -> Counted
+    ensures { λ r. ⌜ r ≡ countedOf n allowed ⌝ }
 {
     if n == 0 {
         return Counted::Nothing;
     }
-    if units {
+    if allowed {
         return Counted::Pairs(n);
     }
     Counted::Nothing
