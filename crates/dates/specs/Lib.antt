@@ -1,3 +1,2 @@
--- Document 01, "Any"; and the current time as the entries for C take it.
+-- Document 01, "Any".
 pub mod Any
-pub mod Entries
