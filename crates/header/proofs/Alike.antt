@@ -24,7 +24,7 @@ use Rattle.time.specs.declared.Time.{Time}
 use Rattle.time.specs.declared.Answer.the-variants.{Time as At, Refused}
 use Rattle.time.specs.declared.Refusal.the-variants.{Form}
 use Rattle.header.specs.Offset.{onlyWord, fiveOrSeven, fieldsOf, offsetOf}
-use Rattle.header.specs.Header.{number64, secondsOf, headerOffset, offsetOrZero, headerOfWords, headerOf}
+use Rattle.header.specs.Header.{number64, secondsOf, headerOffset, headerTime, headerOfWords, headerOf}
 use Rattle.header.specs.Raw.{Limits, allows, rawTime, rawOfWords, rawOf}
 use Rattle.header.specs.declared.offset.Field.{Field}
 use Rattle.header.specs.declared.offset.Field.the-variants.{Byte}
@@ -74,9 +74,9 @@ fieldsOf-nil : (by : Field) → fieldsOf by [] ≡ NoOffset
 unfolding fieldsOf fiveOrSeven
 fieldsOf-nil by = refl
 
-offsetOrZero-cond : (d : Bool) (f : Fields) → offsetOrZero (cond d (Offset f) NoOffset) ≡ cond d (offsetOf f) (pos 0)
-offsetOrZero-cond true f = refl
-offsetOrZero-cond false f = refl
+headerTime-cond : (z : ℤ) (d : Bool) (f : Fields) → headerTime (Is z) (cond d (Offset f) NoOffset) ≡ At (timeAt z (cond d (offsetOf f) (pos 0)))
+headerTime-cond z true f = refl
+headerTime-cond z false f = refl
 
 record Answered (ws : List (List ℕ)) (t : Time) : Type 0 where
   plain : Lacking 58 ws
@@ -87,7 +87,7 @@ unfolding headerOfWords secondsOf headerOffset
 answered w v t a =
     record {
       plain = (no-colon-of-between 43 w (between-of-signedOf w (t .seconds) (signedOf-of-number64 w (t .seconds) (a .number))), (no-colon-of-fieldsOf v (a .fields) (a .parsed), tt));
-      same = rw (a .number, fieldsOf-signed v (a .fields) (a .parsed), offsetOrZero-cond (isDigit (getD v 1 0)) (a .fields), a .offset-is);
+      same = rw (a .number, fieldsOf-signed v (a .fields) (a .parsed), headerTime-cond (t .seconds) (isDigit (getD v 1 0)) (a .fields), a .offset-is);
     }
 
 raw-words : (l : Limits) (ws : List (List ℕ)) (t : Time) → rawOfWords l ws ≡ At t → Answered ws t

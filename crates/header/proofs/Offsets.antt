@@ -128,9 +128,6 @@ pub headerOffset-all-small : (w : List ℕ) → AllSmall (headerOffset w)
 unfolding headerOffset
 headerOffset-all-small w = by-test (isDigit (getD w 1 0)) (λ d. rw d (fieldsOf-all-small Signed w)) (λ d. rw d tt)
 
-pub headerOffset-small : (w : List ℕ) (f : Fields) → headerOffset w ≡ Offset f → Small f
-headerOffset-small w f e = rw e at (headerOffset-all-small w)
-
 -- ---- the same integer
 eqZ-refl : (z : ℤ) → eqZ z z ≡ true
 eqZ-refl (pos n) = eq-eqb n n refl

@@ -13,11 +13,7 @@ use lib.ListN.{length, drop, getD, length-drop, drop-of-length-le}
 use lib.Seq.{take-all, take-nil, getD-drop}
 use Rattle.text.specs.Bytes.{isSpace, isDigit, isSign, ascii}
 use Rattle.text.specs.Places.{past, has, part}
-use Rattle.text.specs.declared.number.Integer.{Integer}
-use Rattle.text.specs.declared.number.Integer.the-variants.{Is, NotOne}
 use Rattle.text.specs.declared.number.LeadingInteger.{LeadingInteger}
-use Rattle.time.specs.declared.Answer.the-variants.{Refused}
-use Rattle.time.specs.declared.Refusal.the-variants.{Form}
 use Rattle.text.proofs.Lists.{by-test, both}
 use Rattle.text.proofs.Runs.{run-le-length, past-le-length, past-of-true, past-of-false, past-of-length-le, has-nil}
 use Rattle.text.proofs.Numbers.{numeral-le-run}
@@ -212,10 +208,6 @@ module _ (s : List ℕ) (r : LeadingInteger) (l : Opened s r) where
     unfolding headerOffset isDigit
     headerOf-of-alone = headerOf-of-Words s _ alone-walks ∙ rw no-second
 
-    pub rawOf-of-alone : (limits : Limits) → rawOf limits s ≡ Refused Form
+    pub rawOf-of-alone : (limits : Limits) → rawOf limits s ≡ rawTime limits (r .number) NoOffset
     unfolding fieldsOf fiveOrSeven
-    rawOf-of-alone limits = rawOf-of-Words s _ alone-walks limits ∙ rw no-second (none (r .number))
-      where
-        none : (n : Integer) → rawTime limits n NoOffset ≡ Refused Form
-        none (Is z) = refl
-        none NotOne = refl
+    rawOf-of-alone limits = rawOf-of-Words s _ alone-walks limits ∙ rw no-second

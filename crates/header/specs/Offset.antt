@@ -14,6 +14,8 @@ use Rattle.text.specs.Bytes.{isSign}
 use Rattle.text.specs.Number.{signedOf, unsignedOf, fit, plus}
 use Rattle.text.specs.declared.number.Integer.{Integer}
 use Rattle.text.specs.declared.number.Integer.the-variants.{Is, NotOne}
+use Rattle.time.specs.Answers.{timeAt}
+use Rattle.time.specs.declared.Time.{Time}
 use Rattle.header.specs.declared.offset.Field.{Field}
 use Rattle.header.specs.declared.offset.Field.the-variants.{Signed, Byte}
 use Rattle.header.specs.declared.offset.Fields.{Fields}
@@ -60,6 +62,10 @@ sumOf f = f .hours *ℤ pos 3600 +ℤ f .minutes *ℤ pos 60 +ℤ f .seconds
 -- what they mean: a sign before the fields is a sign of the offset, and turns the whole sum
 unfoldable pub offsetOf : Fields → ℤ
 offsetOf f = cond (f .minus) (negℤ (sumOf f)) (sumOf f)
+
+-- the time that seconds and the fields beside them give
+abbrev pub readTime : ℤ → Fields → Time
+readTime s f = timeAt s (offsetOf f)
 
 -- numbers of two bytes, which is all that `seconds_of` has to add up
 pub record Small (f : Fields) : Type 0 where

@@ -7,6 +7,7 @@ pub mod raw;
 mod walk;
 
 ghost use mathlib.Core.Path.{_≡_};
+ghost use Rattle.time.specs.declared.Answer.the-variants.{Time as At};
 ghost use Rattle.header.specs.Header.{headerOffset, headerTime, headerOf};
 ghost use Rattle.header.specs.Offset.{AllSmall};
 ghost use Rattle.header.specs.Walk.{Opened};
@@ -66,9 +67,16 @@ fn header_time(n: Integer, p: Parsed) -> Answer
         return Answer::Refused(Refusal::Form);
     };
     match p {
-        Parsed::Offset(f) => Answer::Time(Time::new(z, offset::seconds_of(f))),
-        Parsed::NoOffset => Answer::Time(Time::new(z, 0)),
+        Parsed::Offset(f) => Answer::Time(offset::read_time(z, f)),
+        Parsed::NoOffset => without_offset(Time::new(z, 0)),
     }
+}
+
+// A header whose offset is missing or bad is not refused: it is the time at offset 0.
+fn without_offset(t: Time) -> Answer
+    ensures { λ r. ⌜ r ≡ At t ⌝ }
+{
+    Answer::Time(t)
 }
 
 // A digit has to follow the sign; a text of fewer than two bytes has none there.

@@ -9,11 +9,12 @@ ghost use lib.ListN.{length};
 ghost use Rattle.text.specs.Bytes.{isDigit};
 ghost use Rattle.text.specs.Number.{plus, AtMost};
 ghost use Rattle.header.specs.Walk.{usualOf};
-ghost use Rattle.header.specs.Offset.{fiveOrSeven, fieldOf, lastField, fieldsOf, offsetOf, Small};
+ghost use Rattle.header.specs.Offset.{fiveOrSeven, fieldOf, lastField, fieldsOf, offsetOf, readTime, Small};
 use text::bytes;
 use text::number;
 use text::number::Integer;
 use text::number::Number;
+use time::Time;
 
 // What a field may be: a signed number, so `-5` is one; or an unsigned one of 8 bits, which `+5` is
 // and `-5` is not.
@@ -148,8 +149,16 @@ fn widened(n: Number) -> Integer
     }
 }
 
+// The one place that makes a time from an offset's fields.
+pub fn read_time(z: i64, f: Fields) -> Time
+    requires { ⌜ Small f ⌝ }
+    ensures { λ r. ⌜ r ≡ readTime z f ⌝ }
+{
+    Time::new(z, seconds_of(f))
+}
+
 // The sign turns the whole sum, not the hours alone.
-pub fn seconds_of(f: Fields) -> i32
+fn seconds_of(f: Fields) -> i32
     requires { ⌜ Small f ⌝ }
     ensures { λ r. ⌜ r ≡ offsetOf f ⌝ }
 {

@@ -14,7 +14,6 @@ use text::number::Integer;
 use text::number::LeadingInteger;
 use time::Answer;
 use time::Refusal;
-use time::Time;
 
 // Which hours and which minutes are let through: `limitsOf` has the limits of each.
 enum Rule {
@@ -34,16 +33,16 @@ fn parse_raw_by(s: &[u8], rule: Rule) -> Answer
     ensures { λ r. ⌜ r ≡ rawOf (limitsOf rule) (now (s .entry)) ⌝ }
 {
     let opening = walk::open(s);
+    let number = opening.number;
     let end = opening.end;
     if end == s.len() {
-        return Answer::Refused(Refusal::Form);
+        return raw_time(rule, number, Parsed::NoOffset);
     }
     let usual = offset::usual_fields(s, end);
     let Parsed::Offset(f) = usual else {
         return parse_other(s, opening, rule);
     };
-    let seconds = opening.number;
-    raw_time(rule, seconds, Parsed::Offset(f))
+    raw_time(rule, number, Parsed::Offset(f))
 }
 
 // A text of any other form goes the whole walk. A `:` stands in no number and in no offset.
@@ -79,7 +78,7 @@ fn raw_time(rule: Rule, n: Integer, p: Parsed) -> Answer
         return Answer::Refused(Refusal::Form);
     };
     if allows(rule, f) {
-        return Answer::Time(Time::new(z, offset::seconds_of(f)));
+        return Answer::Time(offset::read_time(z, f));
     }
     Answer::Refused(Refusal::Form)
 }
