@@ -24,7 +24,8 @@ use Rattle.time.specs.Header.{secondsBefore, signByte}
 use Rattle.time.specs.declared.Time.{Time}
 use Rattle.time.specs.declared.Answer.{Answer}
 use Rattle.time.specs.declared.Answer.the-variants.{Time as At, Refused}
-use Rattle.header.specs.Offset.{onlyWord, offsetOf, Small, AllSmall}
+use Rattle.header.specs.Offset.{onlyWord, offsetOf}
+use Rattle.header.specs.Held.{Small, AllSmall}
 use Rattle.header.specs.Header.{headerOf, headerOfWords, headerTime, headerOffset, secondsOf}
 use Rattle.header.specs.declared.offset.Fields.{Fields}
 use Rattle.header.specs.declared.offset.Parsed.{Parsed}
