@@ -25,9 +25,10 @@ use Rattle.text.specs.declared.number.Integer.the-variants.{Is, NotOne}
 use Rattle.text.proofs.Lists.{by-test, drop-cons-add-one}
 use Rattle.text.proofs.Numbers.{digit-range, Short, Below, signedOf-short, unsignedOf-below, fitSigned-of-length, fit-of-length}
 use Rattle.text.proofs.Texts.{signedOf-of-unsignedOf}
-use Rattle.header.specs.Offset.{fiveOrSeven, fieldOf, lastField, together, fieldsOf, Small, AllSmall}
+use Rattle.header.specs.Offset.{fiveOrSeven, fieldOf, lastField, together, fieldsOf}
 use Rattle.header.specs.Header.{headerOffset}
 use Rattle.header.specs.Raw.{eqZ}
+use Rattle.header.specs.Held.{Small, AllSmall}
 use Rattle.header.specs.declared.offset.Field.{Field}
 use Rattle.header.specs.declared.offset.Field.the-variants.{Signed, Byte}
 use Rattle.header.specs.declared.offset.Fields.{Fields}
@@ -127,9 +128,6 @@ module _ (by : Field) (w : List ℕ) where
 pub headerOffset-all-small : (w : List ℕ) → AllSmall (headerOffset w)
 unfolding headerOffset
 headerOffset-all-small w = by-test (isDigit (getD w 1 0)) (λ d. rw d (fieldsOf-all-small Signed w)) (λ d. rw d tt)
-
-pub headerOffset-small : (w : List ℕ) (f : Fields) → headerOffset w ≡ Offset f → Small f
-headerOffset-small w f e = rw e at (headerOffset-all-small w)
 
 -- ---- the same integer
 eqZ-refl : (z : ℤ) → eqZ z z ≡ true

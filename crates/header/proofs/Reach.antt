@@ -2,11 +2,12 @@
 -- each is reached, beside any seconds (`header-offset-reached`), by a text whose fields are digits alone. So signs inside the
 -- fields reach nothing new.
 -- Assumes nothing.
-use mathlib.Core.Path.{_≡_, refl, ap, _∙_}
+use mathlib.Core.Path.{_≡_, refl, _∙_}
+use mathlib.Core.Bool.{true, false}
 use mathlib.Core.List.{List, [], _∷_}
 use Prim.Native.Nat.{ℕ, suc, _+_, _-_, _*_, _/_, _≤_, _<_, min}
 use native.Mathlib.Omega.{arith}
-use lib.IntN.{ℤ, pos, negsuc, negℤ, natAbs}
+use lib.IntN.{ℤ, pos, negsuc, natAbs}
 use Rattle.ints.specs.Range.{In}
 use Rattle.ints.proofs.Parts.{le-parts, parts-le, natAbs-parts, one-up, one-dn}
 use Rattle.ints.proofs.Machine.{in-add, in-mul, in-neg}
@@ -23,13 +24,14 @@ use Rattle.time.specs.Header.{secondsBefore, signByte}
 use Rattle.time.specs.declared.Time.{Time}
 use Rattle.time.specs.declared.Answer.{Answer}
 use Rattle.time.specs.declared.Answer.the-variants.{Time as At, Refused}
-use Rattle.header.specs.Offset.{onlyWord, offsetOf, Small}
-use Rattle.header.specs.Header.{headerOf, headerOfWords, headerTime, headerOffset, offsetOrZero, secondsOf}
+use Rattle.header.specs.Offset.{onlyWord, offsetOf}
+use Rattle.header.specs.Held.{Small, AllSmall}
+use Rattle.header.specs.Header.{headerOf, headerOfWords, headerTime, headerOffset, secondsOf}
 use Rattle.header.specs.declared.offset.Fields.{Fields}
 use Rattle.header.specs.declared.offset.Parsed.{Parsed}
 use Rattle.header.specs.declared.offset.Parsed.the-variants.{Offset, NoOffset}
-use Rattle.header.proofs.Offsets.{headerOffset-small}
-use Rattle.header.proofs.ReadBack.{Seconds64, offsetIn, twoBefore-between, offsetIn-seven, headerOf-secondsBefore}
+use Rattle.header.proofs.Offsets.{headerOffset-all-small}
+use Rattle.header.proofs.ReadBack.{Seconds64, twoBefore-between, offsetOf-fieldsAre, headerOffset-seven, headerOf-secondsBefore}
 
 -- from -362439, `-999999`, to 362439
 abbrev pub HeaderOffset : ℤ → Type 0
@@ -45,25 +47,19 @@ offsetOf-in f p =
     let sum = in-add (in-add (in-mul 3600 (p .hours-in)) (in-mul 60 (p .minutes-in))) (p .seconds-in) in
     by-test (f .minus) (λ e. rw e (in-neg sum)) (λ e. rw e sum)
 
-offsetIn-in : (w : List ℕ) → HeaderOffset (offsetIn w)
-offsetIn-in w = go (headerOffset w) refl
-  where
-    go : (p : Parsed) → headerOffset w ≡ p → HeaderOffset (offsetOrZero p)
-    go (Offset f) e = offsetOf-in f (headerOffset-small w f e)
-    go NoOffset e = zero-in
-
 abbrev Within : Answer → Type 0
 Within (At t) = HeaderOffset (t .offset)
 Within (Refused r) = Unit {0}
 
+headerTime-within : (i : Integer) (p : Parsed) → AllSmall p → Within (headerTime i p)
+headerTime-within (Is z) (Offset f) h = offsetOf-in f h
+headerTime-within (Is z) NoOffset h = zero-in
+headerTime-within NotOne p h = tt
+
 headerOfWords-within : (ws : List (List ℕ)) → Within (headerOfWords ws)
 unfolding headerOfWords
 headerOfWords-within [] = tt
-headerOfWords-within (w ∷ ws) = go (secondsOf w)
-  where
-    go : (i : Integer) → Within (headerTime i (headerOffset (onlyWord ws)))
-    go (Is z) = offsetIn-in (onlyWord ws)
-    go NotOne = tt
+headerOfWords-within (w ∷ ws) = headerTime-within (secondsOf w) (headerOffset (onlyWord ws)) (headerOffset-all-small (onlyWord ws))
 
 headerOf-within : (s : List ℕ) → Within (headerOf s)
 unfolding headerOf
@@ -117,16 +113,15 @@ sevenBytes-between o h =
     let b = signByte-between o in
     (b .0, b .1, clock-between (hoursIn (natAbs o)) (minutesIn (natAbs o)) (secondsIn (natAbs o)) (omega arith) (omega arith) (seconds-lt (natAbs o) h))
 
-offsetIn-sevenBytes : (o : ℤ) → natAbs o ≤ 362439 → offsetIn (sevenBytes o) ≡ o
+read-sevenBytes : (z o : ℤ) → natAbs o ≤ 362439 → headerTime (Is z) (headerOffset (sevenBytes o)) ≡ At (timeAt z o)
 unfolding signByte isSign
-offsetIn-sevenBytes (pos n) h =
-    offsetIn-seven 43 (hoursIn n) (minutesIn n) refl (omega arith) (omega arith) (secondsIn n) (seconds-lt n h) ∙ ap pos (clock-is n h)
-offsetIn-sevenBytes (negsuc n) h =
-    offsetIn-seven 45 (hoursIn (suc n)) (minutesIn (suc n)) refl (omega arith) (omega arith) (secondsIn (suc n)) (seconds-lt (suc n) h)
-    ∙ ap (λ (v : ℕ). negℤ (pos v)) (clock-is (suc n) h)
+read-sevenBytes z (pos n) h =
+    rw (headerOffset-seven 43 (hoursIn n) (minutesIn n) refl (omega arith) (omega arith) (secondsIn n) (seconds-lt n h), offsetOf-fieldsAre false (hoursIn n) (minutesIn n) (secondsIn n) n (clock-is n h))
+read-sevenBytes z (negsuc n) h =
+    rw (headerOffset-seven 45 (hoursIn (suc n)) (minutesIn (suc n)) refl (omega arith) (omega arith) (secondsIn (suc n)) (seconds-lt (suc n) h), offsetOf-fieldsAre true (hoursIn (suc n)) (minutesIn (suc n)) (secondsIn (suc n)) (suc n) (clock-is (suc n) h))
 
 -- every offset from -362439 to 362439 is some header's, beside any seconds of 64 bits
 pub header-offset-reached : (z o : ℤ) → Seconds64 z → HeaderOffset o → headerOf (headerWith z o) ≡ At (timeAt z o)
 header-offset-reached z o r p =
     let h : natAbs o ≤ 362439 = omega (arith, le-parts (p .low), le-parts (p .high), natAbs-parts o, one-up o, one-dn o) in
-    rw (offsetIn-sevenBytes o h) at (headerOf-secondsBefore z (sevenBytes o) r (omega arith) (sevenBytes-between o h))
+    headerOf-secondsBefore z (sevenBytes o) r (omega arith) (sevenBytes-between o h) ∙ read-sevenBytes z o h

@@ -3,7 +3,7 @@
 -- promise.
 -- Assumes nothing.
 use mathlib.Core.Path.{_≡_, refl, ap, _∙_}
-use mathlib.Core.Bool.{Bool, true, cond}
+use mathlib.Core.Bool.{Bool, true, false, cond}
 use mathlib.Core.List.{List, [], _∷_, _++_}
 use Prim.Native.Nat.{ℕ, suc, _+_, _-_, _*_, _/_, _%_, _^_, _≤_, _<_}
 use native.Mathlib.Omega.{arith}
@@ -28,7 +28,9 @@ use Rattle.time.specs.Header.{headerBytes, secondsBefore, offsetBytes, signByte
 use Rattle.time.specs.declared.Time.{Time}
 use Rattle.time.specs.declared.Answer.the-variants.{Time as At}
 use Rattle.header.specs.Offset.{fiveOrSeven, fieldOf, lastField, fieldsOf, offsetOf}
-use Rattle.header.specs.Header.{headerOf, headerOfWords, secondsOf, headerOffset, offsetOrZero}
+use Rattle.header.specs.Header.{headerOf, headerOfWords, headerTime, secondsOf, headerOffset}
+use Rattle.header.specs.declared.offset.Fields.{Fields}
+use Rattle.header.specs.declared.offset.Parsed.the-variants.{Offset}
 use Rattle.text.proofs.Texts.{ascii-of-between, no-colon-of-between, whole-of-between, signedOf-of-digits, signedOf-of-minus}
 
 -- ---- two digits
@@ -92,23 +94,23 @@ secondsOf-word z r =
     rw (signedOf-word z, leZ-true (r .low), ltZ-true below)
 
 -- ---- an offset's word of digits
--- the offset that a second word gives
-abbrev pub offsetIn : List ℕ → ℤ
-offsetIn w = offsetOrZero (headerOffset w)
+abbrev pub fieldsAre : Bool → ℕ → ℕ → ℕ → Fields
+fieldsAre minus h m x = record { minus = minus; hours = pos h; minutes = pos m; seconds = pos x }
 
-abbrev pub turned : Bool → ℕ → ℤ
-turned minus v = cond minus (negℤ (pos v)) (pos v)
+pub offsetOf-fieldsAre : (minus : Bool) (h m x n : ℕ) → h * 3600 + m * 60 + x ≡ n → offsetOf (fieldsAre minus h m x) ≡ cond minus (negℤ (pos n)) (pos n)
+unfolding offsetOf
+offsetOf-fieldsAre minus h m x n e = ap (λ (v : ℕ). cond minus (negℤ (pos v)) (pos v)) e
 
 module _ (b h m : ℕ) (e : isSign b ≡ true) (k : h < 100) (l : m < 100) where
   -- with hours and minutes
-  pub offsetIn-five : offsetIn (b ∷ twoBefore h (twoBefore m [])) ≡ turned (eqb b 45) (h * 3600 + m * 60 + 0)
-  unfolding headerOffset fieldsOf fieldOf lastField fiveOrSeven offsetOf
-  offsetIn-five = rw (e, isDigit-of-le (48 + h / 10) (omega arith) (omega arith), signedOf-twoBefore h k, signedOf-twoBefore m l)
+  headerOffset-five : headerOffset (b ∷ twoBefore h (twoBefore m [])) ≡ Offset (fieldsAre (eqb b 45) h m 0)
+  unfolding headerOffset fieldsOf fieldOf lastField fiveOrSeven
+  headerOffset-five = rw (e, isDigit-of-le (48 + h / 10) (omega arith) (omega arith), signedOf-twoBefore h k, signedOf-twoBefore m l)
 
   -- and with seconds
-  pub offsetIn-seven : (x : ℕ) → x < 100 → offsetIn (b ∷ twoBefore h (twoBefore m (twoBefore x []))) ≡ turned (eqb b 45) (h * 3600 + m * 60 + x)
-  unfolding headerOffset fieldsOf fieldOf lastField fiveOrSeven offsetOf
-  offsetIn-seven x j = rw (e, isDigit-of-le (48 + h / 10) (omega arith) (omega arith), signedOf-twoBefore h k, signedOf-twoBefore m l, signedOf-twoBefore x j)
+  pub headerOffset-seven : (x : ℕ) → x < 100 → headerOffset (b ∷ twoBefore h (twoBefore m (twoBefore x []))) ≡ Offset (fieldsAre (eqb b 45) h m x)
+  unfolding headerOffset fieldsOf fieldOf lastField fiveOrSeven
+  headerOffset-seven x j = rw (e, isDigit-of-le (48 + h / 10) (omega arith) (omega arith), signedOf-twoBefore h k, signedOf-twoBefore m l, signedOf-twoBefore x j)
 
 -- ---- a header: seconds, a space, and a word of digits and signs
 words-header : (z : ℤ) (w : List ℕ) → 0 < length w → Between 33 57 w → words isSpace (secondsBefore z (32 ∷ w)) ≡ word z ∷ w ∷ []
@@ -126,7 +128,7 @@ Between-le lo low hi h [] b = tt
 Between-le lo low hi h (x ∷ s) b = let k : lo ≤ x = b .0 in (omega arith, b .1, Between-le lo low hi h s (b .2))
 
 pub headerOf-secondsBefore : (z : ℤ) (w : List ℕ) → Seconds64 z → 0 < length w → Between 33 57 w
-    → headerOf (secondsBefore z (32 ∷ w)) ≡ At (timeAt z (offsetIn w))
+    → headerOf (secondsBefore z (32 ∷ w)) ≡ headerTime (Is z) (headerOffset w)
 unfolding headerOf headerOfWords
 headerOf-secondsBefore z w r h b =
     let all : Between 32 57 (secondsBefore z (32 ∷ w)) = secondsBefore-between 32 (omega arith) z (32 ∷ w) (omega arith, omega arith, Between-le 33 32 57 (omega arith) w b) in
@@ -146,18 +148,17 @@ length-offsetBytes-pos : (o : ℤ) → 0 < length (offsetBytes o)
 unfolding offsetBytes
 length-offsetBytes-pos o = omega arith
 
-offsetIn-offsetBytes : (o : ℤ) → natAbs o < 360000 → offsetIn (offsetBytes o) ≡ cutToMinutes o
+read-offsetBytes : (z o : ℤ) → natAbs o < 360000 → headerTime (Is z) (headerOffset (offsetBytes o)) ≡ At (timeAt z (cutToMinutes o))
 unfolding offsetBytes signByte cutToMinutes isSign wholeMinutes
-offsetIn-offsetBytes (pos n) h =
-    let e : n / 60 / 60 * 3600 + n / 60 % 60 * 60 + 0 ≡ n / 60 * 60 = omega arith in
-    offsetIn-five 43 (n / 60 / 60) (n / 60 % 60) refl (omega arith) (omega arith) ∙ ap pos e
-offsetIn-offsetBytes (negsuc n) h =
-    let e : suc n / 60 / 60 * 3600 + suc n / 60 % 60 * 60 + 0 ≡ suc n / 60 * 60 = omega arith in
-    offsetIn-five 45 (suc n / 60 / 60) (suc n / 60 % 60) refl (omega arith) (omega arith) ∙ ap (λ (v : ℕ). negℤ (pos v)) e
+read-offsetBytes z (pos n) h =
+    rw (headerOffset-five 43 (n / 60 / 60) (n / 60 % 60) refl (omega arith) (omega arith), offsetOf-fieldsAre false (n / 60 / 60) (n / 60 % 60) 0 (n / 60 * 60) (omega arith))
+read-offsetBytes z (negsuc n) h =
+    rw (headerOffset-five 45 (suc n / 60 / 60) (suc n / 60 % 60) refl (omega arith) (omega arith), offsetOf-fieldsAre true (suc n / 60 / 60) (suc n / 60 % 60) 0 (suc n / 60 * 60) (omega arith))
 
 -- every time of 64-bit seconds and an offset under 100 hours, written and read: the seconds, and the offset cut to whole minutes
 pub header-read-back : (t : Time) → Seconds64 (t .seconds) → natAbs (t .offset) < 360000
     → headerOf (headerBytes t) ≡ At (timeAt (t .seconds) (cutToMinutes (t .offset)))
 unfolding headerBytes
 header-read-back t r h =
-    rw (offsetIn-offsetBytes (t .offset) h) at (headerOf-secondsBefore (t .seconds) (offsetBytes (t .offset)) r (length-offsetBytes-pos (t .offset)) (offsetBytes-between (t .offset) h))
+    headerOf-secondsBefore (t .seconds) (offsetBytes (t .offset)) r (length-offsetBytes-pos (t .offset)) (offsetBytes-between (t .offset) h)
+    ∙ read-offsetBytes (t .seconds) (t .offset) h

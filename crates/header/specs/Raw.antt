@@ -11,11 +11,10 @@ use Rattle.text.specs.Bytes.{isSpace, ascii}
 use Rattle.text.specs.Words.{words}
 use Rattle.text.specs.declared.number.Integer.{Integer}
 use Rattle.text.specs.declared.number.Integer.the-variants.{Is, NotOne}
-use Rattle.time.specs.Answers.{timeAt}
 use Rattle.time.specs.declared.Answer.{Answer}
 use Rattle.time.specs.declared.Answer.the-variants.{Time, Refused}
 use Rattle.time.specs.declared.Refusal.the-variants.{NotAscii, Form}
-use Rattle.header.specs.Offset.{onlyWord, fieldsOf, offsetOf}
+use Rattle.header.specs.Offset.{onlyWord, fieldsOf, readTime}
 use Rattle.header.specs.Header.{number64}
 use Rattle.header.specs.declared.offset.Field.the-variants.{Byte}
 use Rattle.header.specs.declared.offset.Fields.{Fields}
@@ -54,7 +53,7 @@ allows l f = l .hours (f .hours) && l .minutes (f .minutes) && eqZ (f .seconds) 
 
 -- 2 unless both are read, and the limits let the fields through
 abbrev pub rawTime : Limits → Integer → Parsed → Answer
-rawTime l (Is s) (Offset f) = cond (allows l f) (Time (timeAt s (offsetOf f))) (Refused Form)
+rawTime l (Is s) (Offset f) = cond (allows l f) (Time (readTime s f)) (Refused Form)
 rawTime l (Is s) NoOffset = Refused Form
 rawTime l NotOne p = Refused Form
 

@@ -3,8 +3,8 @@
 use mathlib.Core.Bool.{not, and-true}
 use native.Mathlib.Omega.{arith}
 use borrow.Author.Tests.{lt-ltb, ne-eqb}
-use Rattle.header.specs.Walk.{isPlain}
-use Rattle.header.proofs.Walking.{isSpace-of-lt}
+use Rattle.header.specs.Held.{isPlain}
+use Rattle.header.proofs.Plain.{isSpace-of-lt}
 use borrow.Author.Needs.{needs}
 use Rattle.header.proofs.walk.is_plain.Statement.{statement}
 use Rattle.header.proofs.walk.is_plain.Tie as tie

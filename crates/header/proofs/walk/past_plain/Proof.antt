@@ -5,7 +5,7 @@ use Prim.Native.Nat.{_-_}
 use lib.ListN.{length}
 use Rattle.text.specs.Places.{past}
 use Rattle.text.proofs.Runs.{past-of-true, past-of-false, past-of-length-le}
-use Rattle.header.specs.Walk.{isPlain}
+use Rattle.header.specs.Held.{isPlain}
 use borrow.Author.Needs.{needs}
 use Rattle.header.proofs.walk.past_plain.Statement.{statement}
 use Rattle.header.proofs.walk.past_plain.Tie as tie
