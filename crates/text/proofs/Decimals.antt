@@ -1,5 +1,6 @@
--- Laws of plain decimal: what stands behind the digits (`decimalBefore-append`), that they are digits, at least one, and that reading
--- them gives the number back (`readFrom-decimalBefore`). Assumes nothing.
+-- Plain decimal. In order: what stands behind the digits; they are digits, at least one; reading them gives the number back; the
+-- clauses of `decimalBefore`; how many digits there are.
+-- Assumes nothing.
 use mathlib.Core.Path.{_≡_, refl, sym, ap, _∙_}
 use mathlib.Core.Bool.{Bool, true, false}
 use mathlib.Core.List.{List, [], _∷_, _++_}
@@ -12,7 +13,8 @@ use Rattle.text.specs.Number.{readFrom}
 use Rattle.text.proofs.Lists.{by-test}
 use Rattle.text.proofs.Numbers.{readFrom-cons, isDigit-of-le}
 use native.Mathlib.Nat.{pow-suc, pow-succ', one-le-pow, zero-add, div-one, div-div-eq-div-mul}
-use Rattle.text.specs.Decimal.{decimal, decimalBefore, decimalBy}
+use Rattle.text.specs.Decimal.{decimal, decimalBefore, decimalBy, twoBefore}
+use Rattle.text.specs.declared.number.Number.the-variants.{Value}
 
 -- every byte from lo to hi
 abbrev pub Between : ℕ → ℕ → List ℕ → Type 0
@@ -33,6 +35,9 @@ pub decimalBefore-append : (n : ℕ) (t : List ℕ) → decimalBefore n t ≡ de
 unfolding decimal decimalBefore
 decimalBefore-append n t = decimalBy-append n _ n [] t
 
+pub length-decimalBefore : (n : ℕ) (t : List ℕ) → length (decimalBefore n t) ≡ length (decimal n) + length t
+length-decimalBefore n t = ap length (decimalBefore-append n t) ∙ length-append (decimal n) t
+
 decimalBy-between : (lo hi : ℕ) → lo ≤ 48 → 57 ≤ hi → (k : ℕ) (single : Bool) (n : ℕ) (t : List ℕ) → ltb n 10 ≡ single → n ≤ k → Between lo hi t → Between lo hi (decimalBy k single n t)
 unfolding decimalBy
 decimalBy-between lo hi l h zero single n t e i b = (omega arith, omega arith, b)
@@ -44,6 +49,13 @@ decimalBy-between lo hi l h (suc k) false n t e i b =
 pub decimalBefore-between : (lo hi : ℕ) → lo ≤ 48 → 57 ≤ hi → (n : ℕ) (t : List ℕ) → Between lo hi t → Between lo hi (decimalBefore n t)
 unfolding decimalBefore
 decimalBefore-between lo hi l h n t b = decimalBy-between lo hi l h n _ n t refl (omega arith) b
+
+pub decimal-between : (lo hi : ℕ) → lo ≤ 48 → 57 ≤ hi → (n : ℕ) → Between lo hi (decimal n)
+unfolding decimal
+decimal-between lo hi l h n = decimalBefore-between lo hi l h n [] tt
+
+pub twoBefore-between : (lo hi : ℕ) → lo ≤ 48 → 57 ≤ hi → (n : ℕ) (t : List ℕ) → n < 100 → Between lo hi t → Between lo hi (twoBefore n t)
+twoBefore-between lo hi l u n t k b = (omega arith, omega arith, (omega arith, omega arith, b))
 
 decimalBy-some : (k : ℕ) (single : Bool) (n : ℕ) (t : List ℕ) → 0 < length (decimalBy k single n t)
 unfolding decimalBy
@@ -74,6 +86,10 @@ readFrom-decimalBy (suc k) false n t e i =
 pub readFrom-decimalBefore : (n : ℕ) (t : List ℕ) → readFrom 0 (decimalBefore n t) ≡ readFrom n t
 unfolding decimalBefore
 readFrom-decimalBefore n t = readFrom-decimalBy n _ n t refl (omega arith)
+
+pub readFrom-decimal : (n : ℕ) → readFrom 0 (decimal n) ≡ Value n
+unfolding decimal readFrom
+readFrom-decimal n = readFrom-decimalBefore n []
 
 -- how often n may be cut does not show, once it is enough
 decimalBy-enough : (k l : ℕ) (single : Bool) (n : ℕ) (t : List ℕ) → ltb n 10 ≡ single → n ≤ k → n ≤ l → decimalBy k single n t ≡ decimalBy l single n t

@@ -14,7 +14,7 @@ use Rattle.time.specs.Answers.{timeAt}
 use Rattle.time.specs.Clock.{clockOf}
 use Rattle.time.specs.Range.{secondsInRange, offsetInRange}
 use Rattle.time.specs.Header.{secondsBefore, signByte, wholeMinutes, offsetBytes, headerBytes, sizeOf, headerWritten}
-use Rattle.time.specs.Iso.{isoBytes, shownOf, isoWritten}
+use Rattle.time.specs.Iso.{lineBytes, lineOf, lineWritten, shown, isoBytes, isoWritten}
 use Rattle.time.specs.declared.Refusal.the-variants.{Offset, Range, Room}
 use Rattle.time.specs.declared.Written.the-variants.{Length, Refused}
 
@@ -63,12 +63,12 @@ sizes = (refl, refl, refl)
 
 -- "`YYYY-MM-DDTHH:MM:SS+HH:MM`"
 iso-line : isoBytes (timeAt (pos 1203039045) (negsuc 17999)) ≡ bytes "2008-02-14T20:30:45-05:00"
-unfolding isoBytes clockOf signByte wholeMinutes dateOf monthOf yearOf spanOf monthLength yearLength firstDay yearStart total lengths leap
+unfolding isoBytes shown lineBytes clockOf signByte wholeMinutes dateOf monthOf yearOf spanOf monthLength yearLength firstDay yearStart total lengths leap
 iso-line = refl
 
 -- Git's published writer tests, t0006, but for offset 0, where Git prints `Z`
 git-writers : (isoBytes (timeAt (pos 1466000000) (pos 7200)) ≡ bytes "2016-06-15T16:13:20+02:00") × (isoBytes (timeAt (pos 1466000000) (negsuc 7199)) ≡ bytes "2016-06-15T12:13:20-02:00")
-unfolding isoBytes clockOf signByte wholeMinutes dateOf monthOf yearOf spanOf monthLength yearLength firstDay yearStart total lengths leap
+unfolding isoBytes shown lineBytes clockOf signByte wholeMinutes dateOf monthOf yearOf spanOf monthLength yearLength firstDay yearStart total lengths leap
 git-writers = (refl, refl)
 
 git-header-writers : (headerBytes (timeAt (pos 1466000000) (pos 7200)) ≡ bytes "1466000000 +0200") × (headerBytes (timeAt (pos 1466000000) (negsuc 7199)) ≡ bytes "1466000000 -0200")
@@ -77,23 +77,23 @@ git-header-writers = (refl, refl)
 
 -- "The fields show the clock at the full offset, the offset is printed cut to minutes, with `-` if it is negative"
 iso-of-odd-offset : isoBytes (timeAt (pos 0) (negsuc 89)) ≡ bytes "1969-12-31T23:58:30-00:01"
-unfolding isoBytes clockOf signByte wholeMinutes dateOf monthOf yearOf spanOf monthLength yearLength firstDay yearStart total lengths leap
+unfolding isoBytes shown lineBytes clockOf signByte wholeMinutes dateOf monthOf yearOf spanOf monthLength yearLength firstDay yearStart total lengths leap
 iso-of-odd-offset = refl
 
 -- "writers 7, 6, 8": the largest seconds at an offset of a day, with no room
 seven-first : isoWritten (timeAt (pos (2 ^ 63 - 1)) (pos 86400)) [] ≡ Refused Offset
-unfolding isoWritten shownOf
+unfolding isoWritten shown lineWritten lineOf
 seven-first = refl
 
 six-next : isoWritten (timeAt (pos 253402207201) (pos 0)) [] ≡ Refused Range
-unfolding isoWritten shownOf secondsInRange
+unfolding isoWritten shown lineWritten lineOf secondsInRange
 six-next = refl
 
 -- "a local year outside 0 to 9999": the second before 1 January 0000, and that midnight
 year-before-0 : isoWritten (timeAt (negsuc 62167219200) (pos 0)) (replicate 25 0) ≡ Refused Range
-unfolding isoWritten shownOf secondsInRange clockOf dateOf monthOf yearOf spanOf monthLength yearLength firstDay yearStart total lengths leap
+unfolding isoWritten shown lineWritten lineOf secondsInRange clockOf dateOf monthOf yearOf spanOf monthLength yearLength firstDay yearStart total lengths leap
 year-before-0 = refl
 
 year-0 : isoWritten (timeAt (negsuc 62167219199) (pos 0)) (replicate 25 0) ≡ Length 25
-unfolding isoWritten shownOf secondsInRange clockOf dateOf monthOf yearOf spanOf monthLength yearLength firstDay yearStart total lengths leap
+unfolding isoWritten shown lineWritten lineOf secondsInRange clockOf dateOf monthOf yearOf spanOf monthLength yearLength firstDay yearStart total lengths leap
 year-0 = refl

@@ -14,7 +14,6 @@ ghost use Rattle.time.specs.Answers.{timeAt, numberOf};
 ghost use Rattle.calendar.specs.Table.{IsMonths};
 ghost use Rattle.time.specs.Header.{sizeOf, headerBytes, headerWritten, roomAfter};
 ghost use Rattle.time.specs.Iso.{isoBytes, isoWritten};
-use crate::format::Shown;
 pub use write::magnitude;
 
 pub struct Time {
@@ -91,11 +90,7 @@ impl Time {
         ensures { λ r. ⌜ r ≡ isoWritten self (now (room .entry)) ⌝ }
         ensures { λ _. ⌜ now (room .exit) ≡ roomAfter (isoWritten self (now (room .entry))) (isoBytes self) (now (room .entry)) ⌝ }
     {
-        let shown = format::shown_of(self);
-        match shown {
-            Shown::At(i) => format::write_shown(months, self, i, room),
-            Shown::Not(r) => Written::Refused(r),
-        }
+        format::write_line_with(format::shown(self), months, room)
     }
 }
 
