@@ -25,7 +25,7 @@ use Rattle.relative.specs.Pairs.{pairsOf, agoIn, known}
 use Rattle.relative.specs.Steps.{steps}
 use Rattle.relative.specs.Relative.{from, relativeOf}
 use Rattle.relative.specs.Joined.{Whole, spaced, after}
-use Rattle.relative.specs.declared.Pair.{Pair}
+use Rattle.relative.specs.declared.pair.Pair.{Pair}
 use Rattle.relative.proofs.Holding.{steps-refused}
 use Rattle.relative.proofs.Texts.{pairsFrom-append, waitsFrom-append, known-append, ascii-append, steps-append, Good, steps-good}
 use Rattle.relative.proofs.Named.{relativeOf-of-pairs}

@@ -20,7 +20,7 @@ use Rattle.text.proofs.Taking.{words-takeWord, takeWord-moves}
 use Rattle.text.specs.declared.number.Number.the-variants.{Value, Not}
 use Rattle.relative.specs.Words.{wordsOf, is, countOf, unitOf}
 use Rattle.relative.specs.Pairs.{pairsFrom, agoFrom, known, isKnown, pairsOf, agoIn}
-use Rattle.relative.specs.declared.Pair.{Pair}
+use Rattle.relative.specs.declared.pair.Pair.{Pair}
 
 -- the words that are left at a place
 abbrev pub left : List ℕ → ℕ → List (List ℕ)

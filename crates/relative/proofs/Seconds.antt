@@ -34,9 +34,9 @@ use Rattle.relative.specs.Steps.{landing, landed, step, steps}
 use Rattle.relative.specs.Relative.{from, namedOf, relativeOf}
 use Rattle.relative.specs.Joined.{Whole, spaced, isSeconds, allSeconds}
 use Rattle.relative.specs.Months.{OnePair}
-use Rattle.relative.specs.declared.Unit.{Unit}
-use Rattle.relative.specs.declared.Unit.the-variants.{Seconds, Months, Unknown}
-use Rattle.relative.specs.declared.Pair.{Pair}
+use Rattle.relative.specs.declared.pair.Unit.{Unit}
+use Rattle.relative.specs.declared.pair.Unit.the-variants.{Seconds, Months, Unknown}
+use Rattle.relative.specs.declared.pair.Pair.{Pair}
 use Rattle.relative.proofs.Landing.{landed-of-lt}
 use Rattle.relative.proofs.Holding.{steps-refused}
 use Rattle.relative.proofs.Named.{relativeOf-of-pairs}

@@ -16,7 +16,7 @@ use Rattle.time.specs.declared.Answer.the-variants.{Time, Refused}
 use Rattle.relative.specs.Pairs.{next, pairsFrom, known, isKnown}
 use Rattle.relative.specs.Steps.{landing, landed, step, steps}
 use Rattle.relative.specs.Joined.{waitsFrom}
-use Rattle.relative.specs.declared.Pair.{Pair}
+use Rattle.relative.specs.declared.pair.Pair.{Pair}
 
 -- ---- pairs
 pub pairsFrom-append : (c : Number) (a b : List (List ℕ)) → pairsFrom c (a ++ b) ≡ pairsFrom c a ++ pairsFrom (waitsFrom c a) b

@@ -13,9 +13,9 @@ use Rattle.text.specs.declared.number.Number.the-variants.{Not}
 use Rattle.time.specs.declared.Now.the-variants.{At}
 use Rattle.time.specs.declared.Answer.{Answer}
 use Rattle.time.specs.declared.Answer.the-variants.{Time, Refused}
-use Rattle.relative.specs.declared.Unit.{Unit}
-use Rattle.relative.specs.declared.Unit.the-variants.{Seconds, Months, Unknown}
-use Rattle.relative.specs.declared.Pair.{Pair}
+use Rattle.relative.specs.declared.pair.Unit.{Unit}
+use Rattle.relative.specs.declared.pair.Unit.the-variants.{Seconds, Months, Unknown}
+use Rattle.relative.specs.declared.pair.Pair.{Pair}
 use Rattle.relative.specs.Words.{wordsOf}
 use Rattle.relative.specs.Pairs.{next, pairsOf, known}
 use Rattle.relative.specs.Relative.{relativeOf}

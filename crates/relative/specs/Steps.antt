@@ -14,9 +14,9 @@ use Rattle.time.specs.declared.Time.{Time}
 use Rattle.time.specs.declared.Refusal.the-variants.{Range}
 use Rattle.time.specs.declared.Answer.{Answer}
 use Rattle.time.specs.declared.Answer.the-variants.{Time as At, Refused}
-use Rattle.relative.specs.declared.Unit.{Unit}
-use Rattle.relative.specs.declared.Unit.the-variants.{Seconds, Months, Unknown}
-use Rattle.relative.specs.declared.Pair.{Pair}
+use Rattle.relative.specs.declared.pair.Unit.{Unit}
+use Rattle.relative.specs.declared.pair.Unit.the-variants.{Seconds, Months, Unknown}
+use Rattle.relative.specs.declared.pair.Pair.{Pair}
 
 -- the local clock of a time in range, in seconds from day 0
 abbrev pub localSeconds : Time → ℕ
