@@ -6,14 +6,14 @@ use mathlib.Core.List.{[]}
 use Prim.Native.Nat.{_^_, _-_}
 use lib.IntN.{pos, negsuc}
 use lib.ListN.{replicate}
-use Rattle.text.specs.Decimal.{decimalBy, decimalBefore, decimal}
+use Rattle.text.specs.Decimal.{decimalBy, decimalBefore, signed, signedBefore}
 use Rattle.text.specs.Quote.{bytes}
 use Rattle.calendar.specs.Calendar.{leap, lengths, monthLength, yearLength, yearStart, total, firstDay, spanOf, yearOf, monthOf}
 use Rattle.calendar.specs.Dates.{dateOf}
 use Rattle.time.specs.Answers.{timeAt}
 use Rattle.time.specs.Clock.{clockOf}
 use Rattle.time.specs.Range.{secondsInRange, offsetInRange}
-use Rattle.time.specs.Header.{secondsBefore, signByte, wholeMinutes, offsetBytes, headerBytes, sizeOf, headerWritten}
+use Rattle.time.specs.Header.{signByte, headerSign, wholeMinutes, headerBytes, sizeOf, headerWritten}
 use Rattle.time.specs.Iso.{lineBytes, lineOf, lineWritten, shown, isoBytes, isoWritten}
 use Rattle.time.specs.declared.Refusal.the-variants.{Offset, Range, Room}
 use Rattle.time.specs.declared.Written.the-variants.{Length, Refused}
@@ -29,17 +29,12 @@ offset-ends = (refl, refl, refl, refl)
 
 -- "seconds in plain decimal, space, `-` for a negative offset and otherwise `+`, two digits of hours, two of minutes"
 header-line : headerBytes (timeAt (pos 1745582210) (pos 7200)) ≡ bytes "1745582210 +0200"
-unfolding headerBytes secondsBefore offsetBytes signByte wholeMinutes decimalBefore decimalBy
+unfolding headerBytes signedBefore headerSign signByte wholeMinutes decimalBefore decimalBy
 header-line = refl
-
--- "offset -30 writes `-0000`"
-minus-0000 : headerBytes (timeAt (pos 5) (negsuc 29)) ≡ bytes "5 -0000"
-unfolding headerBytes secondsBefore offsetBytes signByte wholeMinutes decimalBefore decimalBy
-minus-0000 = refl
 
 -- "360000, which writes as 7; 359999 writes `+9959`"
 widest-offset : headerBytes (timeAt (pos 5) (pos 359999)) ≡ bytes "5 +9959"
-unfolding headerBytes secondsBefore offsetBytes signByte wholeMinutes decimalBefore decimalBy
+unfolding headerBytes signedBefore headerSign signByte wholeMinutes decimalBefore decimalBy
 widest-offset = refl
 
 too-wide : headerWritten (timeAt (pos 5) (pos 360000)) (replicate 26 0) ≡ Refused Offset
@@ -53,12 +48,12 @@ least-offset = refl
 
 -- "the room lent is shorter than the bytes to be written": six bytes for `5 +0000`, which takes seven
 short-by-one : headerWritten (timeAt (pos 5) (pos 0)) (replicate 6 0) ≡ Refused Room
-unfolding headerWritten sizeOf decimal decimalBefore decimalBy
+unfolding headerWritten sizeOf signed signedBefore decimalBefore decimalBy
 short-by-one = refl
 
 -- "`size` is digits, plus 1 if negative, plus 6"; zero has one digit
 sizes : (sizeOf (pos 0) ≡ 7) × (sizeOf (negsuc 0) ≡ 8) × (sizeOf (pos 1745582210) ≡ 16)
-unfolding sizeOf decimal decimalBefore decimalBy
+unfolding sizeOf signed signedBefore decimalBefore decimalBy
 sizes = (refl, refl, refl)
 
 -- "`YYYY-MM-DDTHH:MM:SS+HH:MM`"
@@ -72,7 +67,7 @@ unfolding isoBytes shown lineBytes clockOf signByte wholeMinutes dateOf monthOf 
 git-writers = (refl, refl)
 
 git-header-writers : (headerBytes (timeAt (pos 1466000000) (pos 7200)) ≡ bytes "1466000000 +0200") × (headerBytes (timeAt (pos 1466000000) (negsuc 7199)) ≡ bytes "1466000000 -0200")
-unfolding headerBytes secondsBefore offsetBytes signByte wholeMinutes decimalBefore decimalBy
+unfolding headerBytes signedBefore headerSign signByte wholeMinutes decimalBefore decimalBy
 git-header-writers = (refl, refl)
 
 -- "The fields show the clock at the full offset, the offset is printed cut to minutes, with `-` if it is negative"

@@ -13,11 +13,12 @@ use lib.ListN.{length, take, drop}
 use Rattle.ints.specs.Range.{In}
 use Rattle.ints.proofs.Parts.{parts-le}
 use Rattle.ints.proofs.Machine.{isIn-of-In}
+use Rattle.text.specs.Room.{roomAfter}
 use Rattle.text.proofs.Lists.{by-test, both}
 use Rattle.text.proofs.Putting.{put-put}
 use Rattle.time.specs.Range.{leastOffset, mostOffset, secondsInRange, offsetInRange, timeInRange, instantOf, movedOf}
+use Rattle.time.specs.Answers.{isWritten}
 use Rattle.time.specs.Clock.{clockOf}
-use Rattle.time.specs.Header.{roomAfter}
 use Rattle.time.specs.Iso.{lineClock, yearOf, dateBefore, clockBefore, offsetBefore, clockLine, lineBytes, lineOf, writtenAt, lineWritten, shown}
 use Rattle.time.specs.declared.Time.{Time}
 use Rattle.time.specs.declared.Refusal.{Refusal}
@@ -74,7 +75,7 @@ HasLine-of-At t i e =
 
 -- ---- the answers of the line's writer: r, with the room that it leaves; first those of a clock's line, at an offset
 abbrev pub WroteClock : Written → List ℕ → Clock → ℤ → List ℕ → Type 0
-WroteClock r after c o room = (r ≡ writtenAt c room) × (after ≡ roomAfter (writtenAt c room) (clockLine c o) room)
+WroteClock r after c o room = (r ≡ writtenAt c room) × (after ≡ roomAfter (isWritten (writtenAt c room)) (clockLine c o) room)
 
 module _ (c : Clock) (o : ℤ) (room : List ℕ) where
   pub wroteClock-year : c .date .month < 120000 → WroteClock (Refused Range) room c o room
@@ -102,7 +103,7 @@ module _ (c : Clock) (o : ℤ) (room : List ℕ) where
 
 -- and of a time's
 abbrev pub WroteLine : Written → List ℕ → Time → List ℕ → Type 0
-WroteLine r after t room = (r ≡ lineWritten t room) × (after ≡ roomAfter (lineWritten t room) (lineBytes t) room)
+WroteLine r after t room = (r ≡ lineWritten t room) × (after ≡ roomAfter (isWritten (lineWritten t room)) (lineBytes t) room)
 
 pub wroteLine-not : (t : Time) (r : Refusal) (room : List ℕ) → lineOf t ≡ NoLine r → WroteLine (Refused r) room t room
 unfolding lineWritten

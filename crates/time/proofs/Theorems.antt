@@ -6,7 +6,7 @@ use mathlib.Core.Path.{_≡_, refl, sym, _∙_}
 use mathlib.Core.Bool.{Bool, true, false, cond, _&&_}
 use mathlib.Core.List.{List, [], _∷_}
 use Prim.Native.Char.{code}
-use Prim.Native.Nat.{ℕ, suc, _+_, _-_, _/_, _%_, _^_, _≤_, _<_}
+use Prim.Native.Nat.{ℕ, _+_, _-_, _/_, _%_, _^_, _≤_, _<_}
 use native.Mathlib.Omega.{arith}
 use borrow.Author.Tests.{lt-leb, le-ltb}
 use lib.Dec.{eqb, leb, ltb}
@@ -17,11 +17,11 @@ use mir.Val.{SFits}
 use Rattle.ints.proofs.Machine.{natAbs-le-of-SFits}
 use Rattle.calendar.proofs.Dates.{IsDate-of-dateOf, IsDate-day-lt}
 use Rattle.calendar.specs.Dates.{dateOf}
-use Rattle.text.proofs.Decimals.{length-decimal-le}
+use Rattle.text.proofs.Signed.{length-signed-le}
 use Rattle.text.proofs.Lists.{by-test}
 use Rattle.text.proofs.Digits.{tens, ones}
 use Rattle.text.specs.Bytes.{isDigit, isSign}
-use Rattle.text.specs.Decimal.{decimal, decimalBy, decimalBefore}
+use Rattle.text.specs.Decimal.{decimalBy, decimalBefore, signed, signedBefore}
 use Rattle.text.specs.Quote.{bytes}
 use Rattle.time.specs.Clock.{clockOf, localOf}
 use Rattle.time.specs.Header.{sizeOf, headerBytes, headerWritten, signByte, wholeMinutes}
@@ -55,12 +55,11 @@ size-is-the-bytes-written t room n e = (told, told ∙ sym (length-headerBytes t
 -- no header of 64-bit seconds takes more than 26 bytes
 pub size-at-most-26 : (z : ℤ) → SFits w64 z → sizeOf z ≤ 26
 unfolding sizeOf
-size-at-most-26 (pos n) f = let k : n ≤ 2 ^ 63 = natAbs-le-of-SFits (pos n) f in omega (arith, length-decimal-le 18 n (omega arith))
-size-at-most-26 (negsuc n) f = let k : suc n ≤ 2 ^ 63 = natAbs-le-of-SFits (negsuc n) f in omega (arith, length-decimal-le 18 (suc n) (omega arith))
+size-at-most-26 z f = omega (arith, length-signed-le z (natAbs-le-of-SFits z f))
 
 -- and the least of them takes 26
 pub size-of-the-least : sizeOf (negsuc (2 ^ 63 - 1)) ≡ 26
-unfolding sizeOf decimal decimalBefore decimalBy
+unfolding sizeOf signed signedBefore decimalBefore decimalBy
 size-of-the-least = refl
 
 -- so 26 bytes are room enough: what is refused there is an offset too wide

@@ -4,9 +4,10 @@ ghost use mathlib.Core.List.{_++_};
 ghost use Prim.Native.Nat.{_+_, _-_, _≤_, _<_, _/_, _%_};
 ghost use lib.ListN.{length, take, drop};
 ghost use lib.IntN.{natAbs};
+ghost use Rattle.text.specs.Room.{roomAfter};
 ghost use Rattle.calendar.specs.Table.{IsMonths};
+ghost use Rattle.time.specs.Answers.{isWritten};
 ghost use Rattle.time.specs.Clock.{clockOf};
-ghost use Rattle.time.specs.Header.{roomAfter};
 ghost use Rattle.time.specs.Iso.{fieldBefore, dateBefore, clockBefore, offsetBefore, clockLine, lineBytes, lineOf, writtenAt, lineWritten, shown as shownTime, LineInRange};
 ghost use Rattle.time.specs.Range.{InRange};
 use crate::Refusal;
@@ -36,7 +37,7 @@ pub fn shown(t: Time) -> Time
 pub fn write_line_with(t: Time, months: &[u32], room: &mut [u8]) -> Written
     requires { ⌜ IsMonths (now months) ⌝ }
     ensures { λ r. ⌜ r ≡ lineWritten t (now (room .entry)) ⌝ }
-    ensures { λ _. ⌜ now (room .exit) ≡ roomAfter (lineWritten t (now (room .entry))) (lineBytes t) (now (room .entry)) ⌝ }
+    ensures { λ _. ⌜ now (room .exit) ≡ roomAfter (isWritten (lineWritten t (now (room .entry)))) (lineBytes t) (now (room .entry)) ⌝ }
 {
     let offset = t.offset;
     let line = line_of(t);
@@ -67,7 +68,7 @@ fn write_instant(months: &[u32], i: Instant, offset: i32, room: &mut [u8]) -> Wr
     requires range { ⌜ InRange i ⌝ }
     requires offset { ⌜ natAbs offset < 86400 ⌝ }
     ensures { λ r. ⌜ r ≡ writtenAt (clockOf i) (now (room .entry)) ⌝ }
-    ensures { λ _. ⌜ now (room .exit) ≡ roomAfter (writtenAt (clockOf i) (now (room .entry))) (clockLine (clockOf i) offset) (now (room .entry)) ⌝ }
+    ensures { λ _. ⌜ now (room .exit) ≡ roomAfter (isWritten (writtenAt (clockOf i) (now (room .entry)))) (clockLine (clockOf i) offset) (now (room .entry)) ⌝ }
 {
     let c = local_clock(months, i);
     let month = c.date.month;
