@@ -38,7 +38,7 @@ unfolding secondsOf
 secondsOf-signed z r = rw (fitSigned-signed z r)
 
 -- ---- an offset's word of digits
-abbrev pub fieldsAre : Bool → ℕ → ℕ → ℕ → Fields
+abbrev fieldsAre : Bool → ℕ → ℕ → ℕ → Fields
 fieldsAre minus h m x = record { minus = minus; hours = pos h; minutes = pos m; seconds = pos x }
 
 pub offsetOf-fieldsAre : (minus : Bool) (h m x n : ℕ) → h * 3600 + m * 60 + x ≡ n → offsetOf (fieldsAre minus h m x) ≡ cond minus (negℤ (pos n)) (pos n)

@@ -70,7 +70,7 @@ module _ (s : List ℕ) (at : ℕ) where
   usualOf-of-length n = rw (ne-eqb (length s) (at + 6) n)
 
   -- where there are fields there is that form
-  pub usual-told : (f : Fields) → usualOf s at ≡ Offset f → Usual s at × (fieldsOf Byte (drop (at + 1) s) ≡ Offset f)
+  usual-told : (f : Fields) → usualOf s at ≡ Offset f → Usual s at × (fieldsOf Byte (drop (at + 1) s) ≡ Offset f)
   unfolding usualOf isUsual
   usual-told f e =
       by-test (isUsual s at)
