@@ -48,7 +48,7 @@ accepted l (Is z) NoOffset t e = let q : _≡_ {A = ℕ} 0 1 = cc in absurd (ome
 accepted l NotOne p t e = let q : _≡_ {A = ℕ} 0 1 = cc in absurd (omega arith)
 
 -- the offset that the header reader gives where raw gives o: o, if a digit follows the sign
-abbrev pub keptOffset : List ℕ → ℤ → ℤ
+abbrev keptOffset : List ℕ → ℤ → ℤ
 keptOffset v o = cond (isDigit (getD v 1 0)) o (pos 0)
 
 headerTime-cond : (z : ℤ) (d : Bool) (f : Fields) → headerTime (Is z) (cond d (Offset f) NoOffset) ≡ At (timeAt z (cond d (offsetOf f) (pos 0)))
@@ -56,7 +56,7 @@ headerTime-cond z true f = refl
 headerTime-cond z false f = refl
 
 -- what the header reader answers where the raw reader, at any limits, accepts
-pub header-of-raw : (l : Limits) (s : List ℕ) (t : Time) → rawOf l s ≡ At t → headerOf s ≡ At (timeAt (t .seconds) (keptOffset (secondWord s) (t .offset)))
+header-of-raw : (l : Limits) (s : List ℕ) (t : Time) → rawOf l s ≡ At t → headerOf s ≡ At (timeAt (t .seconds) (keptOffset (secondWord s) (t .offset)))
 unfolding rawOf headerOf secondsOf headerOffset
 header-of-raw l s t e =
     by-test (ascii s)

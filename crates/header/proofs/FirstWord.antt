@@ -3,7 +3,7 @@
 -- Assumes nothing.
 use mathlib.Core.Path.{_≡_, refl, sym, ap, _∙_}
 use mathlib.Core.Bool.{Bool, true, false, cond, not, _||_}
-use mathlib.Core.List.{List, [], _∷_}
+use mathlib.Core.List.{List, []}
 use Prim.Native.Nat.{ℕ, suc, _+_, _≤_, _<_}
 use native.Mathlib.Omega.{arith}
 use native.Mathlib.Nat.{add-sub-cancel-left}
@@ -11,7 +11,7 @@ use borrow.Author.Tests.{eqb-true, eqb-false, ne-eqb}
 use lib.Dec.{eqb}
 use lib.ListN.{length, take, drop, getD, drop-of-length-le}
 use lib.Seq.{take-all, take-take, length-take-le, drop-drop}
-use Rattle.text.specs.Bytes.{isSpace, isDigit, isSign}
+use Rattle.text.specs.Bytes.{isSpace, isSign}
 use Rattle.text.specs.Places.{run, leading, no, past}
 use Rattle.text.specs.Number.{signedOf, fitSigned, numeral}
 use Rattle.text.specs.declared.number.Integer.{Integer}
@@ -21,15 +21,10 @@ use Rattle.text.proofs.Lists.{by-test, drop-cons-add-one}
 use Rattle.text.proofs.Runs.{run-le-length, run-drop}
 use Rattle.text.proofs.Taking.{getD-words-zero}
 use Rattle.text.proofs.Numbers.{signedOf-of-numeral-lt, numeral-of-digits, numeral-le-run, numeral-leading, isSign-leading}
-use Rattle.text.proofs.Digits.{isDigit-of-sign}
+use Rattle.text.proofs.Digits.{leading-of-isSign}
+use Rattle.text.proofs.Plain.{no-space-of-isSign, no-space-of-isDigit}
 use Rattle.header.specs.Header.{number64, orElse, secondsOf}
 use Rattle.header.specs.Held.{endsAt, firstWord, LeadsWithNumber}
-use Rattle.header.proofs.Plain.{no-space-of-isSign, no-space-of-isDigit}
-
-leading-of-isSign : (w : List ℕ) → isSign (getD w 0 0) ≡ true → leading isDigit w ≡ []
-unfolding run
-leading-of-isSign [] e = refl
-leading-of-isSign (b ∷ w) e = rw (isDigit-of-sign b e)
 
 orElse-NotOne : (i : Integer) → orElse i NotOne ≡ i
 orElse-NotOne (Is z) = refl

@@ -9,7 +9,7 @@ use native.Mathlib.Omega.{arith}
 use borrow.Author.Tests.{lt-ltb, ltb-false}
 use lib.Dec.{ltb}
 use lib.ListN.{length, drop, getD}
-use Rattle.text.specs.Bytes.{isSpace, ascii}
+use Rattle.text.specs.Bytes.{isSpace, isPlain, ascii}
 use Rattle.text.specs.Places.{no, past, has, part}
 use Rattle.text.specs.Words.{words}
 use Rattle.text.specs.Number.{numeral}
@@ -20,9 +20,9 @@ use Rattle.text.proofs.Lists.{by-test}
 use Rattle.text.proofs.Runs.{past-add, same-drop-past, has-drop-nil}
 use Rattle.text.proofs.Taking.{ltb-zero-length-words, getD-words-zero, drop-one-words}
 use Rattle.text.proofs.Numbers.{numeral-le-run}
+use Rattle.text.proofs.Plain.{plain, isPlain-of-isSign, isPlain-of-isDigit, ascii-cons, ascii-space, has-cons-of-ne, has-space, past-isPlain}
 use Rattle.header.specs.Offset.{onlyWord}
-use Rattle.header.specs.Held.{isPlain, endsAt, spanOf, nowhere, secondWord, LeadsWithNumber, FirstWords}
-use Rattle.header.proofs.Plain.{isPlain-of-isSign, isPlain-of-isDigit, ascii-plain, ascii-space, has-plain, has-space, past-isPlain}
+use Rattle.header.specs.Held.{endsAt, spanOf, nowhere, secondWord, LeadsWithNumber, FirstWords}
 use Rattle.header.proofs.FirstWord.{number64-firstWord, secondsOf-firstWord}
 
 -- ---- the places, from the end of the number on
@@ -69,10 +69,10 @@ module _ (s : List ℕ) (r : LeadingInteger) (l : LeadsWithNumber s r) where
       ∙ same-drop-past f isSpace space s (secondEnd s (r .end))
 
   pub ascii-kept : ascii s ≡ ascii (drop (third s (r .end)) s)
-  ascii-kept = kept ascii ascii-space ascii-plain
+  ascii-kept = kept ascii ascii-space (λ b t e. ascii-cons b t (plain b e .low))
 
   pub has-kept : has 58 s ≡ has 58 (drop (third s (r .end)) s)
-  has-kept = kept (has 58) has-space has-plain
+  has-kept = kept (has 58) (has-space 58 (omega arith)) (λ b t e. has-cons-of-ne 58 b t (plain b e .no-colon))
 
   -- ---- the second word
   abbrev bounds : Bool → List ℕ
@@ -86,16 +86,16 @@ module _ (s : List ℕ) (r : LeadingInteger) (l : LeadsWithNumber s r) where
         (by-test (ltb (third s (r .end)) (length s)) (λ e. rw e) (λ e. rw e))
       where
         firstEnd-past : firstEnd s (r .end) ≡ past (no isSpace) s first
-        firstEnd-past = firstEnd-is ∙ past-isPlain s first a h
+        firstEnd-past = firstEnd-is ∙ past-isPlain s a h first
 
         rest : drop 1 (words isSpace s) ≡ words isSpace (drop (firstEnd s (r .end)) s)
         rest = rw firstEnd-past (drop-one-words isSpace s 0)
 
         second-word : getD (words isSpace (drop (firstEnd s (r .end)) s)) 0 [] ≡ part s (spanOf (second s (r .end)) (secondEnd s (r .end)))
-        second-word = rw (past-isPlain s (second s (r .end)) a h) (getD-words-zero isSpace s (firstEnd s (r .end)))
+        second-word = rw (past-isPlain s a h (second s (r .end))) (getD-words-zero isSpace s (firstEnd s (r .end)))
 
         third-words : drop 1 (words isSpace (drop (firstEnd s (r .end)) s)) ≡ words isSpace (drop (secondEnd s (r .end)) s)
-        third-words = rw (past-isPlain s (second s (r .end)) a h) (drop-one-words isSpace s (firstEnd s (r .end)))
+        third-words = rw (past-isPlain s a h (second s (r .end))) (drop-one-words isSpace s (firstEnd s (r .end)))
 
     -- with a `:` something is left, since it ends every scan
     more-of-colon : has 58 s ≡ true → ltb (third s (r .end)) (length s) ≡ true

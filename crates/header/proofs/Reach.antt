@@ -14,13 +14,13 @@ use Rattle.ints.proofs.Machine.{in-add, in-mul, in-neg}
 use Rattle.text.specs.Bytes.{isSpace, isSign, ascii}
 use Rattle.text.specs.Places.{has}
 use Rattle.text.specs.Words.{words}
-use Rattle.text.specs.Decimal.{twoBefore}
+use Rattle.text.specs.Decimal.{signedBefore, twoBefore}
 use Rattle.text.specs.declared.number.Integer.{Integer}
 use Rattle.text.specs.declared.number.Integer.the-variants.{Is, NotOne}
 use Rattle.text.proofs.Lists.{by-test}
-use Rattle.text.proofs.Decimals.{Between}
+use Rattle.text.proofs.Decimals.{Between, twoBefore-between}
 use Rattle.time.specs.Answers.{timeAt}
-use Rattle.time.specs.Header.{secondsBefore, signByte}
+use Rattle.time.specs.Header.{signByte}
 use Rattle.time.specs.declared.Time.{Time}
 use Rattle.time.specs.declared.Answer.{Answer}
 use Rattle.time.specs.declared.Answer.the-variants.{Time as At, Refused}
@@ -31,7 +31,7 @@ use Rattle.header.specs.declared.offset.Fields.{Fields}
 use Rattle.header.specs.declared.offset.Parsed.{Parsed}
 use Rattle.header.specs.declared.offset.Parsed.the-variants.{Offset, NoOffset}
 use Rattle.header.proofs.Offsets.{headerOffset-all-small}
-use Rattle.header.proofs.ReadBack.{Seconds64, twoBefore-between, offsetOf-fieldsAre, headerOffset-seven, headerOf-secondsBefore}
+use Rattle.header.proofs.ReadBack.{Seconds64, offsetOf-fieldsAre, headerOffset-seven, headerOf-signedBefore}
 
 -- from -362439, `-999999`, to 362439
 abbrev pub HeaderOffset : ℤ → Type 0
@@ -95,7 +95,7 @@ abbrev pub sevenBytes : ℤ → List ℕ
 sevenBytes o = signByte o ∷ twoBefore (hoursIn (natAbs o)) (twoBefore (minutesIn (natAbs o)) (twoBefore (secondsIn (natAbs o)) []))
 
 abbrev pub headerWith : ℤ → ℤ → List ℕ
-headerWith z o = secondsBefore z (32 ∷ sevenBytes o)
+headerWith z o = signedBefore z (32 ∷ sevenBytes o)
 
 signByte-between : (o : ℤ) → (33 ≤ signByte o) × (signByte o ≤ 57)
 unfolding signByte
@@ -124,4 +124,4 @@ read-sevenBytes z (negsuc n) h =
 pub header-offset-reached : (z o : ℤ) → Seconds64 z → HeaderOffset o → headerOf (headerWith z o) ≡ At (timeAt z o)
 header-offset-reached z o r p =
     let h : natAbs o ≤ 362439 = omega (arith, le-parts (p .low), le-parts (p .high), natAbs-parts o, one-up o, one-dn o) in
-    headerOf-secondsBefore z (sevenBytes o) r (omega arith) (sevenBytes-between o h) ∙ read-sevenBytes z o h
+    headerOf-signedBefore z (sevenBytes o) r (omega arith) (sevenBytes-between o h) ∙ read-sevenBytes z o h

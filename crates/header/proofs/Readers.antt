@@ -2,12 +2,10 @@
 -- no offset holds one (`lacking-of-raw`).
 -- Assumes nothing.
 use mathlib.Core.Path.{_≡_, refl, sym, _∙_}
-use mathlib.Core.Bool.{Bool, true, false, cond, _&&_, false≢true}
+use mathlib.Core.Bool.{Bool, true, false, cond, false≢true}
 use mathlib.Core.List.{List, [], _∷_}
 use Prim.Native.Nat.{ℕ, _^_}
-use native.Mathlib.Omega.{arith}
-use lib.IntN.{ℤ, pos, negℤ}
-use lib.Signed.{leZ, ltZ}
+use lib.IntN.{ℤ}
 use lib.ListN.{getD, drop}
 use Rattle.text.specs.Bytes.{isSpace, isDigit}
 use Rattle.text.specs.Places.{run, has, part}
@@ -15,7 +13,7 @@ use Rattle.text.specs.Words.{words}
 use Rattle.text.specs.Number.{signedOf, fitSigned}
 use Rattle.text.specs.declared.number.Integer.{Integer}
 use Rattle.text.specs.declared.number.Integer.the-variants.{Is, NotOne}
-use Rattle.text.proofs.Lists.{by-test}
+use Rattle.text.proofs.Numbers.{fitSigned-value}
 use Rattle.text.proofs.Texts.{Lacking, not-has-of-words, no-colon-of-between, between-of-signedOf}
 use Rattle.time.specs.declared.Answer.the-variants.{Refused}
 use Rattle.time.specs.declared.Refusal.the-variants.{Form}
@@ -57,16 +55,8 @@ unfolding headerOffset isDigit
 headerOffset-nil = refl
 
 -- ---- no number and no offset holds a `:`
-signedOf-of-number64 : (w : List ℕ) (z : ℤ) → number64 w ≡ Is z → signedOf w ≡ Is z
-unfolding fitSigned
-signedOf-of-number64 w z e = go (signedOf w) e
-  where
-    go : (x : Integer) → fitSigned (2 ^ 63) x ≡ Is z → x ≡ Is z
-    go (Is y) k = by-test (leZ (negℤ (pos (2 ^ 63))) y && ltZ y (pos (2 ^ 63))) (λ t. rw t at k) (λ t. let m = rw t at k in let q : _≡_ {A = ℕ} 0 1 = cc in absurd (omega arith))
-    go NotOne k = k
-
 no-colon-of-number64 : (w : List ℕ) (z : ℤ) → number64 w ≡ Is z → has 58 w ≡ false
-no-colon-of-number64 w z e = no-colon-of-between 43 w (between-of-signedOf w z (signedOf-of-number64 w z e))
+no-colon-of-number64 w z e = no-colon-of-between 43 w (between-of-signedOf w z (fitSigned-value (2 ^ 63) (signedOf w) z e))
 
 lacking : (ws : List (List ℕ)) (z : ℤ) (f : Fields) → number64 (getD ws 0 []) ≡ Is z → fieldsOf Byte (onlyWord (drop 1 ws)) ≡ Offset f → Lacking 58 ws
 lacking [] z f n p = tt

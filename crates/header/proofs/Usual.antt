@@ -11,22 +11,22 @@ use lib.Dec.{eqb}
 use lib.IntN.{pos}
 use lib.ListN.{length, drop, getD, length-drop, drop-of-length-le}
 use lib.Seq.{take-all, take-nil, getD-drop}
-use Rattle.text.specs.Bytes.{isSpace, isDigit, isSign, ascii}
+use Rattle.text.specs.Bytes.{isSpace, isDigit, isSign, isPlain, ascii}
 use Rattle.text.specs.Places.{past, has, part}
 use Rattle.text.specs.declared.number.LeadingInteger.{LeadingInteger}
 use Rattle.text.proofs.Lists.{by-test, both}
 use Rattle.text.proofs.Runs.{run-le-length, past-le-length, past-of-true, past-of-false, past-of-length-le, le-past, has-drop-nil}
 use Rattle.text.proofs.Numbers.{numeral-le-run}
+use Rattle.text.proofs.Plain.{isPlain-of-isSign, isPlain-of-isDigit, no-space-of-isSign, ascii-drop-nil}
 use Rattle.header.specs.Offset.{fiveOrSeven, lastField, fieldsOf}
 use Rattle.header.specs.Header.{headerOffset, headerTime, headerOf}
 use Rattle.header.specs.Raw.{Limits, rawTime, rawOf}
-use Rattle.header.specs.Held.{Small, LeadsWithNumber, isUsual, usualOf, isPlain, endsAt, spanOf, WordsRead}
+use Rattle.header.specs.Held.{Small, LeadsWithNumber, isUsual, usualOf, endsAt, spanOf, WordsRead}
 use Rattle.header.specs.declared.offset.Field.{Field}
 use Rattle.header.specs.declared.offset.Field.the-variants.{Signed, Byte}
 use Rattle.header.specs.declared.offset.Fields.{Fields}
 use Rattle.header.specs.declared.offset.Parsed.the-variants.{Offset, NoOffset}
 use Rattle.header.specs.declared.walk.Walked.the-variants.{Words}
-use Rattle.header.proofs.Plain.{isPlain-of-isSign, isPlain-of-isDigit, no-space-of-isSign}
 use Rattle.header.proofs.FirstWord.{endsAt-of-lt, endsAt-of-le}
 use Rattle.header.proofs.Pass.{firstEnd, second, secondEnd, third, ascii-kept, has-kept, FirstWords-of-pass}
 use Rattle.header.proofs.Readers.{fieldsOf-nil, headerOffset-nil, headerOf-of-words, rawOf-of-words}
@@ -70,7 +70,7 @@ module _ (s : List ℕ) (at : ℕ) where
   usualOf-of-length n = rw (ne-eqb (length s) (at + 6) n)
 
   -- where there are fields there is that form
-  pub usual-told : (f : Fields) → usualOf s at ≡ Offset f → Usual s at × (fieldsOf Byte (drop (at + 1) s) ≡ Offset f)
+  usual-told : (f : Fields) → usualOf s at ≡ Offset f → Usual s at × (fieldsOf Byte (drop (at + 1) s) ≡ Offset f)
   unfolding usualOf isUsual
   usual-told f e =
       by-test (isUsual s at)
@@ -158,11 +158,10 @@ module _ (s : List ℕ) (r : LeadingInteger) (l : LeadsWithNumber s r) where
   -- the number is the first word, and past the second word there is nothing left
   words-read : endsAt s (r .end) ≡ true → length s ≤ third s (r .end)
       → WordsRead s (Words (record { number = r .number; whole = true; «offset_word» = spanOf (second s (r .end)) (secondEnd s (r .end)); colon = false }))
-  unfolding ascii
   words-read e n = (ascii-is, rw (e, le-ltb (third s (r .end)) (length s) n, has-is) at (FirstWords-of-pass s r l ascii-is))
     where
       ascii-is : ascii s ≡ true
-      ascii-is = ascii-kept s r l ∙ rw (drop-of-length-le s {i = third s (r .end)} n)
+      ascii-is = ascii-kept s r l ∙ ascii-drop-nil s (third s (r .end)) n
 
       has-is : has 58 s ≡ false
       has-is = has-kept s r l ∙ has-drop-nil 58 s (third s (r .end)) n

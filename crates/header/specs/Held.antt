@@ -5,9 +5,9 @@
 use Prim.Native.Nat.{ℕ, _+_, _^_}
 use Prim.Native.Char.{code}
 use mathlib.Core.Path.{_≡_}
-use mathlib.Core.Bool.{Bool, true, false, cond, not, _&&_}
+use mathlib.Core.Bool.{Bool, true, false, cond, _&&_}
 use mathlib.Core.List.{List, []}
-use lib.Dec.{eqb, ltb}
+use lib.Dec.{eqb}
 use lib.IntN.{pos, negsuc}
 use lib.ListN.{length, getD, drop}
 use Rattle.ints.specs.Range.{In}
@@ -52,10 +52,6 @@ isUsual s at =
 -- the fields in that tail
 unfoldable pub usualOf : List ℕ → ℕ → Parsed
 usualOf s at = cond (isUsual s at) (fieldsOf Byte (drop (at + 1) s)) NoOffset
-
--- what a scan over a word passes: no white space, no `:`, no byte of 128 or more
-unfoldable pub isPlain : ℕ → Bool
-isPlain b = not (isSpace b) && not (eqb b (code ":")) && ltb b 128
 
 -- no word goes on at a place: white space or the end is there
 unfoldable pub endsAt : List ℕ → ℕ → Bool

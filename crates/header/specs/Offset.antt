@@ -55,7 +55,7 @@ fieldsOf by w =
     NoOffset
 
 -- the fields in seconds
-abbrev pub sumOf : Fields → ℤ
+abbrev sumOf : Fields → ℤ
 sumOf f = f .hours *ℤ pos 3600 +ℤ f .minutes *ℤ pos 60 +ℤ f .seconds
 
 -- what they mean: a sign before the fields is a sign of the offset, and turns the whole sum

@@ -2,11 +2,11 @@
 -- anchors: `5 +1445` is 5 at offset 53100, and `5 ++5+0` is 5 at offset 18000.
 -- Assumes nothing.
 use Prim.Native.Nat.{ℕ}
-use mathlib.Core.Bool.{Bool, false, cond, _&&_, _||_}
+use mathlib.Core.Bool.{Bool, cond, _&&_, _||_}
 use mathlib.Core.List.{List, [], _∷_}
-use lib.Dec.{eqb}
-use lib.IntN.{ℤ, pos, negsuc}
+use lib.IntN.{ℤ, pos}
 use lib.Signed.{leZ}
+use Rattle.ints.specs.Equal.{eqZ}
 use Rattle.text.specs.Bytes.{isSpace, ascii}
 use Rattle.text.specs.Words.{words}
 use Rattle.text.specs.declared.number.Integer.{Integer}
@@ -22,13 +22,6 @@ use Rattle.header.specs.declared.offset.Parsed.{Parsed}
 use Rattle.header.specs.declared.offset.Parsed.the-variants.{Offset, NoOffset}
 use Rattle.header.specs.declared.raw.Rule.{Rule}
 use Rattle.header.specs.declared.raw.Rule.the-variants.{One}
-
--- the same integer
-abbrev pub eqZ : ℤ → ℤ → Bool
-eqZ (pos a) (pos b) = eqb a b
-eqZ (pos a) (negsuc b) = false
-eqZ (negsuc a) (pos b) = false
-eqZ (negsuc a) (negsuc b) = eqb a b
 
 -- which hours and which minutes are let through
 pub record Limits : Type 0 where

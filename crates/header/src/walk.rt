@@ -9,13 +9,13 @@ ghost use lib.ListN.{drop};
 ghost use Rattle.text.specs.Bytes.{isSpace, ascii as asciiOf};
 ghost use Rattle.text.specs.Places.{past, has};
 ghost use Rattle.text.specs.declared.number.Integer.the-variants.{NotOne};
-ghost use Rattle.header.specs.Held.{isPlain, endsAt, nowhere, spanOf, LeadsWithNumber, WordsRead};
+ghost use Rattle.header.specs.Held.{endsAt, nowhere, spanOf, LeadsWithNumber, WordsRead};
 use text::bytes;
 use text::number;
 use text::number::Integer;
 use text::number::LeadingInteger;
-use text::words;
-use text::words::Separator;
+use text::scan;
+use text::scan::Class;
 use text::words::Span;
 
 // What the words hold: the number of the first one as a header reads it, whether that number is the whole
@@ -50,7 +50,7 @@ fn first_word(s: &[u8]) -> usize
     if b' ' < s[0] {
         return 0;
     }
-    words::word_start(s, 0, Separator::Space)
+    scan::past(s, 0, Class::Space)
 }
 
 // Past the rest of the first word, white space, the second word, and white space again, there is nothing
@@ -60,10 +60,10 @@ pub fn read_words(s: &[u8], opening: LeadingInteger) -> Walked
     ensures { λ r. ⌜ WordsRead (now (s .entry)) r ⌝ }
 {
     let end = opening.end;
-    let first_end = past_plain(s, end);
-    let second = words::word_start(s, first_end, Separator::Space);
-    let second_end = past_plain(s, second);
-    let third = words::word_start(s, second_end, Separator::Space);
+    let first_end = scan::past(s, end, Class::Plain);
+    let second = scan::past(s, first_end, Class::Space);
+    let second_end = scan::past(s, second, Class::Plain);
+    let third = scan::past(s, second_end, Class::Space);
     let rest = look_through(s, third);
     if rest.ascii {
         let whole = ends_at(s, end);
@@ -78,31 +78,6 @@ pub fn read_words(s: &[u8], opening: LeadingInteger) -> Walked
         });
     }
     Walked::NotAscii
-}
-
-// Past the bytes from `at` that a scan over a word passes.
-fn past_plain(s: &[u8], at: usize) -> usize
-    ensures { λ r. ⌜ r ≡ past isPlain (now (s .entry)) at ⌝ }
-{
-    let mut i = at;
-    while i < s.len() {
-        if is_plain(s[i]) {
-            i += 1;
-        } else {
-            return i;
-        }
-    }
-    i
-}
-
-// Above 32 no byte is white space, and nearly all bytes of a word are above it.
-fn is_plain(b: u8) -> bool
-    ensures { λ r. ⌜ r ≡ isPlain b ⌝ }
-{
-    if b' ' < b {
-        return (b != b':') & (b < 128);
-    }
-    !bytes::is_space(b)
 }
 
 // Whether no word goes on at a place: white space is there, or the end of the text.

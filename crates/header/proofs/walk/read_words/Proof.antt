@@ -11,10 +11,10 @@ use Rattle.header.proofs.walk.read_words.Tie as tie
 
 -- so the rest tells of the whole
 module _ (c : tie.After-look-through) where
-  third-is : let a = c .before .before .before .before .before .before .args in c .before .word-start2 .result ≡ third (a .s .now) (a .opening .end)
+  third-is : let a = c .before .before .before .before .before .before .args in c .before .past4 .result ≡ third (a .s .now) (a .opening .end)
   third-is =
       let at-second = c .before .before .before in
-      rw (c .before .word-start2 .ensures, c .before .before .past-plain2 .ensures, at-second .word-start .ensures, at-second .before .past-plain .ensures)
+      rw (c .before .past4 .ensures, c .before .before .past3 .ensures, at-second .past2 .ensures, at-second .before .past .ensures)
 
   ascii-is : ascii (c .before .before .before .before .before .before .args .s .now) ≡ c .look-through .result .ascii
   ascii-is = ascii-kept _ _ (c .before .before .before .before .before .before .pre) ∙ rw (← third-is) (sym (c .look-through .ensures .0))
@@ -35,9 +35,9 @@ returns c =
         at-ends .ends-at .ensures,
         colon-is at-rest,
         third-is at-rest,
-        at-rest .before .before .past-plain2 .ensures,
-        at-second .word-start .ensures,
-        at-second .before .past-plain .ensures,
+        at-rest .before .before .past3 .ensures,
+        at-second .past2 .ensures,
+        at-second .before .past .ensures,
       ) (FirstWords-of-pass _ _ (at-rest .before .before .before .before .before .before .pre) a),
     )
 
