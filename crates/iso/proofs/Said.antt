@@ -10,14 +10,14 @@ use lib.Dec.{eqb, ltb}
 use lib.IntN.{ℤ}
 use lib.ListN.{length, getD, take, drop}
 use Rattle.text.specs.Number.{signedOf, fitSigned}
-use Rattle.text.specs.Places.{firstPlace}
+use Rattle.text.specs.Places.{firstPlace, before}
 use Rattle.text.specs.Trim.{trim}
 use Rattle.text.specs.declared.number.Number.{Number}
 use Rattle.text.specs.declared.number.Number.the-variants.{Value, Not}
 use Rattle.text.specs.declared.number.Integer.{Integer}
 use Rattle.text.specs.declared.number.Integer.the-variants.{Is, NotOne}
 use Rattle.text.proofs.Lists.{by-test, both, take-length-sub-drop, getD-of-length-le}
-use Rattle.iso.specs.Parts.{two, before, int32}
+use Rattle.iso.specs.Parts.{two, int32}
 use Rattle.iso.specs.Cut.{cut, timeText, offsetText}
 use Rattle.iso.specs.Clock.{timeOf}
 use Rattle.iso.specs.Offset.{offsetOf}

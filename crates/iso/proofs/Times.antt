@@ -10,13 +10,12 @@ use lib.Dec.{leb}
 use lib.ListN.{length, take, drop}
 use lib.Seq.{take-all}
 use Rattle.text.specs.Number.{fit, unsignedOf, AtMost}
-use Rattle.text.specs.Places.{firstPlace, has}
+use Rattle.text.specs.Places.{firstPlace, before, has}
 use Rattle.text.specs.Quote.{bytes}
 use Rattle.text.specs.Words.{pieces}
 use Rattle.text.specs.declared.number.Number.{Number}
 use Rattle.text.specs.declared.number.Number.the-variants.{Value, Not}
 use Rattle.text.proofs.Lists.{by-test, take-length-sub-drop}
-use Rattle.iso.specs.Parts.{before}
 use Rattle.iso.specs.Clock.{timePart, secondOf, clock, isColon, colonTime, plainTime, timeOf}
 use Rattle.text.proofs.FirstPlaces.{pieces-of-lt, pieces-of-le}
 

@@ -135,7 +135,7 @@ fn read_fields(y: &[u8], m: &[u8], d: &[u8], s: &[u8]) -> Fields
 {
     let r = trim::trimmed(s);
     let i = cut::split_time_and_offset(r);
-    let t = clock::parse_time_component(trim::trimmed(parts::before(&r[..i], 46)));
+    let t = clock::parse_time_component(trim::trimmed(places::before(&r[..i], b'.')));
     let o = offset::parse_flexible_offset(trim::trimmed(&r[i..]));
     let year = number::signed_number(y, 2147483648);
     let month = number::signed_number(m, 2147483648);
