@@ -10,9 +10,9 @@ use Rattle.text.specs.Places.{run, firstPlace, has}
 use Rattle.text.specs.Words.{words, pieces, full}
 use Rattle.text.specs.Number.{readFrom, digitsOf, unsignedOf, signedOf, fit, fitSigned}
 use Rattle.text.specs.Quote.{bytes}
-use Rattle.text.specs.Decimal.{decimalBefore, decimalBy}
+use Rattle.text.specs.Decimal.{decimalBefore, decimalBy, signedBefore}
 use Rattle.time.specs.Answers.{timeAt}
-use Rattle.time.specs.Header.{headerBytes, secondsBefore, offsetBytes, signByte, wholeMinutes}
+use Rattle.time.specs.Header.{headerBytes, headerSign, signByte, wholeMinutes}
 use Rattle.time.specs.Rows.{Row, reads, AllRight}
 use Rattle.time.specs.declared.Answer.the-variants.{Time, Refused}
 use Rattle.time.specs.declared.Refusal.the-variants.{NotAscii, Form}
@@ -23,7 +23,7 @@ use Rattle.header.specs.Examples.{five, marked}
 
 -- ---- the examples marked P
 pub marked-examples : AllRight marked
-unfolding isSpace isDigit isSign ascii run firstPlace has words pieces full readFrom digitsOf unsignedOf signedOf fit fitSigned decimalBefore decimalBy headerBytes secondsBefore offsetBytes signByte wholeMinutes fiveOrSeven fieldOf lastField fieldsOf offsetOf secondsOf headerOffset headerOfWords headerOf allows rawOfWords rawOf
+unfolding isSpace isDigit isSign ascii run firstPlace has words pieces full readFrom digitsOf unsignedOf signedOf fit fitSigned decimalBefore decimalBy signedBefore headerBytes headerSign signByte wholeMinutes fiveOrSeven fieldOf lastField fieldsOf offsetOf secondsOf headerOffset headerOfWords headerOf allows rawOfWords rawOf
 marked-examples = (refl, (refl, (refl, (refl, (refl, (refl, (refl, (refl, (refl, tt)))))))))
 
 -- ---- its other examples of headers and raw dates

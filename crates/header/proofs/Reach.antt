@@ -18,7 +18,7 @@ use Rattle.text.specs.Decimal.{signedBefore, twoBefore}
 use Rattle.text.specs.declared.number.Integer.{Integer}
 use Rattle.text.specs.declared.number.Integer.the-variants.{Is, NotOne}
 use Rattle.text.proofs.Lists.{by-test}
-use Rattle.text.proofs.Decimals.{Between, twoBefore-between}
+use Rattle.text.proofs.Decimals.{Between}
 use Rattle.time.specs.Answers.{timeAt}
 use Rattle.time.specs.Header.{signByte}
 use Rattle.time.specs.declared.Time.{Time}
@@ -31,7 +31,7 @@ use Rattle.header.specs.declared.offset.Fields.{Fields}
 use Rattle.header.specs.declared.offset.Parsed.{Parsed}
 use Rattle.header.specs.declared.offset.Parsed.the-variants.{Offset, NoOffset}
 use Rattle.header.proofs.Offsets.{headerOffset-all-small}
-use Rattle.header.proofs.ReadBack.{Seconds64, offsetOf-fieldsAre, headerOffset-seven, headerOf-signedBefore}
+use Rattle.header.proofs.ReadBack.{Seconds64, signByte-between, two-between, offsetOf-fieldsAre, headerOffset-seven, headerOf-signedBefore}
 
 -- from -362439, `-999999`, to 362439
 abbrev pub HeaderOffset : ℤ → Type 0
@@ -97,21 +97,12 @@ sevenBytes o = signByte o ∷ twoBefore (hoursIn (natAbs o)) (twoBefore (minutes
 abbrev pub headerWith : ℤ → ℤ → List ℕ
 headerWith z o = signedBefore z (32 ∷ sevenBytes o)
 
-signByte-between : (o : ℤ) → (33 ≤ signByte o) × (signByte o ≤ 57)
-unfolding signByte
-signByte-between (pos n) = (omega arith, omega arith)
-signByte-between (negsuc n) = (omega arith, omega arith)
-
-clock-between : (h m x : ℕ) → h < 100 → m < 100 → x < 100 → Between 33 57 (twoBefore h (twoBefore m (twoBefore x [])))
-clock-between h m x j k l = two h (twoBefore m (twoBefore x [])) j (two m (twoBefore x []) k (two x [] l tt))
-  where
-    two : (h : ℕ) (t : List ℕ) → h < 100 → Between 33 57 t → Between 33 57 (twoBefore h t)
-    two h t = twoBefore-between 33 57 (omega arith) (omega arith) h t
-
 sevenBytes-between : (o : ℤ) → natAbs o ≤ 362439 → Between 33 57 (sevenBytes o)
 sevenBytes-between o h =
     let b = signByte-between o in
-    (b .0, b .1, clock-between (hoursIn (natAbs o)) (minutesIn (natAbs o)) (secondsIn (natAbs o)) (omega arith) (omega arith) (seconds-lt (natAbs o) h))
+    let n = natAbs o in
+    (b .0, b .1, two-between (hoursIn n) (twoBefore (minutesIn n) (twoBefore (secondsIn n) [])) (omega arith)
+        (two-between (minutesIn n) (twoBefore (secondsIn n) []) (omega arith) (two-between (secondsIn n) [] (seconds-lt n h) tt)))
 
 read-sevenBytes : (z o : ℤ) → natAbs o ≤ 362439 → headerTime (Is z) (headerOffset (sevenBytes o)) ≡ At (timeAt z o)
 unfolding signByte isSign

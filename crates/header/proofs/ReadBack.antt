@@ -4,7 +4,7 @@
 use mathlib.Core.Path.{_≡_, refl, ap, _∙_}
 use mathlib.Core.Bool.{Bool, true, false, cond}
 use mathlib.Core.List.{List, [], _∷_}
-use Prim.Native.Nat.{ℕ, suc, _+_, _-_, _*_, _/_, _%_, _^_, _<_}
+use Prim.Native.Nat.{ℕ, suc, _+_, _-_, _*_, _/_, _%_, _^_, _≤_, _<_}
 use native.Mathlib.Omega.{arith}
 use lib.Dec.{eqb}
 use lib.IntN.{ℤ, pos, negsuc, negℤ, natAbs}
@@ -19,7 +19,7 @@ use Rattle.text.proofs.Decimals.{Between, twoBefore-between}
 use Rattle.text.proofs.Signed.{signedBefore-append, length-signed-pos, signedBefore-between, signed-between, fitSigned-signed}
 use Rattle.text.proofs.Taking.{words-append, words-of-whole}
 use Rattle.time.specs.Answers.{timeAt}
-use Rattle.time.specs.Header.{headerBytes, secondsBefore, offsetBytes, signByte, wholeMinutes, cutToMinutes}
+use Rattle.time.specs.Header.{headerBytes, headerSign, offsetBytes, signByte, wholeMinutes, cutToMinutes}
 use Rattle.time.specs.declared.Time.{Time}
 use Rattle.time.specs.declared.Answer.the-variants.{Time as At}
 use Rattle.header.specs.Offset.{fiveOrSeven, fieldOf, lastField, fieldsOf, offsetOf}
@@ -75,36 +75,35 @@ headerOf-signedBefore z w r h b =
     rw (ascii-of-between 32 57 (omega arith) _ all, no-colon-of-between 32 _ all, words-header z w h b, secondsOf-signed z r)
 
 -- ---- what the writer writes
-clock-between : (h m : ℕ) → h < 100 → m < 100 → Between 33 57 (twoBefore h (twoBefore m []))
-clock-between h m k l =
-    twoBefore-between 33 57 (omega arith) (omega arith) h (twoBefore m []) k (twoBefore-between 33 57 (omega arith) (omega arith) m [] l tt)
+pub signByte-between : (o : ℤ) → (33 ≤ signByte o) × (signByte o ≤ 57)
+unfolding signByte
+signByte-between (pos n) = (omega arith, omega arith)
+signByte-between (negsuc n) = (omega arith, omega arith)
 
-offsetBytes-between : (o : ℤ) → natAbs o < 360000 → Between 33 57 (offsetBytes o)
-unfolding offsetBytes signByte wholeMinutes
-offsetBytes-between (pos n) h = (omega arith, omega arith, clock-between (n / 60 / 60) (n / 60 % 60) (omega arith) (omega arith))
-offsetBytes-between (negsuc n) h = (omega arith, omega arith, clock-between (suc n / 60 / 60) (suc n / 60 % 60) (omega arith) (omega arith))
+pub two-between : (h : ℕ) (t : List ℕ) → h < 100 → Between 33 57 t → Between 33 57 (twoBefore h t)
+two-between h t = twoBefore-between 33 57 (omega arith) (omega arith) h t
 
-length-offsetBytes-pos : (o : ℤ) → 0 < length (offsetBytes o)
-unfolding offsetBytes
-length-offsetBytes-pos o = omega arith
+-- the offset's word
+abbrev written : ℤ → List ℕ
+written o = offsetBytes (signByte o) (wholeMinutes o)
 
-read-offsetBytes : (z o : ℤ) → natAbs o < 360000 → headerTime (Is z) (headerOffset (offsetBytes o)) ≡ At (timeAt z (cutToMinutes o))
-unfolding offsetBytes signByte cutToMinutes isSign wholeMinutes
-read-offsetBytes z (pos n) h =
+written-between : (o : ℤ) → natAbs o < 360000 → Between 33 57 (written o)
+unfolding wholeMinutes
+written-between o h =
+    let b = signByte-between o in
+    let n = natAbs o / 60 in
+    (b .0, b .1, two-between (n / 60) (twoBefore (n % 60) []) (omega arith) (two-between (n % 60) [] (omega arith) tt))
+
+read-written : (z o : ℤ) → natAbs o < 360000 → headerTime (Is z) (headerOffset (written o)) ≡ At (timeAt z (cutToMinutes o))
+unfolding signByte cutToMinutes isSign wholeMinutes
+read-written z (pos n) h =
     rw (headerOffset-five 43 (n / 60 / 60) (n / 60 % 60) refl (omega arith) (omega arith), offsetOf-fieldsAre false (n / 60 / 60) (n / 60 % 60) 0 (n / 60 * 60) (omega arith))
-read-offsetBytes z (negsuc n) h =
+read-written z (negsuc n) h =
     rw (headerOffset-five 45 (suc n / 60 / 60) (suc n / 60 % 60) refl (omega arith) (omega arith), offsetOf-fieldsAre true (suc n / 60 / 60) (suc n / 60 % 60) 0 (suc n / 60 * 60) (omega arith))
-
-secondsBefore-is : (z : ℤ) (t : List ℕ) → secondsBefore z t ≡ signedBefore z t
-unfolding secondsBefore signedBefore
-secondsBefore-is (pos n) t = refl
-secondsBefore-is (negsuc n) t = refl
 
 -- every time of 64-bit seconds and an offset under 100 hours, written and read: the seconds, and the offset cut to whole minutes
 pub header-read-back : (t : Time) → Seconds64 (t .seconds) → natAbs (t .offset) < 360000
     → headerOf (headerBytes t) ≡ At (timeAt (t .seconds) (cutToMinutes (t .offset)))
-unfolding headerBytes
+unfolding headerBytes headerSign
 header-read-back t r h =
-    ap headerOf (secondsBefore-is (t .seconds) _)
-    ∙ headerOf-signedBefore (t .seconds) (offsetBytes (t .offset)) r (length-offsetBytes-pos (t .offset)) (offsetBytes-between (t .offset) h)
-    ∙ read-offsetBytes (t .seconds) (t .offset) h
+    headerOf-signedBefore (t .seconds) (written (t .offset)) r (omega arith) (written-between (t .offset) h) ∙ read-written (t .seconds) (t .offset) h
