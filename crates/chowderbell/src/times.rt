@@ -1,8 +1,9 @@
 // The entries that read and write times: each reader, each writer and `size`, on numbers and byte slices. A slice is passed as a
 // pointer and a length, a result as a pointer. They keep no pointer and no state.
 ghost use mathlib.Core.Path.{_≡_};
-ghost use Rattle.time.specs.Answers.{timeAt};
-ghost use Rattle.time.specs.Header.{sizeOf, headerBytes, headerWritten, roomAfter};
+ghost use Rattle.text.specs.Room.{roomAfter};
+ghost use Rattle.time.specs.Answers.{timeAt, isWritten};
+ghost use Rattle.time.specs.Header.{sizeOf, headerBytes, headerWritten};
 ghost use Rattle.time.specs.Iso.{isoBytes, isoWritten};
 ghost use Rattle.header.specs.Header.{headerOf};
 ghost use Rattle.header.specs.Raw.{rawOf, rule1};
@@ -90,7 +91,7 @@ pub extern "C" fn chowderbell_write_header(
     length: &mut usize,
 ) -> u8
     ensures length { λ r. ⌜ HandedLength (headerWritten (timeAt seconds offset) (now (room .entry))) r (now (length .exit)) ⌝ }
-    ensures room { λ _. ⌜ now (room .exit) ≡ roomAfter (headerWritten (timeAt seconds offset) (now (room .entry))) (headerBytes (timeAt seconds offset)) (now (room .entry)) ⌝ }
+    ensures room { λ _. ⌜ now (room .exit) ≡ roomAfter (isWritten (headerWritten (timeAt seconds offset) (now (room .entry)))) (headerBytes (timeAt seconds offset)) (now (room .entry)) ⌝ }
 {
     let t = Time::new(seconds, offset);
     hand_length(t.write_to(room), length)
@@ -104,7 +105,7 @@ pub extern "C" fn chowderbell_write_iso(
     length: &mut usize,
 ) -> u8
     ensures length { λ r. ⌜ HandedLength (isoWritten (timeAt seconds offset) (now (room .entry))) r (now (length .exit)) ⌝ }
-    ensures room { λ _. ⌜ now (room .exit) ≡ roomAfter (isoWritten (timeAt seconds offset) (now (room .entry))) (isoBytes (timeAt seconds offset)) (now (room .entry)) ⌝ }
+    ensures room { λ _. ⌜ now (room .exit) ≡ roomAfter (isWritten (isoWritten (timeAt seconds offset) (now (room .entry)))) (isoBytes (timeAt seconds offset)) (now (room .entry)) ⌝ }
 {
     let t = Time::new(seconds, offset);
     hand_length(t.write_iso(room), length)
