@@ -12,6 +12,8 @@ ghost use Rattle.text.specs.Number.{digitsOf, unsignedOf, signedOf, fit,
 ghost use Rattle.text.specs.Number.{AtMost, LeadsWith};
 ghost use Rattle.text.specs.declared.number.Number.the-variants.{Value, Not};
 use crate::bytes;
+use crate::scan;
+use crate::scan::Class;
 
 pub enum Number {
     Value(u64),
@@ -81,7 +83,7 @@ pub fn leading_number(s: &[u8], from: usize, limit: u64) -> Leading
                 v = 10 * v + d;
                 i += 1;
             } else {
-                let end = past_digits(s, i);
+                let end = scan::past(s, i, Class::Digit);
                 return Leading {
                     number: Number::Not,
                     end,
@@ -124,21 +126,6 @@ fn read_up_to(from: usize, end: usize, v: u64) -> Leading
         number: Number::Not,
         end,
     }
-}
-
-// Past the digits from `at`.
-fn past_digits(s: &[u8], at: usize) -> usize
-    ensures { λ r. ⌜ r ≡ past isDigit (now (s .entry)) at ⌝ }
-{
-    let mut i = at;
-    while i < s.len() {
-        if bytes::is_digit(s[i]) {
-            i += 1;
-        } else {
-            return i;
-        }
-    }
-    i
 }
 
 fn wide(b: u8) -> u64

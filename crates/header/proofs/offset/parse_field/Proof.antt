@@ -13,9 +13,9 @@ use Rattle.text.specs.Number.{plus}
 use Rattle.text.specs.Bytes.{isDigit}
 use Rattle.text.specs.declared.number.Integer.the-variants.{Is}
 use Rattle.text.proofs.Lists.{both}
-use Rattle.text.proofs.Numbers.{digit-range, AtMost-of-fit}
+use Rattle.text.proofs.Numbers.{digit-range, AtMost-of-fit, fitSigned-take}
 use Rattle.header.specs.Offset.{fieldOf}
-use Rattle.header.proofs.Offsets.{fitSigned-take, fieldOf-of-digits}
+use Rattle.header.proofs.Offsets.{fieldOf-of-digits}
 use borrow.Author.Needs.{needs}
 use Rattle.header.proofs.offset.parse_field.Statement.{statement}
 use Rattle.header.proofs.offset.parse_field.Tie as tie
