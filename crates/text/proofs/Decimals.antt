@@ -146,7 +146,7 @@ length-decimal-le (suc k) n h =
     omega (arith, length-decimal-of-le n (ltb-false n 10 e), length-decimal-le k (n / 10) m))
 
 -- at least k + 1 digits from 10 ^ k on
-pub le-length-decimal : (k n : ℕ) → 10 ^ k ≤ n → suc k ≤ length (decimal n)
+le-length-decimal : (k n : ℕ) → 10 ^ k ≤ n → suc k ≤ length (decimal n)
 le-length-decimal zero n h = length-decimal-pos n
 le-length-decimal (suc k) n h =
     let p : 10 ^ suc k ≡ 10 ^ k * 10 = pow-suc 10 k in
