@@ -34,7 +34,7 @@ unfolding trimStart run past
 trimStart-past [] = refl
 trimStart-past (b ∷ s) = by-test (isSpace b) (λ e. rw (e, zero-add) (rw zero-add at (trimStart-past s))) (λ e. rw e)
 
-pub length-trimStart-le : (s : List ℕ) → length (trimStart s) ≤ length s
+length-trimStart-le : (s : List ℕ) → length (trimStart s) ≤ length s
 unfolding trimStart
 length-trimStart-le [] = le-refl 0
 length-trimStart-le (b ∷ s) = by-test (isSpace b) (λ e. rw e (omega (arith, length-trimStart-le s))) (λ e. rw e (le-refl _))

@@ -32,7 +32,7 @@ pub fn unsigned_number(s: &[u8], limit: u64) -> Number
     if s.len() == 0 {
         return Number::Not;
     }
-    if s[0] == 43 {
+    if s[0] == b'+' {
         return digits(s, 1, limit);
     }
     digits(s, 0, limit)
@@ -78,7 +78,7 @@ pub fn leading_number(s: &[u8], from: usize, limit: u64) -> Leading
     while i < s.len() {
         let b = s[i];
         if bytes::is_digit(b) {
-            let d = wide(b - 48);
+            let d = wide(b - b'0');
             if has_room(v, d, limit) {
                 v = 10 * v + d;
                 i += 1;
@@ -96,7 +96,7 @@ pub fn leading_number(s: &[u8], from: usize, limit: u64) -> Leading
     read_up_to(from, i, v)
 }
 
-// Whether v with the digit d behind it is at most the limit. One comparison tells, but for the last digits before the limit.
+// Whether v with the digit d behind it is at most the limit. One comparison decides it, except for the last digits before the limit.
 fn has_room(v: u64, d: u64, limit: u64) -> bool
     requires { ⌜ d < 10 ⌝ }
     ensures { λ r. ⌜ r ≡ leb (10 * v + d) limit ⌝ }
@@ -157,7 +157,7 @@ pub fn leading_integer(s: &[u8], from: usize, half: u64) -> LeadingInteger
     let signed = bytes::is_sign(b);
     let read = leading_number(s, past_sign(from, signed), half);
     let n = read.number;
-    let number = with_sign(b == 45, n, half);
+    let number = with_sign(b == b'-', n, half);
     LeadingInteger {
         number,
         end: read.end,
@@ -175,7 +175,7 @@ fn past_sign(at: usize, signed: bool) -> usize
     at
 }
 
-// Half of the width is a number only below 0.
+// Of a width of w bits, 2 to the w - 1 fits only with a minus sign.
 fn with_sign(below: bool, n: Number, half: u64) -> Integer
     requires { ⌜ AtMost half n × (0 < half) × (half ≤ 2 ^ 63) ⌝ }
     ensures { λ r. ⌜ r ≡ signedBy half below n ⌝ }
@@ -194,7 +194,7 @@ fn with_sign(below: bool, n: Number, half: u64) -> Integer
     }
 }
 
-// v below 0. The least number is not had by negating: the largest is one short of it.
+// -v. Negating `v as i64` would overflow at 2 to the 63.
 fn minus_i64(v: u64) -> i64
     requires { ⌜ v ≤ 2 ^ 63 ⌝ }
     ensures { λ r. ⌜ r ≡ negℤ (pos v) ⌝ }
