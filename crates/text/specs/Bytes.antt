@@ -1,5 +1,5 @@
--- Bytes: which are white space (RULES 4.1), digits, signs and letters; and whole texts, tested and compared. A text is a list of bytes,
--- and a byte is a number from 0 to 255.
+-- Bytes: which are white space (RULES 4.1), digits, signs and letters; and whole texts, tested and compared. A text is a list of
+-- bytes, and a byte is a number from 0 to 255.
 -- Assumes nothing.
 use Prim.Native.Nat.{ℕ, _+_}
 use Prim.Native.Char.{code}

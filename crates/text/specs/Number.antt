@@ -1,5 +1,5 @@
--- Numbers: an optional sign and then digits only, at least one, whose value fits the width (RULES 4.2 to 4.4). Values are unbounded;
--- only `fit` and `fitSigned` know a width.
+-- Numbers: an optional sign and then digits only, at least one, whose value fits the width (RULES 4.2 to 4.4). Values are
+-- unbounded; only `fit` and `fitSigned` know a width.
 -- Assumes nothing.
 use Prim.Native.Nat.{ℕ, suc, _+_, _-_, _*_, _≤_}
 use Prim.Native.Char.{code}

@@ -1,5 +1,5 @@
--- RULES 4.5: "A walker that keeps the text and its place gives the same words." In order: a walker at the front of a text; the next word;
--- the walker moved; the place past n words; the words that n steps give.
+-- RULES 4.5: "A walker that keeps the text and its place gives the same words." In order: a walker at the front of a text; the
+-- next word; the walker moved; the place past n words; the words that n steps give.
 -- Assumes nothing.
 use Prim.Native.Nat.{ℕ, zero, suc}
 use mathlib.Core.Bool.{Bool}

@@ -1,5 +1,5 @@
--- Words: the runs of bytes between separators (RULES 4.5). A separator is a test of a byte. Two are in use: white space; and every byte but
--- ASCII letters and digits, so that words are runs of those.
+-- Words: the runs of bytes between separators (RULES 4.5). A separator is a test of a byte. Two are in use: white space; and every
+-- byte but ASCII letters and digits, so that words are runs of those.
 -- Assumes nothing.
 use Prim.Native.Nat.{ℕ}
 use mathlib.Core.Bool.{Bool, cond}

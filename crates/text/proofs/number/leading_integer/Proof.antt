@@ -1,4 +1,4 @@
--- `text::number::leading_integer` meets its contract: past the sign, if there is one, the digits decide.
+-- `text::number::leading_integer` meets its contract: after the sign, if there is one, the digits decide.
 -- Assumes nothing.
 use mathlib.Core.Path.{_≡_, refl, ap, _∙_}
 use mathlib.Core.Bool.{Bool, false, cond}

@@ -1,5 +1,5 @@
--- `text::number::leading_number` meets its contract. The invariant: the value so far fits, and reading on from it the digits that
--- are left gives the answer. Once a digit has no room, none behind it has, and the rest of them is passed.
+-- `text::number::leading_number` meets its contract. The invariant: the value so far fits, and reading the remaining digits on
+-- from it gives the answer. Once a digit has no room, no digit after it has, and the rest of the digits is passed.
 -- Assumes nothing.
 use mathlib.Core.Path.{_≡_, refl, sym, ap, _∙_}
 use mathlib.Core.Bool.{true, cond}
@@ -34,7 +34,7 @@ module _ (s : List ℕ) (from limit v i : ℕ) (on : On s from limit v i) where
   step : (d : ℕ) → i < length s → isDigit (getD s i 0) ≡ true → d ≡ getD s i 0 - 48 → On s from limit (10 * v + d) (i + 1)
   step d h e k = on ∙ ap (λ (t : List ℕ). fit limit (readFrom v t)) (leading-of-true isDigit s i h e) ∙ ap (fit limit) (readFrom-cons _ v _ d e k)
 
-  -- where no digit is left the value is the answer
+  -- if no digit is left, the value is the answer
   done : v ≤ limit → past isDigit s from ≡ i → past isDigit s i ≡ i → fit limit (digitsOf (leading isDigit (drop from s))) ≡ cond (ltb from i) (Value v) Not
   unfolding readFrom
   done f p q =
@@ -81,7 +81,7 @@ loop-again c =
       more (c .before .before),
     )
 
--- a digit that has no room: none behind it has
+-- a digit that has no room: no digit after it has
 returns : tie.Need-returns Inv-loop μ-loop
 returns c =
     let at-as-u64 = c .before .before .before in

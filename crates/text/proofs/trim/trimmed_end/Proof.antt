@@ -1,5 +1,5 @@
--- `text::trim::trimmed_end` meets its contract. The invariant: trimming what stands before e gives what trimming the whole
--- gives. The measure: e.
+-- `text::trim::trimmed_end` meets its contract. The invariant: trimming the first e bytes gives what trimming the whole gives. The
+-- measure: e.
 -- Assumes nothing.
 use Rattle.text.proofs.Trimming.{trimEnd-snoc}
 use Rattle.text.proofs.Lists.{take-snoc}
