@@ -9,21 +9,28 @@ ghost use lib.IntN.{natAbs};
 ghost use lib.ListN.{length, take, drop};
 ghost use Rattle.text.specs.Decimal.{digit as digitOf, decimal, decimalBefore, signed, signedBefore, twoBefore};
 
+// 10^5, 10^10 and 10^15: the least numbers of more than five, ten and fifteen digits.
+const TEN_TO_5: u64 = 100000;
+
+const TEN_TO_10: u64 = 10000000000;
+
+const TEN_TO_15: u64 = 1000000000000000;
+
 // How many digits n has; zero has one. A few comparisons find how many groups of five digits are at
 // the end, and `up_to_five` counts the digits in front of them.
 pub fn count_digits(n: u64) -> usize
     ensures { λ r. ⌜ (r ≡ length (decimal n)) × (1 ≤ r) × (r ≤ 20) ⌝ }
 {
-    if n < 100000 {
+    if n < TEN_TO_5 {
         return up_to_five(n);
     }
-    if n < 10000000000 {
-        return 5 + up_to_five(n / 100000);
+    if n < TEN_TO_10 {
+        return 5 + up_to_five(n / TEN_TO_5);
     }
-    if n < 1000000000000000 {
-        return 10 + up_to_five(n / 10000000000);
+    if n < TEN_TO_15 {
+        return 10 + up_to_five(n / TEN_TO_10);
     }
-    15 + up_to_five(n / 1000000000000000)
+    15 + up_to_five(n / TEN_TO_15)
 }
 
 // The digits of a number below 100000. Times of today have ten digits, five of which are counted

@@ -17,10 +17,10 @@ use crate::bytes;
 use crate::scan;
 use crate::scan::Class;
 
-// Half of a width: 64 signed bits hold -HALF_64 to HALF_64 - 1, and 32 signed bits -HALF_32 to
-// HALF_32 - 1.
+// 2^63: 64 signed bits hold -HALF_64 to HALF_64 - 1.
 pub const HALF_64: u64 = 9223372036854775808;
 
+// 2^31: 32 signed bits hold -HALF_32 to HALF_32 - 1.
 pub const HALF_32: u64 = 2147483648;
 
 // An unsigned number, or no number.
