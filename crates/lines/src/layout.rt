@@ -1,7 +1,10 @@
 // The layout of a line: four fields with tabs between, of which the last keeps further tabs. A line is handed over without its end.
 ghost use mathlib.Core.Path.{_≡_};
+ghost use mathlib.Core.Bool.{cond};
 ghost use Prim.Native.Nat.{_≤_};
 ghost use lib.ListN.{length, take, drop};
+ghost use Rattle.text.specs.Bytes.{same};
+ghost use Rattle.lines.specs.declared.layout.Named.the-variants.{As};
 ghost use Rattle.lines.specs.Layout.{formOf, currentAt, currentOf, asks as asksOf, lineOf, Fits32};
 use text::bytes;
 use text::number;
@@ -90,22 +93,23 @@ fn asks(form: Named, current: Current, at: usize) -> Line
 fn form_of(s: &[u8]) -> Named
     ensures { λ r. ⌜ r ≡ formOf (now (s .entry)) ⌝ }
 {
-    if bytes::same(s, b"header") {
-        return Named::As(Form::Header);
+    let n = Named::Unknown;
+    let n = form_named(s, b"any", Form::Any, n);
+    let n = form_named(s, b"relative", Form::Relative, n);
+    let n = form_named(s, b"iso", Form::Iso, n);
+    let n = form_named(s, b"raw", Form::Raw, n);
+    let n = form_named(s, b"header", Form::Header, n);
+    n
+}
+
+// The form if `s` is its name, else `other`.
+fn form_named(s: &[u8], name: &[u8], form: Form, other: Named) -> Named
+    ensures { λ r. ⌜ r ≡ cond (same (now (s .entry)) (now (name .entry))) (As form) other ⌝ }
+{
+    if bytes::same(s, name) {
+        return Named::As(form);
     }
-    if bytes::same(s, b"raw") {
-        return Named::As(Form::Raw);
-    }
-    if bytes::same(s, b"iso") {
-        return Named::As(Form::Iso);
-    }
-    if bytes::same(s, b"relative") {
-        return Named::As(Form::Relative);
-    }
-    if bytes::same(s, b"any") {
-        return Named::As(Form::Any);
-    }
-    Named::Unknown
+    other
 }
 
 // Numbers of 64 and of 32 bits, or both `-`.
@@ -126,10 +130,7 @@ fn current_at(seconds: Integer, offset: Integer) -> Current
 {
     match seconds {
         Integer::Is(z) => match offset {
-            Integer::Is(o) => Current::Is(Now::At(Time {
-                seconds: z,
-                offset: o as i32,
-            })),
+            Integer::Is(o) => Current::Is(Now::At(Time::new(z, o as i32))),
             Integer::NotOne => Current::Neither,
         },
         Integer::NotOne => Current::Neither,

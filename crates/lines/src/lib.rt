@@ -18,6 +18,9 @@ use print::Row;
 use time::Answer;
 use time::Now;
 
+// The number of a line of the wrong layout, or too long. The readers' refusals have the numbers below it.
+const WRONG_LAYOUT: u64 = 9;
+
 // Writes the answer line of `line`, which is without its end, to the front of `out`, and hands back how many bytes that took. Those
 // beyond stay. An answer that does not fit is not written: 0, and `out` holds what it held. 64 bytes are room for every answer.
 pub fn answer_with(months: &[u32], line: &[u8], out: &mut [u8]) -> usize
@@ -29,7 +32,7 @@ pub fn answer_with(months: &[u32], line: &[u8], out: &mut [u8]) -> usize
     print::write_row(row_of(months, line), out)
 }
 
-// What a line asks, answered; 9 for one of the wrong layout.
+// What a line asks, answered, or refused where its layout is wrong.
 fn row_of(months: &[u32], line: &[u8]) -> Row
     requires { ⌜ IsMonths (now months) ⌝ }
     ensures { λ r. ⌜ r ≡ rowOf (now (line .entry)) ⌝ }
@@ -41,7 +44,7 @@ fn row_of(months: &[u32], line: &[u8]) -> Row
             told(parse_as(months, form, text, current))
         }
         Line::Wrong => Row {
-            number: 9,
+            number: WRONG_LAYOUT,
             seconds: 0,
             offset: 0,
         },
