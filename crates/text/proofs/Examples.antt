@@ -11,7 +11,9 @@ use Rattle.text.specs.Places.{run, firstPlace, lastWhere, lastPlace, lea
 use Rattle.text.specs.Trim.{trim, trimEnd, trimStart}
 use Rattle.text.specs.Words.{separator, words, pieces, full}
 use Rattle.text.specs.Number.{readFrom, digitsOf, unsignedOf, signedOf, fit, fitSigned}
-use Rattle.text.specs.Decimal.{decimalBy, decimalBefore, decimal}
+use Rattle.text.specs.Lines.{linesOf, endedLines}
+use Rattle.text.specs.Decimal.{decimalBy, decimalBefore, decimal, signedBefore, signed}
+use Rattle.text.specs.Room.{fits, fitBoth, roomAfter}
 use Rattle.text.specs.declared.words.Separator.the-variants.{Space, Mark}
 use Rattle.text.specs.declared.number.Number.the-variants.{Value, Not}
 use Rattle.text.specs.declared.number.Integer.the-variants.{Is, NotOne}
@@ -109,3 +111,24 @@ first-and-last = (refl, refl, refl, refl)
 plain-decimal : decimal 1745582210 ≡ bytes "1745582210" × decimal 0 ≡ bytes "0"
 unfolding decimal decimalBefore decimalBy
 plain-decimal = (refl, refl)
+
+signed-decimal : signed (negsuc 4) ≡ bytes "-5" × signed (pos 5) ≡ bytes "5"
+unfolding signed signedBefore decimalBefore decimalBy
+signed-decimal = (refl, refl)
+
+-- lines: a last line may lack its end, and after the last newline no line begins
+lines-and-ends : linesOf (bytes "a" ++ 10 ∷ bytes "bc") ≡ bytes "a" ∷ bytes "bc" ∷ [] × linesOf (bytes "a" ++ 10 ∷ 10 ∷ []) ≡ bytes "a" ∷ [] ∷ [] × endedLines (bytes "a" ++ 10 ∷ bytes "bc") ≡ bytes "a" ∷ []
+unfolding linesOf endedLines
+lines-and-ends = (refl, refl, refl)
+
+-- a room that is long enough: the bytes beyond those written stay
+room-written : roomAfter (fits (bytes "ab") (bytes "wxyz")) (bytes "ab") (bytes "wxyz") ≡ bytes "abyz"
+room-written = refl
+
+-- a room that is too short: nothing changes
+room-too-short : roomAfter (fits (bytes "abc") (bytes "yz")) (bytes "abc") (bytes "yz") ≡ bytes "yz"
+room-too-short = refl
+
+-- two rooms, of which the second is too short: neither changes
+neither-room-changes : roomAfter (fitBoth (bytes "a") (bytes "xyz") (bytes "bc") (bytes "z")) (bytes "a") (bytes "xyz") ≡ bytes "xyz" × roomAfter (fitBoth (bytes "a") (bytes "xyz") (bytes "bc") (bytes "z")) (bytes "bc") (bytes "z") ≡ bytes "z"
+neither-room-changes = (refl, refl)

@@ -1,8 +1,8 @@
--- The first place of a byte. In order: what stands there; it is told by the bytes up to it; a text cut at each b, as its first b
--- cuts it; a text with no b in it.
+-- The first place of a byte. In order: the clauses of `firstPlace`; what stands there; it is told by the bytes up to it; a text cut at
+-- each b, as its first b cuts it; a text with no b in it.
 -- Assumes nothing.
 use mathlib.Core.Path.{_≡_, refl, ap, _∙_}
-use mathlib.Core.Bool.{Bool, false}
+use mathlib.Core.Bool.{Bool, true, false}
 use mathlib.Core.List.{List, [], _∷_}
 use Prim.Native.Nat.{ℕ, zero, suc, _+_, _≤_, _<_}
 use native.Mathlib.Omega.{arith}
@@ -15,6 +15,14 @@ use Rattle.text.specs.Places.{run, firstPlace, lastWhere, lastPlace, ope
 use Rattle.text.specs.Words.{pieces}
 use Rattle.text.proofs.Lists.{by-test}
 use Rattle.text.proofs.Runs.{lastWhere-none}
+
+pub firstPlace-here : (b x : ℕ) (s : List ℕ) → eqb x b ≡ true → firstPlace b (x ∷ s) ≡ 0
+unfolding firstPlace run
+firstPlace-here b x s e = rw e
+
+pub firstPlace-later : (b x : ℕ) (s : List ℕ) → eqb x b ≡ false → firstPlace b (x ∷ s) ≡ suc (firstPlace b s)
+unfolding firstPlace run
+firstPlace-later b x s e = rw e
 
 -- where it is, b stands
 pub getD-firstPlace : (b : ℕ) (s : List ℕ) → firstPlace b s < length s → getD s (firstPlace b s) 0 ≡ b

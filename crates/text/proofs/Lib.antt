@@ -1,6 +1,6 @@
 -- Laws. In order: lists at a place that a loop has reached; runs of bytes and places; the first place of a byte; trimming; taking
--- words; a walker's words, and what a walker owns; numbers; digits; decimal digits; bytes put in front of a place; texts whose
--- bytes are known; letter case; the document's examples.
+-- words; a walker's words, and what a walker owns; lines and fields; numbers; digits; decimal digits; bytes put in front of a place;
+-- texts whose bytes are known; signed decimals; letter case; the document's examples.
 pub mod Lists
 pub mod Runs
 pub mod FirstPlaces
@@ -8,10 +8,12 @@ pub mod Trimming
 pub mod Taking
 pub mod Walking
 pub mod Held
+pub mod Lines
 pub mod Numbers
 pub mod Digits
 pub mod Decimals
 pub mod Putting
 pub mod Texts
+pub mod Signed
 pub mod LowerCase
 pub mod Examples

@@ -1,13 +1,15 @@
 -- Bytes put in front of a place e of a room. In order: one byte; what stands before the place and from it on; digits put one by one
--- from the last; two bytes; digits put two by two; a second put in front of the first.
+-- from the last; two bytes; digits put two by two; a second put in front of the first; a part of a room that a call wrote to.
 -- Assumes nothing.
 use mathlib.Core.Path.{_≡_, sym, ap, _∙_}
-use mathlib.Core.List.{List, _∷_, _++_}
+use mathlib.Core.List.{List, _∷_, _++_, append-nil}
 use Prim.Native.Nat.{ℕ, suc, _+_, _-_, _/_, _%_, _≤_, _<_}
 use native.Mathlib.Omega.{arith}
 use lib.ListN.{length, take, drop, set, length-set, length-append, length-drop}
-use lib.Seq.{set-split, take-append-le, take-take, drop-at, length-take-le}
+use lib.Seq.{set-split, take-append-le, take-take, drop-at, drop-length, length-take-le}
+use borrow.Rule.Slice.PartMut.{putMid, post-is}
 use Rattle.text.specs.Decimal.{decimal, decimalBefore, twoBefore}
+use Rattle.text.proofs.Lists.{take-length-sub-drop}
 use Rattle.text.proofs.Decimals.{decimalBefore-of-le, decimalBefore-of-lt, length-decimal-of-le, length-decimal-of-lt, length-decimal-pos}
 
 pub set-put : (l : List ℕ) (e b : ℕ) → 0 < e → e ≤ length l → set l (e - 1) b ≡ take (e - 1) l ++ b ∷ drop e l
@@ -81,3 +83,10 @@ put-two-of-lt n e l h g k i =
 -- a second put, in front of the first
 pub put-put : (f : List ℕ → List ℕ) (l t r r′ : List ℕ) (i j e : ℕ) → r ≡ take e l ++ t → r′ ≡ take i r ++ f (drop e r) → i ≡ j → j ≤ e → e ≤ length l → r′ ≡ take j l ++ f t
 put-put f l t r r′ i j e p q s h k = q ∙ (λ x. take (s x) (p x) ++ f (drop e (p x))) ∙ (λ x. take-put j e l t h k x ++ f (drop-put e l t k x))
+
+-- a part of a room, from a place on, that a call changed by f
+pub put-behind : (l ys : List ℕ) (at : ℕ) (f : List ℕ → List ℕ) → at ≤ length l → ys ≡ f (take (length l - at) (drop at l))
+    → putMid at (length l - at) l ys ≡ take at l ++ f (drop at l)
+put-behind l ys at f h e =
+    ap (λ (v : List ℕ). take at l ++ (ys ++ v)) (post-is at (length l) l h ∙ drop-length l)
+    ∙ ap (λ (v : List ℕ). take at l ++ v) (append-nil ys ∙ e ∙ ap f (take-length-sub-drop l at))

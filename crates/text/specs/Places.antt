@@ -28,6 +28,10 @@ past p s at = at + run p (drop at s)
 unfoldable pub firstPlace : ℕ → List ℕ → ℕ
 firstPlace b s = run (λ x. not (eqb x b)) s
 
+-- what stands before the first b; all, if there is none
+abbrev pub before : ℕ → List ℕ → List ℕ
+before b s = take (firstPlace b s) s
+
 -- a b anywhere
 unfoldable pub has : ℕ → List ℕ → Bool
 has b s = ltb (firstPlace b s) (length s)

@@ -1,10 +1,12 @@
-// Decimal digits, written into lent bytes. Each call writes in front of a place `end` and leaves all other bytes as they were, so
-// that a line is written from its end to its front and nothing is moved.
+// Plain decimal, written into borrowed bytes. Each call writes in front of a place `end` and leaves all other bytes as they were, so
+// that a line is written from its end to its front and nothing is moved. `put_decimal` and `put_signed` return the place where they
+// start, which is the `end` of what stands before.
 ghost use mathlib.Core.Path.{_≡_};
 ghost use mathlib.Core.List.{_∷_, _++_};
 ghost use Prim.Native.Nat.{_+_, _-_, _≤_, _<_};
+ghost use lib.IntN.{natAbs};
 ghost use lib.ListN.{length, take, drop};
-ghost use Rattle.text.specs.Decimal.{decimal, decimalBefore, twoBefore};
+ghost use Rattle.text.specs.Decimal.{decimal, decimalBefore, signed, signedBefore, twoBefore};
 
 // How many digits n has, in fives: few comparisons find how many fives stand behind the first digits, which are counted. Zero has
 // one digit.
@@ -43,9 +45,32 @@ fn up_to_five(n: u64) -> usize
     1
 }
 
+// The size of z, also of the least number, whose negation does not fit.
+pub fn magnitude(z: i64) -> u64
+    ensures { λ r. ⌜ r ≡ natAbs z ⌝ }
+{
+    if z < 0 {
+        ((-1 - z) as u64) + 1
+    } else {
+        z as u64
+    }
+}
+
+// How many bytes z takes: its digits, and one more if it is negative.
+pub fn signed_width(z: i64) -> usize
+    ensures { λ r. ⌜ (r ≡ length (signed z)) × (1 ≤ r) × (r ≤ 20) ⌝ }
+{
+    let n = count_digits(magnitude(z));
+    if z < 0 {
+        return n + 1;
+    }
+    n
+}
+
 // The digits of n in front of `end`, two at a time: half as many divisions, of which each waits for the one before.
-pub fn put_decimal(n: u64, end: usize, room: &mut [u8])
+pub fn put_decimal(n: u64, end: usize, room: &mut [u8]) -> usize
     requires { ⌜ (length (decimal n) ≤ end) × (end ≤ length (now room)) ⌝ }
+    ensures { λ r. ⌜ r ≡ end - length (decimal n) ⌝ }
     ensures { λ _. ⌜ now (room .exit) ≡ take (end - length (decimal n)) (now (room .entry)) ++ decimalBefore n (drop end (now (room .entry))) ⌝ }
 {
     let mut v = n;
@@ -57,9 +82,24 @@ pub fn put_decimal(n: u64, end: usize, room: &mut [u8])
     }
     if 10 <= v {
         put_two(v, i, room);
-        return;
+        return i - 2;
     }
     put_byte(digit(v), i, room);
+    i - 1
+}
+
+// z in front of `end`: its digits, and `-` in front of them if it is negative.
+pub fn put_signed(z: i64, end: usize, room: &mut [u8]) -> usize
+    requires { ⌜ (length (signed z) ≤ end) × (end ≤ length (now room)) ⌝ }
+    ensures { λ r. ⌜ r ≡ end - length (signed z) ⌝ }
+    ensures { λ _. ⌜ now (room .exit) ≡ take (end - length (signed z)) (now (room .entry)) ++ signedBefore z (drop end (now (room .entry))) ⌝ }
+{
+    let at = put_decimal(magnitude(z), end, room);
+    if z < 0 {
+        put_byte(b'-', at, room);
+        return at - 1;
+    }
+    at
 }
 
 // Two digits of n in front of `end`.

@@ -1,9 +1,9 @@
-// Places of a byte in a text, counted from 0. Where it stands nowhere the place is the text's length, so that what stands before
-// it is the whole text.
+// Places in a text, counted from 0, and a text cut at a place. The place of a byte that is not there is the text's length, so that
+// what stands before it is the whole text. Every place has an answer: a text is not cut past its end.
 ghost use mathlib.Core.Path.{_≡_};
 ghost use Prim.Native.Nat.{_≤_};
-ghost use lib.ListN.{length};
-ghost use Rattle.text.specs.Places.{has as hasOf, firstPlace};
+ghost use lib.ListN.{length, take, drop};
+ghost use Rattle.text.specs.Places.{has as hasOf, firstPlace, before as beforeOf};
 
 // Whether b stands anywhere. The loop does not stop there: without a way out the compiler tests many bytes at once.
 pub fn has(s: &[u8], b: u8) -> bool
@@ -29,4 +29,31 @@ pub fn first_place(s: &[u8], b: u8) -> usize
         i += 1;
     }
     i
+}
+
+// The text from a place on: empty if the place is past its end.
+pub fn from(s: &[u8], at: usize) -> &[u8]
+    ensures { λ r. ⌜ now r ≡ drop at (now (s .entry)) ⌝ }
+{
+    if s.len() <= at {
+        return &s[..0];
+    }
+    &s[at..]
+}
+
+// The text up to a place: all of it if the place is past its end.
+pub fn up_to(s: &[u8], at: usize) -> &[u8]
+    ensures { λ r. ⌜ now r ≡ take at (now (s .entry)) ⌝ }
+{
+    if s.len() <= at {
+        return s;
+    }
+    &s[..at]
+}
+
+// What stands before the first b: all of the text if there is none.
+pub fn before(s: &[u8], b: u8) -> &[u8]
+    ensures { λ r. ⌜ now r ≡ beforeOf b (now (s .entry)) ⌝ }
+{
+    up_to(s, first_place(s, b))
 }

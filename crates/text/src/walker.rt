@@ -8,6 +8,7 @@ ghost use lib.ListN.{drop, getD};
 ghost use Rattle.text.specs.Places.{part};
 ghost use Rattle.text.specs.Words.{separator, words};
 ghost use Rattle.text.specs.Walk.{startOf, nextOf, movedTo, passed};
+use crate::places;
 use crate::words::Separator;
 use crate::words::Span;
 use crate::words::Taken;
@@ -67,7 +68,7 @@ impl<'a> Walker<'a> {
     pub fn left(self) -> &'a [u8]
         ensures { λ r. ⌜ now r ≡ drop (self .entry .at) (now (self .entry .text)) ⌝ }
     {
-        from_place(self.text, self.at)
+        places::from(self.text, self.at)
     }
 }
 
@@ -87,16 +88,6 @@ fn place_after(text: &[u8], at: usize, n: usize, by: Separator) -> usize
         k -= 1;
     }
     i
-}
-
-// The text from a place on; nothing where that is past its end.
-fn from_place(text: &[u8], at: usize) -> &[u8]
-    ensures { λ r. ⌜ now r ≡ drop at (now (text .entry)) ⌝ }
-{
-    if text.len() <= at {
-        return &text[..0];
-    }
-    &text[at..]
 }
 
 // What stands after the first n words, or after as many as there are.

@@ -8,13 +8,13 @@ use borrow.Author.Needs.{needs}
 use native.Mathlib.Omega.{arith}
 use lib.ListN.{length, take, drop}
 use Rattle.text.specs.Decimal.{decimal}
-use Rattle.text.proofs.Decimals.{length-decimal-of-le, length-decimal-div, length-decimal-pos}
+use Rattle.text.proofs.Decimals.{length-decimal-of-le, length-decimal-of-lt, length-decimal-between, length-decimal-div, length-decimal-pos}
 use Rattle.text.proofs.Putting.{put, put-of-lt, put-two-of-le, put-two-of-lt, length-two-put}
 use Rattle.text.proofs.decimal.put_decimal.Statement.{statement}
 use Rattle.text.proofs.decimal.put_decimal.Tie as tie
 
 abbrev Inv-loop : tie.InvT-loop
-Inv-loop n end room₀ v₀ i₀ room v i = (length (decimal v) ≤ i) × (i ≤ length room) × (put n end room₀ ≡ put v i room) × (length room ≡ length room₀)
+Inv-loop n end room₀ v₀ i₀ room v i = (length (decimal v) ≤ i) × (i ≤ length room) × (put n end room₀ ≡ put v i room) × (length room ≡ length room₀) × (end - length (decimal n) ≡ i - length (decimal v))
 
 abbrev μ-loop : tie.MeasureT-loop
 μ-loop n end room₀ v₀ i₀ room v i = v
@@ -26,11 +26,14 @@ two v i h k = omega (arith, k, length-decimal-of-le v h, length-decimal-pos (v /
 rest : (v i : ℕ) → 100 ≤ v → length (decimal v) ≤ i → length (decimal (v / 100)) ≤ i - 2
 rest v i h k = omega (arith, k, length-decimal-div 2 v h)
 
+same-start : (v i a : ℕ) → 100 ≤ v → length (decimal v) ≤ i → a ≡ i - length (decimal v) → a ≡ i - 2 - length (decimal (v / 100))
+same-start v i a h k e = omega (arith, length-decimal-div 2 v h)
+
 less : (i n m : ℕ) → i ≤ n → m ≡ n → i - 2 ≤ m
 less i n m h e = omega arith
 
 loop-holds : tie.Need-loop-holds Inv-loop μ-loop
-loop-holds c = (c .before .pre .0, c .before .pre .1, refl, refl)
+loop-holds c = (c .before .pre .0, c .before .pre .1, refl, refl, refl)
 
 put-two-requires : tie.Need-put-two-requires Inv-loop μ-loop
 put-two-requires c κs = let l = c .before .before .loop in (omega arith, two (l .v) (l .i) (omega arith) (l .inv .0), l .inv .1)
@@ -53,29 +56,41 @@ loop-again c =
       less (l .i) (length (l .room)) _ (l .inv .1) same,
       l .inv .2 ∙ put-two-of-le (l .v) (l .i) (l .room) many (l .inv .0) (l .inv .1) ∙ ap (put (l .v / 100) (l .i - 2)) (sym e),
       same ∙ l .inv .3,
+      same-start (l .v) (l .i) _ many (l .inv .0) (l .inv .4),
     )
 
 put-two-requires-2 : tie.Need-put-two-requires-2 Inv-loop μ-loop
 put-two-requires-2 c κs = let l = c .before .before .before .loop in (omega arith, two (l .v) (l .i) (c .before .if1 .taken) (l .inv .0), l .inv .1)
 
+sub-result : tie.Need-sub-result Inv-loop μ-loop
+sub-result c = let at-if = c .before .before .before .before in
+    let l = at-if .before .before .loop in two (l .v) (l .i) (at-if .if1 .taken) (l .inv .0)
+
 returns : tie.Need-returns Inv-loop μ-loop
 returns c =
     let at-call = c .before .before in
     let at-if = at-call .before .before in
-    let l = at-if .before .before .loop in
-    at-call .put-two2 .ensures ∙ sym (l .inv .2 ∙ put-two-of-lt (l .v) (l .i) (l .room) (at-if .if1 .taken) (omega arith) (l .inv .0) (l .inv .1))
+    let l = at-if .before .before .loop in (
+      omega (arith, l .inv .4, length-decimal-between 1 (l .v) (at-if .if1 .taken) (omega arith)),
+      at-call .put-two2 .ensures ∙ sym (l .inv .2 ∙ put-two-of-lt (l .v) (l .i) (l .room) (at-if .if1 .taken) (omega arith) (l .inv .0) (l .inv .1)),
+    )
 
 put-byte-requires : tie.Need-put-byte-requires Inv-loop μ-loop
 put-byte-requires c κs = let l = c .before .before .before .before .loop in (omega (arith, l .inv .0, length-decimal-pos (l .v)), l .inv .1)
+
+sub-result-2 : tie.Need-sub-result-2 Inv-loop μ-loop
+sub-result-2 c = let l = c .before .before .before .before .before .before .before .loop in omega (arith, l .inv .0, length-decimal-pos (l .v))
 
 returns-2 : tie.Need-returns-2 Inv-loop μ-loop
 returns-2 c =
     let at-call = c .before .before in
     let at-digit = at-call .before .before in
-    let l = at-digit .before .before .before .loop in
-    at-call .put-byte .ensures
-    ∙ ap (λ (b : ℕ). take (l .i - 1) (l .room) ++ b ∷ drop (l .i) (l .room)) (at-digit .digit .ensures)
-    ∙ sym (l .inv .2 ∙ put-of-lt (l .v) (l .i) (l .room) (omega arith))
+    let l = at-digit .before .before .before .loop in (
+      omega (arith, l .inv .4, length-decimal-of-lt (l .v) (omega arith)),
+      at-call .put-byte .ensures
+          ∙ ap (λ (b : ℕ). take (l .i - 1) (l .room) ++ b ∷ drop (l .i) (l .room)) (at-digit .digit .ensures)
+          ∙ sym (l .inv .2 ∙ put-of-lt (l .v) (l .i) (l .room) (omega arith)),
+    )
 
 pub put-decimal-spec : {M : Type 1} → statement M
 put-decimal-spec =
@@ -89,9 +104,11 @@ put-decimal-spec =
     loop-less
     loop-again
     put-two-requires-2
+    sub-result
     (λ c. search needs)
     returns
     (λ c κs. search needs)
     put-byte-requires
+    sub-result-2
     (λ c. search needs)
     returns-2)

@@ -1,5 +1,5 @@
--- `text::walker::Walker::left` meets its contract: a walk of its MIR, by hand. The walker is taken apart, and `from_place` is called on
--- its text and its place. All that the proof knows of `from_place` is that it meets its contract.
+-- `text::walker::Walker::left` meets its contract: a walk of its MIR, by hand. The walker is taken apart, and `places::from` is called on
+-- its text and its place. All that the proof knows of `places::from` is that it meets its contract.
 -- A walker is Copy: one copy of what it owns is kept whole for the exit, and of another what the text owns goes to the callee,
 -- beside the lifetime's token, which comes back.
 -- Assumes nothing.
@@ -41,10 +41,10 @@ use denote.Triple.Clauses.{ensured, lasts}
 use Rattle.text.specs.declared.walker.Walker.{Walker}
 use Rattle.text.proofs.Held as Held
 use Rattle.text.proofs.Held.{Row}
-use Rattle.text.proofs.walker.from_place as from-place
-use Rattle.text.proofs.walker.from_place.Symbol as from-place-def
-use Rattle.text.proofs.walker.from_place.Symbol.{name as #from-place}
-use Rattle.text.proofs.walker.from_place.Met as from-place-thm
+use Rattle.text.proofs.places.from as from-place
+use Rattle.text.proofs.places.from.Symbol as from-place-def
+use Rattle.text.proofs.places.from.Symbol.{name as #from-place}
+use Rattle.text.proofs.places.from.Met as from-place-thm
 use Rattle.text.proofs.walker.Walker.left.Key.{name as #left}
 use Rattle.text.proofs.walker.Walker.left as left
 use Rattle.text.proofs.walker.Walker.left.Statement as stated
@@ -143,4 +143,4 @@ left-spec 𝓤 H 𝓜 𝓖 𝓡 =
     entered 𝓤 H (tripleOf 𝓤 H (𝓖 .A) left.signature (left.spec 𝓤 H (𝓖 .A) (𝓜 .mem) (𝓡 .run)))
     (tables 𝓤 H 𝓜 𝓡 code.env .C) (tables 𝓤 H 𝓜 𝓡 code.env .Λ) #left code.function (code.unfolded 𝓤 H 𝓜 𝓡)
     (left-meets 𝓤 H (𝓖 .A) (givenOf 𝓤 H 𝓜 𝓖) (𝓜 .mem) (𝓡 .run) (tablesOf 𝓤 H 𝓜 (tables 𝓤 H 𝓜 𝓡 code.env))
-    (cited 𝓤 H (FromPlace 𝓤 H (𝓖 .A) (𝓜 .mem) (𝓡 .run)) 𝓜 𝓡 code.env #from-place from-place-def.routine code.calls-text·walker·from-place (from-place-thm.met 𝓤 H 𝓜 𝓖 𝓡)))
+    (cited 𝓤 H (FromPlace 𝓤 H (𝓖 .A) (𝓜 .mem) (𝓡 .run)) 𝓜 𝓡 code.env #from-place from-place-def.routine code.calls-text·places·from (from-place-thm.met 𝓤 H 𝓜 𝓖 𝓡)))

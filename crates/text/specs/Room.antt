@@ -1,0 +1,20 @@
+-- What a room, the bytes that a caller lets a call write to, holds after the call.
+-- Assumes nothing.
+use Prim.Native.Nat.{ℕ}
+use mathlib.Core.Bool.{Bool, cond, _&&_}
+use mathlib.Core.List.{List, _++_}
+use lib.Dec.{leb}
+use lib.ListN.{length, drop}
+
+-- whether the bytes fit into the room
+abbrev pub fits : List ℕ → List ℕ → Bool
+fits bytes room = leb (length bytes) (length room)
+
+-- for a call with two rooms: either both are written or neither changes
+abbrev pub fitBoth : List ℕ → List ℕ → List ℕ → List ℕ → Bool
+fitBoth bytes room more other = fits bytes room && fits more other
+
+-- the room after a call that had these bytes to write: they are at its front and those beyond stay; a call that refuses leaves it as
+-- it was
+abbrev pub roomAfter : Bool → List ℕ → List ℕ → List ℕ
+roomAfter wrote bytes room = cond wrote (bytes ++ drop (length bytes) room) room
