@@ -74,9 +74,9 @@ pub extern "C" fn chowderbell_any(
     seconds: &mut i64,
     offset: &mut i32,
 ) -> u8
-    ensures number { λ r. ⌜ r ≡ answerNumber (anyOf (now (s .entry)) (nowOf has clock zone)) ⌝ }
-    ensures seconds { λ _. ⌜ now (seconds .exit) ≡ answerTime (anyOf (now (s .entry)) (nowOf has clock zone)) .seconds ⌝ }
-    ensures offset { λ _. ⌜ now (offset .exit) ≡ answerTime (anyOf (now (s .entry)) (nowOf has clock zone)) .offset ⌝ }
+    ensures number { λ r. ⌜ r ≡ answerNumber (anyOf rule1 (now (s .entry)) (nowOf has clock zone)) ⌝ }
+    ensures seconds { λ _. ⌜ now (seconds .exit) ≡ answerTime (anyOf rule1 (now (s .entry)) (nowOf has clock zone)) .seconds ⌝ }
+    ensures offset { λ _. ⌜ now (offset .exit) ≡ answerTime (anyOf rule1 (now (s .entry)) (nowOf has clock zone)) .offset ⌝ }
 {
     hand_out(crate::parse(s, now_of(has, clock, zone)), seconds, offset)
 }
