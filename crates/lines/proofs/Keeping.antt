@@ -53,7 +53,7 @@ take-length-take-take (suc m) zero x = refl
 take-length-take-take (suc m) (suc k) [] = refl
 take-length-take-take (suc m) (suc k) (b ∷ x) = ap (λ (t : List ℕ). b ∷ t) (take-length-take-take m k x)
 
-abbrev pub Kept : ℕ → List ℕ → List ℕ → ℕ → ℕ → Type 0
+abbrev Kept : ℕ → List ℕ → List ℕ → ℕ → ℕ → Type 0
 Kept n now was from end =
     (n ≡ length (kept (heldPart was from end)))
     × ((now ≡ kept (heldPart was from end) ++ drop n was) × ((n ≤ 4097) × (n ≤ length was)))

@@ -1,11 +1,10 @@
 // The layout of a line: four fields with tabs between, of which the last keeps further tabs. A line is handed over without its end.
 ghost use mathlib.Core.Path.{_≡_};
 ghost use mathlib.Core.Bool.{cond};
-ghost use Prim.Native.Nat.{_≤_};
-ghost use lib.ListN.{length, take, drop};
 ghost use Rattle.text.specs.Bytes.{same};
 ghost use Rattle.lines.specs.declared.layout.Named.the-variants.{As};
-ghost use Rattle.lines.specs.Layout.{formOf, currentAt, currentOf, asks as asksOf, lineOf, Fits32};
+ghost use Rattle.lines.specs.Layout.{formOf, currentAt, currentOf, asks as asksOf, lineOf};
+ghost use Rattle.lines.specs.Held.{Fits32};
 use text::bytes;
 use text::number;
 use text::number::Integer;
@@ -34,37 +33,23 @@ pub fn parse_line(line: &[u8]) -> Line
     if 4096 < line.len() {
         return Line::Wrong;
     }
-    let a = places::first_place(line, 9);
+    let a = places::first_place(line, b'\t');
     if line.len() <= a {
         return Line::Wrong;
     }
-    let rest = from(line, a + 1);
-    let b = places::first_place(rest, 9);
+    let rest = places::from(line, a + 1);
+    let b = places::first_place(rest, b'\t');
     if rest.len() <= b {
         return Line::Wrong;
     }
-    let last = from(rest, b + 1);
-    let c = places::first_place(last, 9);
+    let last = places::from(rest, b + 1);
+    let c = places::first_place(last, b'\t');
     if last.len() <= c {
         return Line::Wrong;
     }
-    let form = form_of(up_to(line, a));
-    let current = current_of(up_to(rest, b), up_to(last, c));
+    let form = form_of(places::up_to(line, a));
+    let current = current_of(places::up_to(rest, b), places::up_to(last, c));
     asks(form, current, a + 1 + (b + 1) + (c + 1))
-}
-
-pub(crate) fn from(s: &[u8], at: usize) -> &[u8]
-    requires { ⌜ at ≤ length (now s) ⌝ }
-    ensures { λ r. ⌜ now r ≡ drop at (now (s .entry)) ⌝ }
-{
-    &s[at..]
-}
-
-pub(crate) fn up_to(s: &[u8], at: usize) -> &[u8]
-    requires { ⌜ at ≤ length (now s) ⌝ }
-    ensures { λ r. ⌜ now r ≡ take at (now (s .entry)) ⌝ }
-{
-    &s[..at]
 }
 
 pub(crate) enum Named {
