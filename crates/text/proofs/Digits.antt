@@ -2,21 +2,23 @@
 -- Assumes nothing.
 use mathlib.Core.Path.{_≡_, refl, sym, ap, _∙_}
 use mathlib.Core.Bool.{Bool, true, false, _&&_, false≢true}
-use mathlib.Core.List.{[]}
+use mathlib.Core.List.{List, [], _∷_}
 use Prim.Native.Nat.{ℕ, _+_, _-_, _*_, _/_, _%_, _≤_, _<_}
 use native.Mathlib.Omega.{arith}
 use borrow.Author.Tests.{ne-eqb, le-leb, lt-leb, leb-true, eqb-true}
 use lib.Dec.{leb, eqb}
+use lib.ListN.{getD}
 use Rattle.text.specs.Bytes.{isDigit, isSpace, isSign}
 use Rattle.text.specs.Decimal.{twoBefore}
-use Rattle.text.specs.Number.{readFrom, digitsOf, unsignedOf}
+use Rattle.text.specs.Number.{readFrom, digitsOf, unsignedOf, fit}
+use Rattle.text.specs.Places.{run, leading}
 use Rattle.text.specs.declared.number.Number.the-variants.{Value}
 use Rattle.text.proofs.Lists.{by-test, both}
 use Rattle.text.proofs.Numbers.{digit-range, isDigit-of-le}
 
 -- ---- what a digit is not
 -- bytes that a test tells apart
-pub eqb-of-test : (t : ℕ → Bool) (b x : ℕ) → t b ≡ true → t x ≡ false → eqb b x ≡ false
+eqb-of-test : (t : ℕ → Bool) (b x : ℕ) → t b ≡ true → t x ≡ false → eqb b x ≡ false
 eqb-of-test t b x p q = ne-eqb b x (λ e. false≢true (sym q ∙ ap t (sym e) ∙ p))
 
 pub isSign-of-digit : (b : ℕ) → isDigit b ≡ true → isSign b ≡ false
@@ -34,6 +36,11 @@ isSpace-of-digit b p =
 -- nor is a sign a digit
 pub isDigit-of-sign : (b : ℕ) → isSign b ≡ true → isDigit b ≡ false
 isDigit-of-sign b h = by-test (isDigit b) (λ p. absurd (false≢true (sym (isSign-of-digit b p) ∙ h))) (λ p. p)
+
+pub leading-of-isSign : (w : List ℕ) → isSign (getD w 0 0) ≡ true → leading isDigit w ≡ []
+unfolding run
+leading-of-isSign [] e = refl
+leading-of-isSign (b ∷ w) e = rw (isDigit-of-sign b e)
 
 -- white space is byte 32 at most
 pub space-range : (b : ℕ) → isSpace b ≡ true → b ≤ 32
@@ -72,8 +79,18 @@ tens n h = isDigit-of-le (48 + n / 10) (omega arith) (omega arith)
 pub ones : (n : ℕ) → isDigit (48 + n % 10) ≡ true
 ones n = isDigit-of-le (48 + n % 10) (omega arith) (omega arith)
 
-pub unsignedOf-two : (n : ℕ) → n < 100 → unsignedOf (twoBefore n []) ≡ Value n
+pub unsignedOf-two-digits : (a b : ℕ) → isDigit a ≡ true → isDigit b ≡ true → unsignedOf (a ∷ b ∷ []) ≡ Value (10 * (a - 48) + (b - 48))
 unfolding unsignedOf digitsOf readFrom
+unsignedOf-two-digits a b x y =
+    let e : 10 * (10 * 0 + (a - 48)) + (b - 48) ≡ 10 * (a - 48) + (b - 48) = omega arith in
+    rw (no-plus a x, x, y) (ap Value e)
+
+pub unsignedOf-two : (n : ℕ) → n < 100 → unsignedOf (twoBefore n []) ≡ Value n
 unsignedOf-two n h =
-    let e : 10 * (10 * 0 + (48 + n / 10 - 48)) + (48 + n % 10 - 48) ≡ n = omega arith in
-    rw (no-plus (48 + n / 10) (tens n h), tens n h, ones n) (ap Value e)
+    let e : 10 * (48 + n / 10 - 48) + (48 + n % 10 - 48) ≡ n = omega arith in
+    unsignedOf-two-digits (48 + n / 10) (48 + n % 10) (tens n h) (ones n) ∙ ap Value e
+
+-- in any width that holds it
+pub fit-two : (n limit : ℕ) → n < 100 → n ≤ limit → fit limit (unsignedOf (twoBefore n [])) ≡ Value n
+unfolding fit
+fit-two n limit h k = ap (fit limit) (unsignedOf-two n h) ∙ rw (le-leb n limit k)

@@ -1,19 +1,20 @@
--- Laws. In order: lists at a place that a loop has reached; runs of bytes and places; the first place of a byte; trimming; taking
--- words; a walker's words, and what a walker owns; lines and fields; numbers; digits; decimal digits; bytes put in front of a place;
--- texts whose bytes are known; signed decimals; letter case; the document's examples.
+-- Laws. In order: lists at a place that a loop has reached; runs of bytes and places; the first place of a byte; taking words; a
+-- walker's words, and what a walker owns; lines and fields; numbers; digits; trimming; decimal digits; bytes put in front of a place;
+-- texts whose bytes are known; ASCII texts and plain bytes; signed decimals; letter case; the document's examples.
 pub mod Lists
 pub mod Runs
 pub mod FirstPlaces
-pub mod Trimming
 pub mod Taking
 pub mod Walking
 pub mod Held
 pub mod Lines
 pub mod Numbers
 pub mod Digits
+pub mod Trimming
 pub mod Decimals
 pub mod Putting
 pub mod Texts
+pub mod Plain
 pub mod Signed
 pub mod LowerCase
 pub mod Examples

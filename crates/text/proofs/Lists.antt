@@ -1,12 +1,14 @@
 -- Lists at a place that a loop has reached, and proofs by a test. In order: `by-test`, `both`; what is left at a place; what stands
--- before it.
+-- before it; parts; texts of two lengths; beyond the end.
 -- Assumes nothing.
-use mathlib.Core.Path.{_≡_, refl, ap}
+use mathlib.Core.Path.{_≡_, refl, sym, ap, _∙_}
 use mathlib.Core.Bool.{Bool, true, false, _&&_, false≢true, and-false}
 use mathlib.Core.List.{List, [], _∷_, _++_}
 use Prim.Native.Nat.{ℕ, zero, suc, _+_, _-_, _≤_, _<_}
 use native.Mathlib.Numerals.{add-one}
 use native.Mathlib.Omega.{arith}
+use borrow.Author.Tests.{eqb-true, eqb-false}
+use lib.Dec.{eqb}
 use lib.ListN.{length, getD, take, drop, length-drop}
 use Rattle.text.specs.Bytes.{same, sameLetters}
 use lib.Seq.{drop-cons, take-all, take-suc}
@@ -43,6 +45,17 @@ take-snoc s e p h =
     let l : e - 1 < length s = omega arith in
     rw k at (take-suc s (e - 1) 0 l)
 
+-- the first two bytes there
+pub take-two-drop : (s : List ℕ) (i : ℕ) → i + 2 ≤ length s → take 2 (drop i s) ≡ getD s i 0 ∷ getD s (i + 1) 0 ∷ []
+take-two-drop s i h = rw (drop-cons-add-one s i (omega arith), drop-cons-add-one s (i + 1) (omega arith))
+
+-- a part of a part from its start is a part of the whole
+pub take-length-take-take : (m k : ℕ) (s : List ℕ) → take (length (take m (take k s))) s ≡ take m (take k s)
+take-length-take-take zero k s = refl
+take-length-take-take (suc m) zero s = refl
+take-length-take-take (suc m) (suc k) [] = refl
+take-length-take-take (suc m) (suc k) (b ∷ s) = ap (λ (t : List ℕ). b ∷ t) (take-length-take-take m k s)
+
 -- texts of two lengths are not the same
 pub same-of-length : (s t : List ℕ) → (length s ≡ length t → ⊥) → same s t ≡ false
 unfolding same
@@ -57,6 +70,11 @@ sameLetters-of-length [] [] h = absurd (h refl)
 sameLetters-of-length [] (y ∷ t) h = refl
 sameLetters-of-length (x ∷ s) [] h = refl
 sameLetters-of-length (x ∷ s) (y ∷ t) h = rw (sameLetters-of-length s t (λ e. h (ap suc e)), and-false)
+
+pub length-of-same : (s t : List ℕ) → sameLetters s t ≡ true → length s ≡ length t
+length-of-same s t e =
+    by-test (eqb (length s) (length t)) (λ f. eqb-true (length s) (length t) f)
+    (λ f. absurd (false≢true (sym (sameLetters-of-length s t (eqb-false (length s) (length t) f)) ∙ e)))
 
 -- beyond the end
 pub getD-of-length-le : (s : List ℕ) (i : ℕ) → length s ≤ i → getD s i 0 ≡ 0

@@ -1,17 +1,17 @@
--- Digits and their value. In order: what a digit is; reading on from a value; a byte that is none; what fits; the sign put on before or after the test;
--- how large a short text's number can be.
+-- Digits and their value. In order: what a digit is; reading on from a value; a byte that is none; what fits; the sign put on before or
+-- after the test; how large a short text's number can be; the sign and the digits that open a text.
 -- Assumes nothing.
 use mathlib.Core.Path.{_≡_, refl, sym, ap, _∙_}
-use mathlib.Core.Bool.{Bool, true, false, cond, false≢true}
+use mathlib.Core.Bool.{Bool, true, false, cond, _&&_, false≢true}
 use mathlib.Core.List.{List, [], _∷_}
 use Prim.Native.Nat.{ℕ, zero, suc, _+_, _-_, _*_, _^_, _≤_, _<_}
 use native.Mathlib.Omega.{arith}
-use native.Mathlib.Nat.{zero-add, mul-one, mul-assoc, mul-le-mul-right, not-suc-le-zero, pow-succ'}
+use native.Mathlib.Nat.{pow-le-pow-right, mul-one, mul-assoc, mul-le-mul-right, not-suc-le-zero, pow-succ'}
 use borrow.Author.Tests.{lt-leb, le-leb, leb-true, lt-ltb, le-ltb, leb-false, ne-eqb, eqb-true}
 use lib.Dec.{leb, ltb, eqb, leb·suc-suc}
-use lib.IntN.{pos, negsuc, _-ℤ_, negℤ, natAbs}
-use lib.ListN.{length, getD, take}
-use lib.Signed.{leZ}
+use lib.IntN.{ℤ, pos, negsuc, negℤ, natAbs}
+use lib.ListN.{length, getD, take, length-take}
+use lib.Signed.{leZ, ltZ}
 use Rattle.text.specs.Bytes.{isDigit, isSign}
 use Rattle.text.specs.Places.{run, leading}
 use Rattle.text.specs.Number.{readFrom, digitsOf, unsignedOf, signedOf, fit, fitSigned, plus, minus, numeral, signedBy, AtMost}
@@ -29,6 +29,10 @@ digit-range b e = let p = both (leb 48 b) (leb b 57) e in (leb-true _ _ (p .0), 
 pub isDigit-of-le : (b : ℕ) → 48 ≤ b → b ≤ 57 → isDigit b ≡ true
 unfolding isDigit
 isDigit-of-le b h k = rw (le-leb 48 b h, le-leb b 57 k)
+
+pub readFrom-digit : (v b : ℕ) (w : List ℕ) (n : ℕ) → readFrom v (b ∷ w) ≡ Value n → isDigit b ≡ true
+unfolding readFrom
+readFrom-digit v b w n = by-test (isDigit b) (λ e h. e) (λ e h. let k : Not ≡ Value n = rw e at h in let z : _≡_ {A = ℕ} 0 1 = cc in absurd (omega arith))
 
 -- one digit more
 pub readFrom-cons : (s : List ℕ) (v b d : ℕ) → isDigit b ≡ true → d ≡ b - 48 → readFrom v (b ∷ s) ≡ readFrom (10 * v + d) s
@@ -72,32 +76,46 @@ unfolding fit
 AtMost-of-fit limit k (Value n) r e h = rw e (by-test (leb n limit) (λ y. rw y (omega (arith, leb-true n limit y))) (λ y. rw y tt))
 AtMost-of-fit limit k Not r e h = rw e tt
 
+-- what was fitted, where it is a number
+pub fit-value : (limit n : ℕ) (x : Number) → fit limit x ≡ Value n → x ≡ Value n
+unfolding fit
+fit-value limit n (Value m) = by-test (leb m limit) (λ e h. rw e at h) (λ e h. let k : Not ≡ Value n = rw e at h in let z : _≡_ {A = ℕ} 0 1 = cc in absurd (omega arith))
+fit-value limit n Not = λ h. h
+
+pub fit-value-le : (limit : ℕ) (x : Number) {n : ℕ} → fit limit x ≡ Value n → n ≤ limit
+fit-value-le limit x {n} e = AtMost-of-fit limit limit x (Value n) (sym e) (omega arith)
+
+pub fitSigned-value : (half : ℕ) (x : Integer) (z : ℤ) → fitSigned half x ≡ Is z → x ≡ Is z
+unfolding fitSigned
+fitSigned-value half (Is y) z k =
+    by-test (leZ (negℤ (pos half)) y && ltZ y (pos half)) (λ t. rw t at k)
+    (λ t. let m = rw t at k in let q : _≡_ {A = ℕ} 0 1 = cc in absurd (omega arith))
+fitSigned-value half NotOne z k = k
+
+-- what fits the smaller limit fits the larger one too
+pub fit-fit : (k l : ℕ) (x : Number) → k ≤ l → fit k (fit l x) ≡ fit k x
+unfolding fit
+fit-fit k l (Value n) h =
+    by-test (leb n l) (λ e. rw e) (λ e. rw (e, lt-leb n k (omega (arith, leb-false n l e))))
+fit-fit k l Not h = refl
+
 -- ---- the sign
 -- at most one less is below
 leb-pred : (n half : ℕ) → 0 < half → leb n (half - 1) ≡ ltb n half
 leb-pred n half h =
     by-test (leb n (half - 1)) (λ e. e ∙ sym (lt-ltb n half (omega (arith, leb-true n (half - 1) e)))) (λ e. e ∙ sym (le-ltb n half (omega (arith, leb-false n (half - 1) e))))
 
-pub negℤ-pos : (m : ℕ) → 0 < m → negℤ (pos m) ≡ negsuc (m - 1)
-negℤ-pos zero h = absurd (not-suc-le-zero h)
-negℤ-pos (suc m) h = let e : m ≡ suc m - 1 = omega arith in ap negsuc e
-
--- -1 less k
-pub minus-one-sub : (k : ℕ) → negsuc 0 -ℤ pos k ≡ negsuc k
-minus-one-sub zero = refl
-minus-one-sub (suc k) = rw zero-add
-
 -- no number from 0 up is below the least
 least-le-pos : (half n : ℕ) → leZ (negℤ (pos half)) (pos n) ≡ true
 least-le-pos zero n = le-leb 0 n (omega arith)
 least-le-pos (suc h) n = refl
 
-pub fitSigned-plus : (half : ℕ) (x : Number) → 0 < half → fitSigned half (plus x) ≡ plus (fit (half - 1) x)
+fitSigned-plus : (half : ℕ) (x : Number) → 0 < half → fitSigned half (plus x) ≡ plus (fit (half - 1) x)
 unfolding fit fitSigned
 fitSigned-plus half (Value n) h = rw (least-le-pos half n, leb-pred n half h) (by-test (ltb n half) (λ e. rw e) (λ e. rw e))
 fitSigned-plus half Not h = refl
 
-pub fitSigned-minus : (half : ℕ) (x : Number) → 0 < half → fitSigned half (minus x) ≡ minus (fit half x)
+fitSigned-minus : (half : ℕ) (x : Number) → 0 < half → fitSigned half (minus x) ≡ minus (fit half x)
 unfolding fit fitSigned
 fitSigned-minus zero x h = absurd (not-suc-le-zero h)
 fitSigned-minus (suc h) (Value zero) p = rw (lt-ltb 0 (suc h) p, le-leb 0 (suc h) (omega arith))
@@ -127,7 +145,7 @@ readFrom-below (b ∷ s) v =
     rw e (Below-le (readFrom (10 * v + (b - 48)) s) (omega arith) (readFrom-below s (10 * v + (b - 48)))))
     (λ e. rw e tt)
 
-pub digitsOf-below : (s : List ℕ) → Below (10 ^ length s) (digitsOf s)
+digitsOf-below : (s : List ℕ) → Below (10 ^ length s) (digitsOf s)
 unfolding digitsOf
 digitsOf-below [] = tt
 digitsOf-below (b ∷ s) = Below-le (readFrom 0 (b ∷ s)) (omega arith) (readFrom-below (b ∷ s) 0)
@@ -178,9 +196,19 @@ fitSigned-of-length half s h = go half (signedOf s) h (signedOf-short s)
     go (suc m) (Is (negsuc n)) k b = rw (le-leb n m (omega arith))
     go half NotOne k b = refl
 
+-- two bytes' number is below 100 in size, so any width that holds 100 reads it whole
+pub pow-length-take : (s : List ℕ) → 10 ^ length (take 2 s) ≤ 100
+pow-length-take s = let h : length (take 2 s) ≤ 2 = omega (arith, length-take 2 s) in pow-le-pow-right {n = 10} (omega arith) h
+
+pub fitSigned-take : (half : ℕ) (s : List ℕ) → 100 ≤ half → fitSigned half (signedOf (take 2 s)) ≡ signedOf (take 2 s)
+fitSigned-take half s h = fitSigned-of-length half (take 2 s) (omega (arith, pow-length-take s))
+
+pub fit-take : (limit : ℕ) (s : List ℕ) → 99 ≤ limit → fit limit (unsignedOf (take 2 s)) ≡ unsignedOf (take 2 s)
+fit-take limit s h = fit-of-length limit (take 2 s) (omega (arith, pow-length-take s))
+
 -- ---- the sign and the digits that open a text
 -- digits alone
-pub signedOf-leading : (s : List ℕ) → signedOf (leading isDigit s) ≡ plus (digitsOf (leading isDigit s))
+signedOf-leading : (s : List ℕ) → signedOf (leading isDigit s) ≡ plus (digitsOf (leading isDigit s))
 unfolding signedOf unsignedOf digitsOf run
 signedOf-leading [] = refl
 signedOf-leading (b ∷ s) =
@@ -189,12 +217,6 @@ signedOf-leading (b ∷ s) =
     let d = digit-range b e in
     rw (e, ne-eqb b 45 (λ k. omega arith), ne-eqb b 43 (λ k. omega arith)))
     (λ e. rw e)
-
-fit-fit : (k l : ℕ) (x : Number) → k ≤ l → fit k (fit l x) ≡ fit k x
-unfolding fit
-fit-fit k l (Value n) h =
-    by-test (leb n l) (λ e. rw e) (λ e. rw (e, lt-leb n k (omega (arith, leb-false n l e))))
-fit-fit k l Not h = refl
 
 -- n is what the digits behind the sign are, if there is one
 module _ (half : ℕ) (h : 0 < half) (n : Number) where

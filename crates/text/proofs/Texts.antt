@@ -14,6 +14,7 @@ use lib.ListN.{length, take, drop, take-append-drop}
 use Rattle.text.specs.Bytes.{isSpace, isDigit, ascii}
 use Rattle.text.specs.Places.{has}
 use Rattle.text.specs.Words.{onto, pieces, full, words}
+use Rattle.text.specs.Decimal.{twoBefore}
 use Rattle.text.specs.Number.{readFrom, digitsOf, unsignedOf, signedOf, plus, minus}
 use Rattle.text.specs.declared.number.Number.{Number}
 use Rattle.text.specs.declared.number.Number.the-variants.{Value, Not}
@@ -22,6 +23,7 @@ use Rattle.text.specs.declared.number.Integer.the-variants.{Is, NotOne}
 use Rattle.text.proofs.Lists.{by-test}
 use Rattle.text.proofs.Runs.{has-cons, has-nil}
 use Rattle.text.proofs.Numbers.{digit-range}
+use Rattle.text.proofs.Digits.{unsignedOf-two}
 use Rattle.text.proofs.Decimals.{Between}
 use Rattle.text.proofs.Taking.{Whole}
 
@@ -93,11 +95,11 @@ whole-of-between hi (x ∷ w) b =
     let k : 33 ≤ x = b .0 in
     (rw (le-leb 9 x (omega arith), lt-leb x 13 (omega arith), ne-eqb x 32 (λ e. omega arith)), whole-of-between hi w (b .2))
 
--- ---- the bytes of a number
-Between-of-le : (lo lo′ hi : ℕ) → lo′ ≤ lo → (s : List ℕ) → Between lo hi s → Between lo′ hi s
-Between-of-le lo lo′ hi h [] b = tt
-Between-of-le lo lo′ hi h (x ∷ s) b = let k : lo ≤ x = b .0 in let l : lo′ ≤ x = omega arith in (l, b .1, Between-of-le lo lo′ hi h s (b .2))
+pub Between-le : (lo low hi : ℕ) → low ≤ lo → (s : List ℕ) → Between lo hi s → Between low hi s
+Between-le lo low hi h [] b = tt
+Between-le lo low hi h (x ∷ s) b = let k : lo ≤ x = b .0 in (omega arith, b .1, Between-le lo low hi h s (b .2))
 
+-- ---- the bytes of a number
 module _ (n : ℕ) where
   between-of-readFrom : (s : List ℕ) (v : ℕ) → readFrom v s ≡ Value n → Between 48 57 s
   unfolding readFrom
@@ -109,7 +111,7 @@ module _ (n : ℕ) where
   between-of-digitsOf : (s : List ℕ) → digitsOf s ≡ Value n → Between 43 57 s
   unfolding digitsOf
   between-of-digitsOf [] h = tt
-  between-of-digitsOf (b ∷ s) h = Between-of-le 48 43 57 (omega arith) (b ∷ s) (between-of-readFrom (b ∷ s) 0 h)
+  between-of-digitsOf (b ∷ s) h = Between-le 48 43 57 (omega arith) (b ∷ s) (between-of-readFrom (b ∷ s) 0 h)
 
   pub between-of-unsignedOf : (s : List ℕ) → unsignedOf s ≡ Value n → Between 43 57 s
   unfolding unsignedOf
@@ -155,6 +157,9 @@ unfolding signedOf
 signedOf-of-unsignedOf [] n h = let k = rw unsignedOf-nil at h in let q : _≡_ {A = ℕ} 0 1 = cc in absurd (omega arith)
 signedOf-of-unsignedOf (b ∷ s) n h =
     by-test (eqb b 45) (λ e. let k = rw (eqb-true b 45 e, unsignedOf-minus s) at h in let q : _≡_ {A = ℕ} 0 1 = cc in absurd (omega arith)) (λ e. rw (e, h))
+
+pub signedOf-two : (n : ℕ) → n < 100 → signedOf (twoBefore n []) ≡ Is (pos n)
+signedOf-two n h = signedOf-of-unsignedOf (twoBefore n []) n (unsignedOf-two n h)
 
 -- ---- digits, and a minus and digits
 pub signedOf-of-digits : (s : List ℕ) (n : ℕ) → 0 < length s → Between 48 57 s → readFrom 0 s ≡ Value n → signedOf s ≡ Is (pos n)

@@ -3,7 +3,7 @@
 -- Assumes nothing.
 use Prim.Native.Nat.{ℕ, _+_}
 use Prim.Native.Char.{code}
-use mathlib.Core.Bool.{Bool, true, false, cond, _&&_, _||_}
+use mathlib.Core.Bool.{Bool, true, false, cond, not, _&&_, _||_}
 use mathlib.Core.List.{List, [], _∷_}
 use lib.Dec.{leb, ltb, eqb}
 
@@ -24,6 +24,10 @@ isSign b = eqb b (code "+") || eqb b (code "-")
 -- ASCII letters and digits
 unfoldable pub isAlphanumeric : ℕ → Bool
 isAlphanumeric b = between (code "0") (code "9") b || (between (code "A") (code "Z") b || between (code "a") (code "z") b)
+
+-- a plain byte of a word: no white space, no `:`, no byte of 128 or more
+unfoldable pub isPlain : ℕ → Bool
+isPlain b = not (isSpace b) && not (eqb b (code ":")) && ltb b 128
 
 -- the small letter of a capital one; other bytes are their own
 unfoldable pub lowerOf : ℕ → ℕ

@@ -4,7 +4,7 @@ use Prim.Native.Nat.{_<_, _-_, _^_}
 use native.Mathlib.Omega.{arith}
 use mir.Syntax.{w64}
 use mir.Facts.{toZ-pos, toZ-ofZ}
-use Rattle.text.proofs.Numbers.{minus-one-sub, negℤ-pos}
+use Rattle.ints.proofs.Parts.{minus-one-sub, negℤ-pos}
 use borrow.Author.Needs.{needs}
 use Rattle.text.proofs.number.minus_i64.Statement.{statement}
 use Rattle.text.proofs.number.minus_i64.Tie as tie
