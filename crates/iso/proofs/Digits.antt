@@ -38,7 +38,7 @@ module _ (n : ℕ) (h : n < 10000) where
       ∙ rw (no-dash b (tens (n / 100) high), no-plus b (tens (n / 100) high), tens (n / 100) high, ones (n / 100), tens (n % 100) low, ones (n % 100)) (ap (λ (v : ℕ). Is (pos v)) e)
 
 -- ---- ASCII
-abbrev pub Narrow : List ℕ → Type 0
+abbrev Narrow : List ℕ → Type 0
 Narrow [] = Unit {0}
 Narrow (b ∷ s) = (b < 128) × Narrow s
 

@@ -11,6 +11,5 @@ pub mod Instants
 pub mod Digits
 pub mod Lines
 pub mod Theorems
-pub mod Writings
 pub mod ReadBack
 pub mod Examples

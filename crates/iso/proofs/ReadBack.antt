@@ -12,7 +12,7 @@ use lib.Signed.{_≤ℤ_}
 use Rattle.ints.specs.Range.{In}
 use Rattle.ints.proofs.Parts.{add-parts, up-neg, dn-neg, parts-eq, eq-parts, le-parts, parts-le}
 use Rattle.ints.proofs.Machine.{In-of-isIn}
-use Rattle.text.specs.Bytes.{isSign, isSpace, ascii}
+use Rattle.text.specs.Bytes.{isSpace, ascii}
 use Rattle.text.specs.Decimal.{twoBefore}
 use Rattle.text.specs.Trim.{trim}
 use Rattle.calendar.specs.Calendar.{IsDate}
@@ -23,7 +23,7 @@ use Rattle.calendar.proofs.Dates.{IsDate-of-dateOf, IsDate-day-lt}
 use Rattle.time.specs.Answers.{timeAt}
 use Rattle.time.specs.Clock.{localOf, clockOf}
 use Rattle.time.specs.Header.{signByte, wholeMinutes}
-use Rattle.time.specs.Iso.{offsetBefore, isoBytes, isoWritten}
+use Rattle.time.specs.Iso.{offsetBefore, lineBytes, isoBytes, isoWritten}
 use Rattle.time.specs.Range.{leastSeconds, mostSeconds, secondsInRange, since1970, instantOf}
 use Rattle.time.specs.declared.Time.{Time}
 use Rattle.time.specs.declared.Answer.the-variants.{Time as Read}
@@ -39,7 +39,8 @@ use Rattle.iso.proofs.Digits.{int32-two, int32-four, ascii-of-Narrow}
 use Rattle.iso.proofs.Lines.{timeOf-clockText, trim-tail, timeText-tail, offsetText-tail, offsetOf-line, dayNumber-of-IsDate}
 use Rattle.iso.proofs.Instants.{dayOf-value, momentOf-in}
 use Rattle.iso.proofs.Theorems.{iso-of-flexible}
-use Rattle.iso.proofs.Writings.{WasWritten, wasWritten}
+use Rattle.time.proofs.Isos.{WasWritten, wasWritten, shown-of-whole-minutes}
+use Rattle.time.proofs.Theorems.{isSign-signByte}
 
 -- ---- the line of a date, a clock and an offset
 module _ (y mo d h m s : ℕ) (o : ℤ) (yl : y < 10000) (ml : mo < 100) (dl : d < 100) (hl : h ≤ 23) (nl : m ≤ 59) (sl : s ≤ 59) (ol : natAbs o < 86400) (whole : natAbs o % 60 ≡ 0) where
@@ -62,12 +63,6 @@ module _ (y mo d h m s : ℕ) (o : ℤ) (yl : y < 10000) (ml : mo < 100) (dl : d
   c< : c < 100
   unfolding wholeMinutes
   c< = omega arith
-
-  -- a sign is a sign, whichever it is
-  isSign-signByte : (z : ℤ) → isSign (signByte z) ≡ true
-  unfolding isSign signByte
-  isSign-signByte (pos n) = refl
-  isSign-signByte (negsuc n) = refl
 
   isSpace-signByte : (z : ℤ) → isSpace (signByte z) ≡ false
   unfolding isSpace signByte
@@ -156,7 +151,7 @@ module _ (t : Time) (w : WasWritten t) where
   seconds-ge : 93600 ≤ i .seconds
   seconds-ge = omega (arith, eq-parts seconds-up, add-parts (t .seconds) (pos 377736739200), le-parts (in-range .low))
 
-  pub instant-back : since1970 (localOf i) -ℤ t .offset ≡ t .seconds
+  instant-back : since1970 (localOf i) -ℤ t .offset ≡ t .seconds
   instant-back = local-back (t .seconds) (t .offset) (i .seconds) (i .offset) seconds-up offset-up seconds-ge
 
   -- the day that the line's date names
@@ -193,31 +188,31 @@ module _ (t : Time) (w : WasWritten t) where
     abbrev second : ℕ
     second = localOf i % 86400
 
-    flexible-line : flexible (isoBytes t) ≡ Are (record { year = pos (month / 12 - 10000); month = pos (month % 12 + 1); day = pos (dateOf day .day + 1); second = second / 3600 * 3600 + second / 60 % 60 * 60 + second % 60; offset = t .offset })
-    unfolding isoBytes clockOf
+    flexible-line : flexible (lineBytes t) ≡ Are (record { year = pos (month / 12 - 10000); month = pos (month % 12 + 1); day = pos (dateOf day .day + 1); second = second / 3600 * 3600 + second / 60 % 60 * 60 + second % 60; offset = t .offset })
+    unfolding lineBytes clockOf
     flexible-line =
         let l = year-low in
         let h = year-high in
         let d = IsDate-day-lt is-date in
         fields-line (month / 12 - 10000) (month % 12 + 1) (dateOf day .day + 1) (second / 3600) (second / 60 % 60) (second % 60) (t .offset) (omega arith) (omega arith) (omega arith) (omega arith) (omega arith) (omega arith) (w .narrow) whole
 
-    trim-iso : trim (isoBytes t) ≡ isoBytes t
-    unfolding isoBytes clockOf
-    trim-iso =
+    trim-written : trim (lineBytes t) ≡ lineBytes t
+    unfolding lineBytes clockOf
+    trim-written =
         let l = year-low in
         let h = year-high in
         let d = IsDate-day-lt is-date in
         trim-line (month / 12 - 10000) (month % 12 + 1) (dateOf day .day + 1) (second / 3600) (second / 60 % 60) (second % 60) (t .offset) (omega arith) (omega arith) (omega arith) (omega arith) (omega arith) (omega arith) (w .narrow) whole
 
-    ascii-iso : ascii (isoBytes t) ≡ true
-    unfolding isoBytes clockOf
-    ascii-iso =
+    ascii-written : ascii (lineBytes t) ≡ true
+    unfolding lineBytes clockOf
+    ascii-written =
         let l = year-low in
         let h = year-high in
         let d = IsDate-day-lt is-date in
         ascii-line (month / 12 - 10000) (month % 12 + 1) (dateOf day .day + 1) (second / 3600) (second / 60 % 60) (second % 60) (t .offset) (omega arith) (omega arith) (omega arith) (omega arith) (omega arith) (omega arith) (w .narrow) whole
 
-    zoned-line : zoned (flexible (isoBytes t)) ≡ Read t
+    zoned-line : zoned (flexible (lineBytes t)) ≡ Read t
     unfolding zoned
     zoned-line =
         let n : day * 86400 + second ≡ localOf i = omega arith in
@@ -225,10 +220,14 @@ module _ (t : Time) (w : WasWritten t) where
         let r : In leastSeconds mostSeconds (since1970 (day * 86400 + second) -ℤ t .offset) = subst (In leastSeconds mostSeconds) (sym e) in-range in
         rw (flexible-line, clock-sum second, day-line) (sym (momentOf-in {f = At day} second (t .offset) refl r) ∙ (λ j. Read (timeAt (e j) (t .offset))))
 
+    -- it is read back, by the flexible form
+    line-read-back : (zoned (flexible (lineBytes t)) ≡ Read t) × (isoOf (lineBytes t) ≡ Read t)
+    line-read-back = (zoned-line, iso-of-flexible (lineBytes t) ascii-written (rw trim-written zoned-line))
+
 -- a time that the ISO writer writes, at an offset of whole minutes, is read back, by the flexible form
 pub iso-read-back : (t : Time) (room : List ℕ) (n : ℕ) → isoWritten t room ≡ Length n → natAbs (t .offset) % 60 ≡ 0
     → (zoned (flexible (isoBytes t)) ≡ Read t) × (isoOf (isoBytes t) ≡ Read t)
+unfolding isoBytes isoWritten
 iso-read-back t room n e whole =
-    let w = wasWritten t room n e in
-    let z = zoned-line t w whole in
-    (z, iso-of-flexible (isoBytes t) (ascii-iso t w whole) (rw (trim-iso t w whole) z))
+    let s = shown-of-whole-minutes t whole in
+    rw s (line-read-back t (wasWritten t room n (rw s at e)) whole)

@@ -10,13 +10,12 @@ use lib.Dec.{leb}
 use lib.ListN.{length, take, drop}
 use lib.Seq.{take-all}
 use Rattle.text.specs.Number.{fit, unsignedOf, AtMost}
-use Rattle.text.specs.Places.{firstPlace, has}
+use Rattle.text.specs.Places.{firstPlace, before, has}
 use Rattle.text.specs.Quote.{bytes}
 use Rattle.text.specs.Words.{pieces}
 use Rattle.text.specs.declared.number.Number.{Number}
 use Rattle.text.specs.declared.number.Number.the-variants.{Value, Not}
 use Rattle.text.proofs.Lists.{by-test, take-length-sub-drop}
-use Rattle.iso.specs.Parts.{before}
 use Rattle.iso.specs.Clock.{timePart, secondOf, clock, isColon, colonTime, plainTime, timeOf}
 use Rattle.text.proofs.FirstPlaces.{pieces-of-lt, pieces-of-le}
 
@@ -30,7 +29,7 @@ fit-fit a b (Value n) h =
 fit-fit a b Not h = refl
 
 -- so no part is lost by reading it up to its limit at once
-pub timePart-fit : (limit : ℕ) (s : List ℕ) → limit ≤ 2 ^ 32 - 1 → timePart limit s ≡ fit limit (unsignedOf s)
+timePart-fit : (limit : ℕ) (s : List ℕ) → limit ≤ 2 ^ 32 - 1 → timePart limit s ≡ fit limit (unsignedOf s)
 unfolding timePart
 timePart-fit limit s h = fit-fit limit (2 ^ 32 - 1) (unsignedOf s) h
 

@@ -8,9 +8,8 @@ use mathlib.Core.List.{List, [], _∷_}
 use lib.Dec.{eqb, ltb}
 use lib.ListN.{length, getD, take, drop}
 use Rattle.text.specs.Bytes.{isDigit, isSign}
-use Rattle.text.specs.Places.{lastPlace, lastWhere}
+use Rattle.text.specs.Places.{before, lastPlace, lastWhere}
 use Rattle.text.specs.Trim.{trim}
-use Rattle.iso.specs.Parts.{before}
 
 -- s ends with a `Z`
 unfoldable pub endsWithZ : List ℕ → Bool

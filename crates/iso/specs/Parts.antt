@@ -1,22 +1,17 @@
--- Parts of a text that "Reading ISO dates" speaks of: fields of two bytes, what stands before a byte, a text without a byte; and
--- signed 32-bit fields. Places count from 0.
+-- Parts of a text that "Reading ISO dates" speaks of: fields of two bytes, a text without a byte; and signed 32-bit fields. Places
+-- count from 0.
 -- Assumes nothing.
 use Prim.Native.Nat.{ℕ, _^_}
 use mathlib.Core.Bool.{cond}
 use mathlib.Core.List.{List, [], _∷_}
 use lib.Dec.{eqb}
 use lib.ListN.{take, drop}
-use Rattle.text.specs.Places.{firstPlace}
 use Rattle.text.specs.Number.{signedOf, fitSigned}
 use Rattle.text.specs.declared.number.Integer.{Integer}
 
 -- the two bytes from i
 abbrev pub two : ℕ → List ℕ → List ℕ
 two i s = take 2 (drop i s)
-
--- what stands before the first b; all, if there is none
-abbrev pub before : ℕ → List ℕ → List ℕ
-before b s = take (firstPlace b s) s
 
 -- s with each b removed
 unfoldable pub without : ℕ → List ℕ → List ℕ

@@ -28,7 +28,7 @@ fn colon_time(h: &[u8], s: &[u8]) -> Number
 {
     let i = places::first_place(s, 58);
     if i < s.len() {
-        return clock(h, &s[..i], parts::before(&s[i + 1..], 58));
+        return clock(h, &s[..i], places::before(&s[i + 1..], b':'));
     }
     clock(h, s, b"0")
 }

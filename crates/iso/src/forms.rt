@@ -5,8 +5,8 @@ ghost use mathlib.Core.Bool.{true};
 ghost use Prim.Native.Nat.{_≤_};
 ghost use lib.ListN.{length};
 ghost use Rattle.text.specs.Number.{AtMost};
-ghost use Rattle.iso.specs.Offset.{Within};
-ghost use Rattle.iso.specs.Forms.{saidOf, fieldsOf, isSeparator, flexible, compact, dashOf, isDotted, dotted, formOf, FieldsIn};
+ghost use Rattle.iso.specs.Forms.{saidOf, fieldsOf, isSeparator, flexible, compact, dashOf, isDotted, dotted, formOf};
+ghost use Rattle.iso.specs.Held.{Within, FieldsIn};
 use crate::clock;
 use crate::cut;
 use crate::offset;
@@ -135,7 +135,7 @@ fn read_fields(y: &[u8], m: &[u8], d: &[u8], s: &[u8]) -> Fields
 {
     let r = trim::trimmed(s);
     let i = cut::split_time_and_offset(r);
-    let t = clock::parse_time_component(trim::trimmed(parts::before(&r[..i], 46)));
+    let t = clock::parse_time_component(trim::trimmed(places::before(&r[..i], b'.')));
     let o = offset::parse_flexible_offset(trim::trimmed(&r[i..]));
     let year = number::signed_number(y, 2147483648);
     let month = number::signed_number(m, 2147483648);

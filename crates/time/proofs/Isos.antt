@@ -1,130 +1,147 @@
--- The ISO line. In order: which instant is shown; the writer's answers, each with the room that it leaves; the line is 25 bytes.
+-- The ISO line. In order: which time has a line, and of which instant; the writer's answers, each with the room that it leaves; what
+-- the time of a line that was written is like; the time that a line shows.
 -- Assumes nothing.
-use mathlib.Core.Path.{_≡_, refl, sym, ap, _∙_}
-use mathlib.Core.Bool.{Bool, cond}
+use mathlib.Core.Path.{_≡_, refl}
+use mathlib.Core.Bool.{true, _&&_}
 use mathlib.Core.List.{List, _++_}
-use Prim.Native.Nat.{ℕ, _+_, _-_, _/_, _%_, _≤_, _<_}
+use Prim.Native.Nat.{ℕ, _/_, _%_, _≤_, _<_}
 use native.Mathlib.Omega.{arith}
-use borrow.Author.Tests.{le-leb, lt-leb, lt-ltb, le-ltb, leb-false}
-use lib.Dec.{leb}
+use borrow.Author.Tests.{le-leb, lt-leb, lt-ltb, le-ltb, leb-true, leb-false, ltb-true}
+use lib.Dec.{leb, ltb}
 use lib.IntN.{ℤ, pos, negsuc, natAbs}
 use lib.ListN.{length, take, drop}
 use Rattle.ints.specs.Range.{In}
 use Rattle.ints.proofs.Parts.{parts-le}
 use Rattle.ints.proofs.Machine.{isIn-of-In}
-use Rattle.text.proofs.Lists.{by-test}
+use Rattle.text.specs.Room.{roomAfter}
+use Rattle.text.proofs.Lists.{by-test, both}
 use Rattle.text.proofs.Putting.{put-put}
 use Rattle.time.specs.Range.{leastOffset, mostOffset, secondsInRange, offsetInRange, timeInRange, instantOf, movedOf}
+use Rattle.time.specs.Answers.{isWritten}
 use Rattle.time.specs.Clock.{clockOf}
-use Rattle.time.specs.Header.{signByte, wholeMinutes, roomAfter}
-use Rattle.time.specs.Iso.{fieldBefore, dateBefore, clockBefore, offsetBefore, shownClock, isoBytes, shownOf, isoWritten}
+use Rattle.time.specs.Iso.{lineClock, yearOf, dateBefore, clockBefore, offsetBefore, clockLine, lineBytes, lineOf, writtenAt, lineWritten, shown}
 use Rattle.time.specs.declared.Time.{Time}
 use Rattle.time.specs.declared.Refusal.{Refusal}
 use Rattle.time.specs.declared.Refusal.the-variants.{Offset, Range, Room}
 use Rattle.time.specs.declared.Written.{Written}
 use Rattle.time.specs.declared.Written.the-variants.{Length, Refused}
 use Rattle.time.specs.declared.range.Instant.{Instant}
+use Rattle.time.specs.declared.range.Moved.{Moved}
 use Rattle.time.specs.declared.range.Moved.the-variants.{In as Inside, Out}
 use Rattle.time.specs.declared.clock.Clock.{Clock}
-use Rattle.time.specs.declared.format.Shown.the-variants.{At, Not}
+use Rattle.time.specs.declared.format.Line.{Line}
+use Rattle.time.specs.declared.format.Line.the-variants.{At, Refused as NoLine}
 
--- ---- which instant is shown
-pub shownOf-of-wide : (t : Time) → 86400 ≤ natAbs (t .offset) → shownOf t ≡ Not Offset
-unfolding shownOf
-shownOf-of-wide t h = rw (le-leb 86400 (natAbs (t .offset)) h)
+-- ---- which time has a line
+pub lineOf-of-wide : (t : Time) → 86400 ≤ natAbs (t .offset) → NoLine Offset ≡ lineOf t
+unfolding lineOf
+lineOf-of-wide t h = rw (le-leb 86400 (natAbs (t .offset)) h)
 
 -- an offset under a day is in range
 offset-in : (z : ℤ) → natAbs z < 86400 → In leastOffset mostOffset z
 offset-in (pos n) h = record { low = parts-le _ _ (omega arith); high = parts-le _ _ (omega arith) }
 offset-in (negsuc n) h = record { low = parts-le _ _ (omega arith); high = parts-le _ _ (omega arith) }
 
--- so that the move tells of the seconds alone
-movedOf-of-narrow : (t : Time) → natAbs (t .offset) < 86400 → movedOf t ≡ cond (secondsInRange (t .seconds)) (Inside (instantOf t)) Out
-unfolding movedOf timeInRange offsetInRange
-movedOf-of-narrow t h =
-    by-test (secondsInRange (t .seconds)) (λ e. rw (e, isIn-of-In (offset-in (t .offset) h))) (λ e. rw e)
+-- so that the move to numbers from 0 depends on the seconds alone
+abbrev pub lineFrom : Moved → Line
+lineFrom (Inside i) = At i
+lineFrom Out = NoLine Range
 
-pub shownOf-of-in : (t : Time) (i : Instant) → natAbs (t .offset) < 86400 → movedOf t ≡ Inside i → At i ≡ shownOf t
-unfolding shownOf
-shownOf-of-in t i h e =
+pub lineOf-of-narrow : (t : Time) → natAbs (t .offset) < 86400 → lineFrom (movedOf t) ≡ lineOf t
+unfolding lineOf movedOf timeInRange offsetInRange
+lineOf-of-narrow t h =
     by-test (secondsInRange (t .seconds))
-    (λ y. rw (lt-leb 86400 (natAbs (t .offset)) h, y) (cc (sym e ∙ movedOf-of-narrow t h ∙ ap (λ (b : Bool). cond b (Inside (instantOf t)) Out) y)))
-    (λ n. absurd (clash (sym e ∙ movedOf-of-narrow t h ∙ ap (λ (b : Bool). cond b (Inside (instantOf t)) Out) n)))
-  where
-    clash : Inside i ≡ Out → ⊥
-    clash p = let z : _≡_ {A = ℕ} 0 1 = cc in omega arith
+    (λ e. rw (lt-leb 86400 (natAbs (t .offset)) h, e, isIn-of-In (offset-in (t .offset) h)))
+    (λ e. rw (lt-leb 86400 (natAbs (t .offset)) h, e))
 
-pub shownOf-of-out : (t : Time) → natAbs (t .offset) < 86400 → movedOf t ≡ Out → Not Range ≡ shownOf t
-unfolding shownOf
-shownOf-of-out t h e =
-    by-test (secondsInRange (t .seconds))
-    (λ y. absurd (clash (sym e ∙ movedOf-of-narrow t h ∙ ap (λ (b : Bool). cond b (Inside (instantOf t)) Out) y)))
-    (λ n. rw (lt-leb 86400 (natAbs (t .offset)) h, n))
-  where
-    clash : Out ≡ Inside (instantOf t) → ⊥
-    clash p = let z : _≡_ {A = ℕ} 0 1 = cc in omega arith
+-- a time that has a line
+pub record HasLine (t : Time) (i : Instant) : Type 0 where
+  pub narrow : natAbs (t .offset) < 86400
+  pub instant : i ≡ instantOf t
 
-pub instant-of-shown : (t : Time) (i : Instant) → shownOf t ≡ At i → i ≡ instantOf t
-unfolding shownOf
-instant-of-shown t i e =
-    by-test (leb 86400 (natAbs (t .offset))) (λ y. absurd (clash Offset (sym (rw y at e))))
-    (λ n. by-test (secondsInRange (t .seconds)) (λ y. same (sym (rw (n, y) at e))) (λ m. absurd (clash Range (sym (rw (n, m) at e)))))
+pub HasLine-of-At : (t : Time) (i : Instant) → lineOf t ≡ At i → HasLine t i
+unfolding lineOf
+HasLine-of-At t i e =
+    by-test (leb 86400 (natAbs (t .offset))) (λ y. absurd (clash Offset (rw y at e)))
+    (λ n. by-test (secondsInRange (t .seconds))
+    (λ y. record { narrow = leb-false 86400 (natAbs (t .offset)) n; instant = same (rw (n, y) at e) })
+    (λ m. absurd (clash Range (rw (n, m) at e))))
   where
-    clash : (r : Refusal) → At i ≡ Not r → ⊥
+    clash : (r : Refusal) → NoLine r ≡ At i → ⊥
     clash r p = let z : _≡_ {A = ℕ} 0 1 = cc in omega arith
 
-    same : At i ≡ At (instantOf t) → i ≡ instantOf t
+    same : At (instantOf t) ≡ At i → i ≡ instantOf t
     same p = cc
 
-pub narrow-of-shown : (t : Time) (i : Instant) → shownOf t ≡ At i → natAbs (t .offset) < 86400
-unfolding shownOf
-narrow-of-shown t i e = by-test (leb 86400 (natAbs (t .offset))) (λ y. absurd (clash (sym (rw y at e)))) (λ n. leb-false 86400 (natAbs (t .offset)) n)
-  where
-    clash : At i ≡ Not Offset → ⊥
-    clash p = let z : _≡_ {A = ℕ} 0 1 = cc in omega arith
+-- ---- the answers of the line's writer: r, with the room that it leaves; first those of a clock's line, at an offset
+abbrev WroteClock : Written → List ℕ → Clock → ℤ → List ℕ → Type 0
+WroteClock r after c o room = (r ≡ writtenAt c room) × (after ≡ roomAfter (isWritten (writtenAt c room)) (clockLine c o) room)
 
--- a line in front of what stands beyond it
-isoBytes-append : (t : Time) (i : Instant) (c : Clock) (room : List ℕ) → shownOf t ≡ At i → c ≡ clockOf i
-    → isoBytes t ++ room ≡ dateBefore c (clockBefore c (offsetBefore (t .offset) room))
-unfolding isoBytes
-isoBytes-append t i c room e k =
-    λ j. let d : c ≡ shownClock t = k ∙ ap clockOf (instant-of-shown t i e) in dateBefore (sym d j) (clockBefore (sym d j) (offsetBefore (t .offset) room))
-
--- ---- the answers: r, with the room that it leaves
-abbrev pub WroteIso : Written → List ℕ → Time → List ℕ → Type 0
-WroteIso r after t room = (r ≡ isoWritten t room) × (after ≡ roomAfter (isoWritten t room) (isoBytes t) room)
-
-pub wroteIso-not : (t : Time) (r : Refusal) (room : List ℕ) → shownOf t ≡ Not r → WroteIso (Refused r) room t room
-unfolding isoWritten
-wroteIso-not t r room e = (rw e, rw e)
-
-module _ (t : Time) (i : Instant) (c : Clock) (room : List ℕ) (e : shownOf t ≡ At i) (k : c ≡ clockOf i) where
-  pub wroteIso-year : c .date .month < 120000 → WroteIso (Refused Range) room t room
-  unfolding isoWritten
-  wroteIso-year h =
+module _ (c : Clock) (o : ℤ) (room : List ℕ) where
+  pub wroteClock-year : c .date .month < 120000 → WroteClock (Refused Range) room c o room
+  wroteClock-year h =
       let y = lt-leb 10000 (c .date .month / 12) (omega arith) in
-      (rw (e, ← k, y), rw (e, ← k, y))
+      (rw y, rw y)
 
   module _ (h : 120000 ≤ c .date .month) (g : c .date .month < 240000) where
-    pub wroteIso-short : length room < 25 → WroteIso (Refused Room) room t room
-    unfolding isoWritten
-    wroteIso-short l =
+    pub wroteClock-short : length room < 25 → WroteClock (Refused Room) room c o room
+    wroteClock-short l =
         let y = le-leb 10000 (c .date .month / 12) (omega arith) in
         let z = lt-ltb (c .date .month / 12) 20000 (omega arith) in
         let s = lt-ltb (length room) 25 l in
-        (rw (e, ← k, y, z, s), rw (e, ← k, y, z, s))
+        (rw (y, z, s), rw (y, z, s))
 
-    pub wroteIso-whole : (r₁ r₂ r₃ : List ℕ) (b m : ℕ) → 25 ≤ length room → b ≡ signByte (t .offset) → m ≡ natAbs (t .offset)
-        → r₁ ≡ take 19 room ++ fieldBefore b (m / 60 / 60) (fieldBefore 58 (m / 60 % 60) (drop 25 room)) → r₂ ≡ take 10 r₁ ++ clockBefore c (drop 19 r₁)
-        → r₃ ≡ dateBefore c (drop 10 r₂) → WroteIso (Length 25) r₃ t room
-    unfolding isoWritten wholeMinutes
-    wroteIso-whole r₁ r₂ r₃ b m l p q e₁ e₂ e₃ =
+    pub wroteClock-whole : (r₁ r₂ r₃ : List ℕ) → 25 ≤ length room → r₁ ≡ take 19 room ++ offsetBefore o (drop 25 room)
+        → r₂ ≡ take 10 r₁ ++ clockBefore c (drop 19 r₁) → r₃ ≡ dateBefore c (drop 10 r₂) → WroteClock (Length 25) r₃ c o room
+    wroteClock-whole r₁ r₂ r₃ l e₁ e₂ e₃ =
         let y = le-leb 10000 (c .date .month / 12) (omega arith) in
         let z = lt-ltb (c .date .month / 12) 20000 (omega arith) in
         let s = le-ltb (length room) 25 l in
         let two = put-put (clockBefore c) room _ r₁ r₂ 10 10 19 e₁ e₂ refl (omega arith) (omega arith) in
-        let three = put-put (dateBefore c) room _ r₂ r₃ 0 0 10 two e₃ refl (omega arith) (omega arith) in (
-          rw (e, ← k, y, z, s),
-          rw (e, ← k, y, z, s)
-              (three ∙ (λ j. dateBefore c (clockBefore c (fieldBefore (p j) (q j / 60 / 60) (fieldBefore 58 (q j / 60 % 60) (drop 25 room))))) ∙ sym (isoBytes-append t i c (drop 25 room) e k)),
-        )
+        let three = put-put (dateBefore c) room _ r₂ r₃ 0 0 10 two e₃ refl (omega arith) (omega arith) in
+        (rw (y, z, s), rw (y, z, s) three)
+
+-- and of a time's
+abbrev WroteLine : Written → List ℕ → Time → List ℕ → Type 0
+WroteLine r after t room = (r ≡ lineWritten t room) × (after ≡ roomAfter (isWritten (lineWritten t room)) (lineBytes t) room)
+
+pub wroteLine-not : (t : Time) (r : Refusal) (room : List ℕ) → lineOf t ≡ NoLine r → WroteLine (Refused r) room t room
+unfolding lineWritten
+wroteLine-not t r room e = (rw e, rw e)
+
+pub wroteLine-At : (t : Time) (i : Instant) (o : ℤ) (room : List ℕ) (r : Written) (after : List ℕ) → lineOf t ≡ At i → o ≡ t .offset
+    → WroteClock r after (clockOf i) o room → WroteLine r after t room
+unfolding lineWritten lineBytes
+wroteLine-At t i o room r after e p w =
+    let d = HasLine-of-At t i e .instant in
+    rw (e, ← d, ← p) w
+
+-- ---- what the time of a line that was written is like
+pub record WasWritten (t : Time) : Type 0 where
+  pub narrow : natAbs (t .offset) < 86400
+  pub seconds : secondsInRange (t .seconds) ≡ true
+  pub year-low : 120000 ≤ lineClock t .date .month
+  pub year-high : lineClock t .date .month < 240000
+
+pub wasWritten : (t : Time) (room : List ℕ) (n : ℕ) → lineWritten t room ≡ Length n → WasWritten t
+unfolding lineWritten lineOf
+wasWritten t room n e =
+    let c : Clock = lineClock t in
+    by-test (leb 86400 (natAbs (t .offset))) (λ y. absurd (clash Offset (rw y at e)))
+    (λ a. by-test (secondsInRange (t .seconds))
+    (λ b. by-test (leb 10000 (yearOf c) && ltb (yearOf c) 20000)
+    (λ y.
+    let p = both (leb 10000 (yearOf c)) (ltb (yearOf c) 20000) y in
+    let l : 10000 ≤ yearOf c = leb-true 10000 (yearOf c) (p .0) in
+    let h : yearOf c < 20000 = ltb-true (yearOf c) 20000 (p .1) in
+    record { narrow = leb-false 86400 (natAbs (t .offset)) a; seconds = b; year-low = omega arith; year-high = omega arith })
+    (λ m. absurd (clash Range (rw (a, b, m) at e))))
+    (λ m. absurd (clash Range (rw (a, m) at e))))
+  where
+    clash : (r : Refusal) → Refused r ≡ Length n → ⊥
+    clash r p = let z : _≡_ {A = ℕ} 0 1 = cc in omega arith
+
+-- ---- the time that a line shows
+pub shown-of-whole-minutes : (t : Time) → natAbs (t .offset) % 60 ≡ 0 → shown t ≡ t
+unfolding shown
+shown-of-whole-minutes t h = refl

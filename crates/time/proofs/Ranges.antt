@@ -1,16 +1,16 @@
--- The range, in signed numbers and in numbers from 0. In order: seconds from 0 are in range exactly between two numbers; a time in
--- range moved to numbers from 0 and back is itself, and the other way.
+-- The range, in signed numbers and in numbers from 0. In order: seconds from 0 are in range exactly between two numbers; an instant as
+-- an answer; the move to numbers from 0; a time in range moved so and back is itself.
 -- Assumes nothing.
 use mathlib.Core.Path.{_≡_}
 use mathlib.Core.Bool.{true, false, _&&_}
-use Prim.Native.Nat.{ℕ, _+_, _≤_, _<_}
+use Prim.Native.Nat.{ℕ, _-_, _≤_, _<_}
 use native.Mathlib.Omega.{arith}
-use borrow.Author.Tests.{le-leb, lt-leb}
+use borrow.Author.Tests.{le-leb, lt-leb, leb-true}
 use lib.Dec.{leb}
-use lib.IntN.{pos, _+ℤ_, _-ℤ_}
+use lib.IntN.{pos, negsuc, negℤ, _+ℤ_, _-ℤ_}
 use lib.Signed.{_≤ℤ_}
 use Rattle.ints.specs.Range.{In, isIn}
-use Rattle.ints.proofs.Parts.{add-parts, le-parts, parts-le, natAbs-add-sub, natAbs-sub-add}
+use Rattle.ints.proofs.Parts.{add-parts, up-neg, dn-neg, parts-eq, le-parts, parts-le, natAbs-add-sub}
 use Rattle.ints.proofs.Machine.{leZ-sub-sub, isIn-of-In, In-of-isIn}
 use Rattle.text.proofs.Lists.{both}
 use Rattle.time.specs.Range.{leastSeconds, mostSeconds, secondsInRange, leastOffset, mostOffset, offsetInRange, timeInRange, since1970, timeOf, instantOf, movedOf, answerAt, InRange}
@@ -25,13 +25,36 @@ pub secondsInRange-since1970 : (n : ℕ) → secondsInRange (since1970 n) ≡ (l
 unfolding secondsInRange
 secondsInRange-since1970 n = rw (leZ-sub-sub 31715999 n 377736739200, leZ-sub-sub n 631138946400 377736739200)
 
+pub range-of-secondsInRange : (n : ℕ) → secondsInRange (since1970 n) ≡ true → (31715999 ≤ n) × (n ≤ 631138946400)
+range-of-secondsInRange n e =
+    let p = both (leb 31715999 n) (leb n 631138946400) (rw (secondsInRange-since1970 n) at e) in
+    (leb-true 31715999 n (p .0), leb-true n 631138946400 (p .1))
+
+-- and offsets from 1 to 187199
 offsetInRange-sub : (n : ℕ) → offsetInRange (pos n -ℤ pos 93600) ≡ (leb 1 n && leb n 187199)
 unfolding offsetInRange
 offsetInRange-sub n = rw (leZ-sub-sub 1 n 93600, leZ-sub-sub n 187199 93600)
 
+offset-range : (o : ℕ) → offsetInRange (pos o -ℤ pos 93600) ≡ true → (1 ≤ o) × (o ≤ 187199)
+offset-range o e =
+    let p = both (leb 1 o) (leb o 187199) (rw (offsetInRange-sub o) at e) in
+    (leb-true 1 o (p .0), leb-true o 187199 (p .1))
+
+-- n seconds earlier
+pub since1970-sub : (t n : ℕ) → n ≤ t → since1970 (t - n) ≡ since1970 t -ℤ pos n
+since1970-sub t n h =
+    parts-eq _ _ (omega (
+      arith,
+      add-parts (since1970 t) (negℤ (pos n)),
+      add-parts (pos t) (negsuc 377736739199),
+      add-parts (pos (t - n)) (negsuc 377736739199),
+      up-neg (pos n),
+      dn-neg (pos n),
+    ))
+
 -- ---- an instant as an answer
 module _ (i : Instant) where
-  pub timeInRange-timeOf : timeInRange (timeOf i) ≡ ((leb 31715999 (i .seconds) && leb (i .seconds) 631138946400) && (leb 1 (i .offset) && leb (i .offset) 187199))
+  timeInRange-timeOf : timeInRange (timeOf i) ≡ ((leb 31715999 (i .seconds) && leb (i .seconds) 631138946400) && (leb 1 (i .offset) && leb (i .offset) 187199))
   unfolding timeInRange
   timeInRange-timeOf = rw (secondsInRange-since1970 (i .seconds), offsetInRange-sub (i .offset))
 
@@ -56,6 +79,14 @@ module _ (i : Instant) where
   unfolding answerAt
   answerAt-of-InRange p =
       rw (timeInRange-timeOf, le-leb 31715999 (i .seconds) (p .early), le-leb (i .seconds) 631138946400 (p .late), le-leb 1 (i .offset) (p .west), le-leb (i .offset) 187199 (p .east))
+
+  pub InRange-of-timeOf : timeInRange (timeOf i) ≡ true → InRange i
+  unfolding timeInRange
+  InRange-of-timeOf e =
+      let p = both (secondsInRange (since1970 (i .seconds))) (offsetInRange (pos (i .offset) -ℤ pos 93600)) e in
+      let s = range-of-secondsInRange (i .seconds) (p .0) in
+      let o = offset-range (i .offset) (p .1) in
+      record { early = s .0; late = s .1; west = o .0; east = o .1 }
 
 -- ---- what is moved
 movedOf-of-not : (t : Time) → timeInRange t ≡ false → movedOf t ≡ Out
@@ -84,6 +115,3 @@ timeOf-instantOf t e =
     let a : pos 0 ≤ℤ (t .seconds +ℤ pos 377736739200) = parts-le _ _ (omega (arith, le-parts (s .low), add-parts (t .seconds) (pos 377736739200))) in
     let b : pos 0 ≤ℤ (t .offset +ℤ pos 93600) = parts-le _ _ (omega (arith, le-parts (o .low), add-parts (t .offset) (pos 93600))) in
     λ i. record { seconds = natAbs-add-sub (t .seconds) 377736739200 a i; offset = natAbs-add-sub (t .offset) 93600 b i }
-
-pub instantOf-timeOf : (i : Instant) → instantOf (timeOf i) ≡ i
-instantOf-timeOf i = λ j. record { seconds = natAbs-sub-add (i .seconds) 377736739200 j; offset = natAbs-sub-add (i .offset) 93600 j }

@@ -6,9 +6,9 @@ use mathlib.Core.Path.{_≡_, refl, sym, _∙_}
 use mathlib.Core.Bool.{Bool, true, false, cond, _&&_}
 use mathlib.Core.List.{List, [], _∷_}
 use Prim.Native.Char.{code}
-use Prim.Native.Nat.{ℕ, suc, _+_, _-_, _/_, _%_, _^_, _≤_, _<_}
+use Prim.Native.Nat.{ℕ, _+_, _-_, _/_, _%_, _^_, _≤_, _<_}
 use native.Mathlib.Omega.{arith}
-use borrow.Author.Tests.{lt-leb, le-ltb, ltb-true}
+use borrow.Author.Tests.{lt-leb, le-ltb}
 use lib.Dec.{eqb, leb, ltb}
 use lib.IntN.{ℤ, pos, negsuc, natAbs}
 use lib.ListN.{length}
@@ -17,26 +17,23 @@ use mir.Val.{SFits}
 use Rattle.ints.proofs.Machine.{natAbs-le-of-SFits}
 use Rattle.calendar.proofs.Dates.{IsDate-of-dateOf, IsDate-day-lt}
 use Rattle.calendar.specs.Dates.{dateOf}
-use Rattle.text.proofs.Decimals.{length-decimal-le}
-use Rattle.text.proofs.Lists.{by-test, both}
+use Rattle.text.proofs.Signed.{length-signed-le}
+use Rattle.text.proofs.Lists.{by-test}
 use Rattle.text.proofs.Digits.{tens, ones}
 use Rattle.text.specs.Bytes.{isDigit, isSign}
-use Rattle.text.specs.Decimal.{decimal, decimalBy, decimalBefore}
+use Rattle.text.specs.Decimal.{decimalBy, decimalBefore, signed, signedBefore}
 use Rattle.text.specs.Quote.{bytes}
 use Rattle.time.specs.Clock.{clockOf, localOf}
 use Rattle.time.specs.Header.{sizeOf, headerBytes, headerWritten, signByte, wholeMinutes}
 use Rattle.time.specs.Range.{instantOf}
-use Rattle.time.specs.Iso.{isoBytes, isoWritten, shownOf, shownClock, yearOf, writtenAt, written}
+use Rattle.time.specs.Iso.{lineClock, yearOf, lineBytes, shown, isoBytes, isoWritten}
 use Rattle.time.specs.declared.Time.{Time}
 use Rattle.time.specs.declared.Refusal.{Refusal}
-use Rattle.time.specs.declared.Refusal.the-variants.{Offset, Room, Range}
+use Rattle.time.specs.declared.Refusal.the-variants.{Offset, Room}
 use Rattle.time.specs.declared.Written.the-variants.{Length, Refused}
 use Rattle.time.specs.declared.range.Instant.{Instant}
-use Rattle.time.specs.declared.clock.Clock.{Clock}
-use Rattle.time.specs.declared.format.Shown.{Shown}
-use Rattle.time.specs.declared.format.Shown.the-variants.{At, Not}
 use Rattle.time.proofs.Headers.{length-headerBytes}
-use Rattle.time.proofs.Isos.{narrow-of-shown, instant-of-shown}
+use Rattle.time.proofs.Isos.{WasWritten, wasWritten}
 
 -- ---- the header
 -- wherever a header is written, its length is `size` and that of the bytes
@@ -58,12 +55,11 @@ size-is-the-bytes-written t room n e = (told, told ∙ sym (length-headerBytes t
 -- no header of 64-bit seconds takes more than 26 bytes
 pub size-at-most-26 : (z : ℤ) → SFits w64 z → sizeOf z ≤ 26
 unfolding sizeOf
-size-at-most-26 (pos n) f = let k : n ≤ 2 ^ 63 = natAbs-le-of-SFits (pos n) f in omega (arith, length-decimal-le 18 n (omega arith))
-size-at-most-26 (negsuc n) f = let k : suc n ≤ 2 ^ 63 = natAbs-le-of-SFits (negsuc n) f in omega (arith, length-decimal-le 18 (suc n) (omega arith))
+size-at-most-26 z f = omega (arith, length-signed-le z (natAbs-le-of-SFits z f))
 
 -- and the least of them takes 26
 pub size-of-the-least : sizeOf (negsuc (2 ^ 63 - 1)) ≡ 26
-unfolding sizeOf decimal decimalBefore decimalBy
+unfolding sizeOf signed signedBefore decimalBefore decimalBy
 size-of-the-least = refl
 
 -- so 26 bytes are room enough: what is refused there is an offset too wide
@@ -75,7 +71,7 @@ room-for-every-header t room f l h =
 
 -- ---- the ISO line
 pub iso-line-is-25-bytes : (t : Time) → length (isoBytes t) ≡ 25
-unfolding isoBytes
+unfolding isoBytes lineBytes
 iso-line-is-25-bytes t = refl
 
 -- a line like a pattern, in which `0` stands for any digit and `+` for either sign
@@ -88,17 +84,10 @@ isLike [] (b ∷ s) = false
 isLike (p ∷ ps) [] = false
 isLike (p ∷ ps) (b ∷ s) = likeByte p b && isLike ps s
 
-sign : (z : ℤ) → isSign (signByte z) ≡ true
+pub isSign-signByte : (z : ℤ) → isSign (signByte z) ≡ true
 unfolding isSign signByte
-sign (pos n) = refl
-sign (negsuc n) = refl
-
--- what a line that is written tells of its clock and its offset
-pub record Fields (t : Time) : Type 0 where
-  pub year : (yearOf (shownClock t) - 10000) < 10000
-  pub day : shownClock t .date .day < 31
-  pub second : shownClock t .second < 86400
-  pub offset : natAbs (t .offset) < 86400
+isSign-signByte (pos n) = refl
+isSign-signByte (negsuc n) = refl
 
 -- every clock shows a day of a month and a second of a day
 clock-day : (i : Instant) → clockOf i .date .day < 31
@@ -109,44 +98,16 @@ clock-second : (i : Instant) → clockOf i .second < 86400
 unfolding clockOf
 clock-second i = omega arith
 
-year-of-written : (c : Clock) (room : List ℕ) (n : ℕ) → writtenAt c room ≡ Length n → (yearOf c - 10000) < 10000
-year-of-written c room n e =
-    by-test (leb 10000 (yearOf c) && ltb (yearOf c) 20000)
-    (λ y. omega (arith, ltb-true (yearOf c) 20000 (both (leb 10000 (yearOf c)) (ltb (yearOf c) 20000) y .1)))
-    (λ m. absurd (clash (rw m at e)))
-  where
-    clash : Refused Range ≡ Length n → ⊥
-    clash p = let z : _≡_ {A = ℕ} 0 1 = cc in omega arith
-
-fields-of-written : (t : Time) (room : List ℕ) (n : ℕ) → isoWritten t room ≡ Length n → Fields t
-unfolding isoWritten
-fields-of-written t room n e = go (shownOf t) refl e
-  where
-    clash : (r : Refusal) → Refused r ≡ Length n → ⊥
-    clash r p = let z : _≡_ {A = ℕ} 0 1 = cc in omega arith
-
-    go : (x : Shown) → shownOf t ≡ x → written x room ≡ Length n → Fields t
-    go (Not r) p q = absurd (clash r q)
-    go (At i) p q =
-        let k : i ≡ instantOf t = instant-of-shown t i p in
-        record {
-          year = year-of-written (shownClock t) room n (rw k at q);
-          day = clock-day (instantOf t);
-          second = clock-second (instantOf t);
-          offset = narrow-of-shown t i p;
-        }
-
-pub iso-line-has-its-shape : (t : Time) (room : List ℕ) (n : ℕ) → isoWritten t room ≡ Length n → isLike (bytes "0000-00-00T00:00:00+00:00") (isoBytes t) ≡ true
-unfolding isoBytes wholeMinutes
-iso-line-has-its-shape t room n e =
-    let f = fields-of-written t room n e in
-    let c = shownClock t in
+line-has-its-shape : (t : Time) → WasWritten t → isLike (bytes "0000-00-00T00:00:00+00:00") (lineBytes t) ≡ true
+unfolding lineBytes wholeMinutes
+line-has-its-shape t w =
+    let c = lineClock t in
     let y = yearOf c - 10000 in
     let m = natAbs (t .offset) / 60 in
-    let o : m / 60 < 100 = omega (arith, f .offset) in
-    let h : c .second / 3600 < 100 = omega (arith, f .second) in
-    let d : c .date .day + 1 < 100 = omega (arith, f .day) in
-    let yy : y / 100 < 100 = omega (arith, f .year) in
+    let o : m / 60 < 100 = omega (arith, w .narrow) in
+    let h : c .second / 3600 < 100 = omega (arith, clock-second (instantOf t)) in
+    let d : c .date .day + 1 < 100 = omega (arith, clock-day (instantOf t)) in
+    let yy : y / 100 < 100 = omega (arith, w .year-high) in
     rw (
       tens (y / 100) yy,
       ones (y / 100),
@@ -162,9 +123,13 @@ iso-line-has-its-shape t room n e =
       ones (c .second / 60 % 60),
       tens (c .second % 60) (omega arith),
       ones (c .second % 60),
-      sign (t .offset),
+      isSign-signByte (t .offset),
       tens (m / 60) o,
       ones (m / 60),
       tens (m % 60) (omega arith),
       ones (m % 60),
     )
+
+pub iso-line-has-its-shape : (t : Time) (room : List ℕ) (n : ℕ) → isoWritten t room ≡ Length n → isLike (bytes "0000-00-00T00:00:00+00:00") (isoBytes t) ≡ true
+unfolding isoBytes isoWritten
+iso-line-has-its-shape t room n e = line-has-its-shape (shown t) (wasWritten (shown t) room n e)

@@ -1,6 +1,7 @@
 -- Document 01, "Numbers returned": the number, time and length of each answer.
 -- Assumes nothing.
 use Prim.Native.Nat.{ℕ}
+use mathlib.Core.Bool.{Bool, true, false}
 use lib.IntN.{ℤ, pos}
 use Rattle.time.specs.declared.Time.{Time}
 use Rattle.time.specs.declared.Refusal.{Refusal}
@@ -41,3 +42,8 @@ writtenNumber (NotWritten r) = numberOf r
 abbrev pub writtenLength : Written → ℕ
 writtenLength (Length n) = n
 writtenLength (NotWritten r) = 0
+
+-- whether a writer wrote
+abbrev pub isWritten : Written → Bool
+isWritten (Length n) = true
+isWritten (NotWritten r) = false

@@ -1,7 +1,9 @@
 -- `TimeBuf`: 26 bytes, and how many of them the last time written took.
 -- Assumes nothing.
 use Prim.Native.Nat.{ℕ}
-use Rattle.time.specs.Header.{headerBytes, headerWritten, roomAfter}
+use Rattle.text.specs.Room.{roomAfter}
+use Rattle.time.specs.Answers.{isWritten}
+use Rattle.time.specs.Header.{headerBytes, headerWritten}
 use Rattle.time.specs.declared.Time.{Time}
 use Rattle.time.specs.declared.Written.{Written}
 use Rattle.time.specs.declared.Written.the-variants.{Length, Refused}
@@ -16,4 +18,4 @@ endAfter (Refused r) end = end
 unfoldable pub storedOf : Time → TimeBuf → Stored
 storedOf t b =
     let w = headerWritten t (b .bytes) in
-    record { answer = w; buf = record { bytes = roomAfter w (headerBytes t) (b .bytes); end = endAfter w (b .end) } }
+    record { answer = w; buf = record { bytes = roomAfter (isWritten w) (headerBytes t) (b .bytes); end = endAfter w (b .end) } }

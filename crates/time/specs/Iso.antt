@@ -1,5 +1,6 @@
 -- Document 01, "Writing", ISO (RFC 3339's shape): `YYYY-MM-DDTHH:MM:SS+HH:MM`, 25 bytes. The fields show the clock at the full
--- offset, the offset is printed cut to minutes, with `-` if it is negative.
+-- offset, the offset is printed cut to minutes, with `-` if it is negative. In two layers: the line of a time as it is, then the time
+-- that a line shows.
 -- Assumes nothing.
 use Prim.Native.Nat.{ℕ, _+_, _-_, _/_, _%_}
 use Prim.Native.Char.{code}
@@ -9,24 +10,20 @@ use lib.Dec.{leb, ltb}
 use lib.IntN.{ℤ, natAbs}
 use lib.ListN.{length}
 use Rattle.text.specs.Decimal.{twoBefore}
-use Rattle.time.specs.Answers.{timeAt}
 use Rattle.time.specs.Clock.{clockOf}
 use Rattle.time.specs.Header.{signByte, wholeMinutes}
-use Rattle.time.specs.Range.{secondsInRange, instantOf, InRange}
+use Rattle.time.specs.Range.{secondsInRange, instantOf}
 use Rattle.time.specs.declared.Time.{Time}
 use Rattle.time.specs.declared.Refusal.the-variants.{Offset, Range, Room}
 use Rattle.time.specs.declared.Written.{Written}
 use Rattle.time.specs.declared.Written.the-variants.{Length, Refused}
 use Rattle.time.specs.declared.clock.Clock.{Clock}
-use Rattle.time.specs.declared.format.Shown.{Shown}
-use Rattle.time.specs.declared.format.Shown.the-variants.{At, Not}
+use Rattle.time.specs.declared.format.Line.{Line}
+use Rattle.time.specs.declared.format.Line.the-variants.{At, Refused as NoLine}
 
--- the offset that is shown: the fields are its clock's, and it is what is printed, cut to minutes
-abbrev pub shownOffset : ℤ → ℤ
-shownOffset o = o
-
-abbrev pub shownClock : Time → Clock
-shownClock t = clockOf (instantOf (timeAt (t .seconds) (shownOffset (t .offset))))
+-- ---- the line of a time as it is
+abbrev pub lineClock : Time → Clock
+lineClock t = clockOf (instantOf t)
 
 -- the year of a clock, from year -10000
 abbrev pub yearOf : Clock → ℕ
@@ -52,27 +49,38 @@ clockBefore c t =
 abbrev pub offsetBefore : ℤ → List ℕ → List ℕ
 offsetBefore o t = fieldBefore (signByte o) (wholeMinutes o / 60) (fieldBefore (code ":") (wholeMinutes o % 60) t)
 
-unfoldable pub isoBytes : Time → List ℕ
-isoBytes t = dateBefore (shownClock t) (clockBefore (shownClock t) (offsetBefore (shownOffset (t .offset)) []))
+-- all of a line: a clock, and the offset that it is at
+abbrev pub clockLine : Clock → ℤ → List ℕ
+clockLine c o = dateBefore c (clockBefore c (offsetBefore o []))
 
--- 7 if the size of the offset is 86400 or more, then 6 if the seconds are out of range; else the instant shown
-unfoldable pub shownOf : Time → Shown
-shownOf t =
-    cond (leb 86400 (natAbs (t .offset))) (Not Offset)
-    (cond (secondsInRange (t .seconds)) (At (instantOf (timeAt (t .seconds) (shownOffset (t .offset))))) (Not Range))
+unfoldable pub lineBytes : Time → List ℕ
+lineBytes t = clockLine (lineClock t) (t .offset)
+
+-- 7 if the size of the offset is 86400 or more, then 6 if the seconds are out of range; else the instant whose clock it is
+unfoldable pub lineOf : Time → Line
+lineOf t =
+    cond (leb 86400 (natAbs (t .offset))) (NoLine Offset)
+    (cond (secondsInRange (t .seconds)) (At (instantOf t)) (NoLine Range))
 
 -- 6 too if the local year is outside 0 to 9999, then 8
 abbrev pub writtenAt : Clock → List ℕ → Written
 writtenAt c room =
     cond (leb 10000 (yearOf c) && ltb (yearOf c) 20000) (cond (ltb (length room) 25) (Refused Room) (Length 25)) (Refused Range)
 
-abbrev pub written : Shown → List ℕ → Written
+abbrev pub written : Line → List ℕ → Written
 written (At i) room = writtenAt (clockOf i) room
-written (Not r) room = Refused r
+written (NoLine r) room = Refused r
+
+unfoldable pub lineWritten : Time → List ℕ → Written
+lineWritten t room = written (lineOf t) room
+
+-- ---- the ISO line of a time
+-- the time that a line shows: today the time itself
+unfoldable pub shown : Time → Time
+shown t = t
+
+unfoldable pub isoBytes : Time → List ℕ
+isoBytes t = lineBytes (shown t)
 
 unfoldable pub isoWritten : Time → List ℕ → Written
-isoWritten t room = written (shownOf t) room
-
-abbrev pub ShownInRange : Shown → Type 0
-ShownInRange (At i) = InRange i
-ShownInRange (Not r) = Unit {0}
+isoWritten t room = lineWritten (shown t) room

@@ -6,6 +6,7 @@ use Prim.Native.Nat.{ℕ, _≤_}
 use mathlib.Core.Bool.{Bool, cond, _&&_}
 use lib.IntN.{ℤ, pos, negsuc, natAbs, _+ℤ_, _-ℤ_}
 use Rattle.ints.specs.Range.{isIn}
+use Rattle.time.specs.Answers.{timeAt}
 use Rattle.time.specs.declared.Time.{Time}
 use Rattle.time.specs.declared.Refusal.the-variants.{Range}
 use Rattle.time.specs.declared.Answer.{Answer}
@@ -42,7 +43,7 @@ abbrev pub since1970 : ℕ → ℤ
 since1970 n = pos n -ℤ pos 377736739200
 
 abbrev pub timeOf : Instant → Time
-timeOf i = record { seconds = since1970 (i .seconds); offset = pos (i .offset) -ℤ pos 93600 }
+timeOf i = timeAt (since1970 (i .seconds)) (pos (i .offset) -ℤ pos 93600)
 
 -- the other way, of a time in range: there neither sum is below 0
 abbrev pub instantOf : Time → Instant

@@ -3,11 +3,13 @@ ghost use mathlib.Core.Path.{_≡_};
 ghost use mathlib.Core.List.{_++_};
 ghost use Prim.Native.Nat.{_+_, _-_, _≤_, _<_, _/_, _%_};
 ghost use lib.ListN.{length, take, drop};
+ghost use lib.IntN.{natAbs};
+ghost use Rattle.text.specs.Room.{roomAfter};
 ghost use Rattle.calendar.specs.Table.{IsMonths};
+ghost use Rattle.time.specs.Answers.{isWritten};
 ghost use Rattle.time.specs.Clock.{clockOf};
-ghost use Rattle.time.specs.Header.{roomAfter};
-ghost use Rattle.time.specs.Iso.{fieldBefore, dateBefore, clockBefore, isoBytes, isoWritten, shownOf, ShownInRange};
-ghost use Rattle.time.specs.declared.format.Shown.the-variants.{At};
+ghost use Rattle.time.specs.Iso.{fieldBefore, dateBefore, clockBefore, offsetBefore, clockLine, lineBytes, lineOf, writtenAt, lineWritten, shown as shownTime};
+ghost use Rattle.time.specs.Held.{LineInRange};
 ghost use Rattle.time.specs.Range.{InRange};
 use crate::Refusal;
 use crate::Time;
@@ -19,33 +21,55 @@ use crate::range::Moved;
 use crate::write;
 use text::decimal;
 
-// The instant whose clock an ISO line shows, or why there is none.
-pub enum Shown {
+// The instant whose clock a line shows, or why the time has no line.
+pub enum Line {
     At(Instant),
-    Not(Refusal),
+    Refused(Refusal),
 }
 
-pub fn shown_of(t: Time) -> Shown
-    ensures is { λ r. ⌜ r ≡ shownOf t ⌝ }
-    ensures range { λ r. ⌜ ShownInRange r ⌝ }
+// The time that a line shows: today the time itself.
+pub fn shown(t: Time) -> Time
+    ensures { λ r. ⌜ r ≡ shownTime t ⌝ }
+{
+    t
+}
+
+// Writes the line of a time as it is.
+pub fn write_line_with(t: Time, months: &[u32], room: &mut [u8]) -> Written
+    requires { ⌜ IsMonths (now months) ⌝ }
+    ensures { λ r. ⌜ r ≡ lineWritten t (now (room .entry)) ⌝ }
+    ensures { λ _. ⌜ now (room .exit) ≡ roomAfter (isWritten (lineWritten t (now (room .entry)))) (lineBytes t) (now (room .entry)) ⌝ }
+{
+    let offset = t.offset;
+    let line = line_of(t);
+    match line {
+        Line::At(i) => write_instant(months, i, offset, room),
+        Line::Refused(r) => Written::Refused(r),
+    }
+}
+
+fn line_of(t: Time) -> Line
+    ensures is { λ r. ⌜ r ≡ lineOf t ⌝ }
+    ensures range { λ r. ⌜ LineInRange r ⌝ }
 {
     let offset = t.offset;
     if 86400 <= write::offset_size(offset) {
-        return Shown::Not(Refusal::Offset);
+        return Line::Refused(Refusal::Offset);
     }
     let moved = range::instant_of(t);
     let Moved::In(i) = moved else {
-        return Shown::Not(Refusal::Range);
+        return Line::Refused(Refusal::Range);
     };
-    Shown::At(i)
+    Line::At(i)
 }
 
-// Writes the line of a time whose instant is i.
-pub fn write_shown(months: &[u32], t: Time, i: Instant, room: &mut [u8]) -> Written
+// Writes the line of an instant, with this offset printed.
+fn write_instant(months: &[u32], i: Instant, offset: i32, room: &mut [u8]) -> Written
     requires table { ⌜ IsMonths (now months) ⌝ }
-    requires instant { ⌜ (shownOf t ≡ At i) × InRange i ⌝ }
-    ensures { λ r. ⌜ r ≡ isoWritten t (now (room .entry)) ⌝ }
-    ensures { λ _. ⌜ now (room .exit) ≡ roomAfter (isoWritten t (now (room .entry))) (isoBytes t) (now (room .entry)) ⌝ }
+    requires range { ⌜ InRange i ⌝ }
+    requires offset { ⌜ natAbs offset < 86400 ⌝ }
+    ensures { λ r. ⌜ r ≡ writtenAt (clockOf i) (now (room .entry)) ⌝ }
+    ensures { λ _. ⌜ now (room .exit) ≡ roomAfter (isWritten (writtenAt (clockOf i) (now (room .entry)))) (clockLine (clockOf i) offset) (now (room .entry)) ⌝ }
 {
     let c = local_clock(months, i);
     let month = c.date.month;
@@ -55,12 +79,7 @@ pub fn write_shown(months: &[u32], t: Time, i: Instant, room: &mut [u8]) -> Writ
     if room.len() < 25 {
         return Written::Refused(Refusal::Room);
     }
-    let offset = t.offset;
-    put_offset(
-        write::sign_byte(offset),
-        write::offset_size(offset) / 60,
-        room,
-    );
+    put_offset(offset, room);
     put_clock(c, room);
     put_date(c, room);
     Written::Length(25)
@@ -92,12 +111,13 @@ fn put_field(b: u8, n: u64, end: usize, room: &mut [u8])
 }
 
 // `+HH:MM`, the last six bytes.
-fn put_offset(sign: u8, minutes: u64, room: &mut [u8])
-    requires { ⌜ (minutes < 6000) × (25 ≤ length (now room)) ⌝ }
-    ensures { λ _. ⌜ now (room .exit) ≡ take 19 (now (room .entry)) ++ fieldBefore sign (minutes / 60) (fieldBefore 58 (minutes % 60) (drop 25 (now (room .entry)))) ⌝ }
+fn put_offset(offset: i32, room: &mut [u8])
+    requires { ⌜ (natAbs offset < 86400) × (25 ≤ length (now room)) ⌝ }
+    ensures { λ _. ⌜ now (room .exit) ≡ take 19 (now (room .entry)) ++ offsetBefore offset (drop 25 (now (room .entry))) ⌝ }
 {
-    put_field(58, minutes % 60, 25, room);
-    put_field(sign, minutes / 60, 22, room);
+    let minutes = write::offset_size(offset) / 60;
+    put_field(b':', minutes % 60, 25, room);
+    put_field(write::sign_byte(offset), minutes / 60, 22, room);
 }
 
 // `THH:MM:SS`, the nine bytes before.
@@ -106,9 +126,9 @@ fn put_clock(c: Clock, room: &mut [u8])
     ensures { λ _. ⌜ now (room .exit) ≡ take 10 (now (room .entry)) ++ clockBefore c (drop 19 (now (room .entry))) ⌝ }
 {
     let second = c.second;
-    put_field(58, second % 60, 19, room);
-    put_field(58, second / 60 % 60, 16, room);
-    put_field(84, second / 3600, 13, room);
+    put_field(b':', second % 60, 19, room);
+    put_field(b':', second / 60 % 60, 16, room);
+    put_field(b'T', second / 3600, 13, room);
 }
 
 // `YYYY-MM-DD`, the first ten bytes, of a year from 0 to 9999.
@@ -118,8 +138,8 @@ fn put_date(c: Clock, room: &mut [u8])
 {
     let month = c.date.month;
     let year = month / 12 - 10000;
-    put_field(45, c.date.day + 1, 10, room);
-    put_field(45, month % 12 + 1, 7, room);
+    put_field(b'-', c.date.day + 1, 10, room);
+    put_field(b'-', month % 12 + 1, 7, room);
     decimal::put_two(year % 100, 4, room);
     decimal::put_two(year / 100, 2, room);
 }

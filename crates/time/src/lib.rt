@@ -9,13 +9,13 @@ mod write;
 ghost use mathlib.Core.Path.{_≡_};
 ghost use Prim.Native.Nat.{_≤_, _<_};
 ghost use lib.ListN.{length};
-ghost use Rattle.text.specs.Decimal.{decimal};
-ghost use Rattle.time.specs.Answers.{timeAt, numberOf};
+ghost use Rattle.text.specs.Decimal.{decimal as decimalOf};
+ghost use Rattle.text.specs.Room.{roomAfter};
+ghost use Rattle.time.specs.Answers.{timeAt, numberOf, isWritten};
 ghost use Rattle.calendar.specs.Table.{IsMonths};
-ghost use Rattle.time.specs.Header.{sizeOf, headerBytes, headerWritten, roomAfter};
+ghost use Rattle.time.specs.Header.{sizeOf, headerBytes, headerWritten};
 ghost use Rattle.time.specs.Iso.{isoBytes, isoWritten};
-use crate::format::Shown;
-pub use write::magnitude;
+use text::decimal;
 
 pub struct Time {
     pub seconds: i64,
@@ -43,35 +43,34 @@ impl Time {
 
     // How many decimal digits n has; zero has one.
     pub fn count_positive_digits(n: u64) -> usize
-        ensures { λ r. ⌜ (r ≡ length (decimal n)) × (1 ≤ r) × (r ≤ 20) ⌝ }
+        ensures { λ r. ⌜ (r ≡ length (decimalOf n)) × (1 ≤ r) × (r ≤ 20) ⌝ }
     {
-        text::decimal::count_digits(n)
+        decimal::count_digits(n)
     }
 
     // The bytes that its header takes, also of an offset too wide to write: `MIN` takes the most, 26.
     pub fn size(self) -> usize
         ensures { λ r. ⌜ (r ≡ sizeOf (self .seconds)) × (r ≤ 26) × (6 < r) ⌝ }
     {
-        write::size(self.seconds)
+        decimal::signed_width(self.seconds) + 6
     }
 
     // Writes its header to the front of `room`, and hands back how many bytes that took: `size`. Those beyond stay. An offset of
     // 100 hours or more is refused by 7, a room too short by 8, and the room then holds what it held.
     pub fn write_to(self, room: &mut [u8]) -> Written
         ensures { λ r. ⌜ r ≡ headerWritten self (now (room .entry)) ⌝ }
-        ensures { λ _. ⌜ now (room .exit) ≡ roomAfter (headerWritten self (now (room .entry))) (headerBytes self) (now (room .entry)) ⌝ }
+        ensures { λ _. ⌜ now (room .exit) ≡ roomAfter (isWritten (headerWritten self (now (room .entry)))) (headerBytes self) (now (room .entry)) ⌝ }
     {
         let seconds = self.seconds;
-        let offset = self.offset;
-        let wide = write::offset_size(offset);
+        let wide = write::offset_size(self.offset);
         if 360000 <= wide {
             return Written::Refused(Refusal::Offset);
         }
-        let n = write::size(seconds);
+        let n = self.size();
         if room.len() < n {
             return Written::Refused(Refusal::Room);
         }
-        write::put_header(seconds, write::sign_byte(offset), wide / 60, n, room);
+        write::put_header(seconds, write::header_sign(self), wide / 60, n, room);
         Written::Length(n)
     }
 
@@ -80,7 +79,7 @@ impl Time {
     // the room then holds what it held.
     pub fn write_iso(self, room: &mut [u8]) -> Written
         ensures { λ r. ⌜ r ≡ isoWritten self (now (room .entry)) ⌝ }
-        ensures { λ _. ⌜ now (room .exit) ≡ roomAfter (isoWritten self (now (room .entry))) (isoBytes self) (now (room .entry)) ⌝ }
+        ensures { λ _. ⌜ now (room .exit) ≡ roomAfter (isWritten (isoWritten self (now (room .entry)))) (isoBytes self) (now (room .entry)) ⌝ }
     {
         self.write_iso_with(&[], room)
     }
@@ -89,13 +88,9 @@ impl Time {
     pub fn write_iso_with(self, months: &[u32], room: &mut [u8]) -> Written
         requires { ⌜ IsMonths (now months) ⌝ }
         ensures { λ r. ⌜ r ≡ isoWritten self (now (room .entry)) ⌝ }
-        ensures { λ _. ⌜ now (room .exit) ≡ roomAfter (isoWritten self (now (room .entry))) (isoBytes self) (now (room .entry)) ⌝ }
+        ensures { λ _. ⌜ now (room .exit) ≡ roomAfter (isWritten (isoWritten self (now (room .entry)))) (isoBytes self) (now (room .entry)) ⌝ }
     {
-        let shown = format::shown_of(self);
-        match shown {
-            Shown::At(i) => format::write_shown(months, self, i, room),
-            Shown::Not(r) => Written::Refused(r),
-        }
+        format::write_line_with(format::shown(self), months, room)
     }
 }
 

@@ -59,10 +59,7 @@ pub fn time_of(i: Instant) -> Answer
     if 187199 < o {
         return Answer::Refused(Refusal::Range);
     }
-    Answer::Time(Time {
-        seconds: (n as i64) - 377736739200,
-        offset: (o as i32) - 93600,
-    })
+    Answer::Time(Time::new((n as i64) - 377736739200, (o as i32) - 93600))
 }
 
 // Whether seconds from 0 are in range.

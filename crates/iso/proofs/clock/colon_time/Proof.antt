@@ -3,7 +3,7 @@
 use mathlib.Core.Path.{sym, _∙_}
 use lib.Seq.{length-take-le}
 use Rattle.iso.proofs.Times.{colonTime-third, colonTime-second}
-use Rattle.iso.specs.Parts.{before}
+use Rattle.text.specs.Places.{before}
 use borrow.Author.Needs.{needs}
 use Rattle.iso.proofs.clock.colon_time.Statement.{statement}
 use Rattle.iso.proofs.clock.colon_time.Tie as tie

@@ -1,9 +1,10 @@
 -- `time::range::time_of` meets its contract: the four tests are the range, and in it neither difference wraps.
 -- Assumes nothing.
-use mathlib.Core.Path.{sym, _∙_}
+use mathlib.Core.Path.{sym, ap, _∙_}
 use lib.IntN.{pos}
 use mir.Syntax.{w32, w64}
 use Rattle.ints.proofs.Machine.{cast, sub, lit, fits, read}
+use Rattle.time.specs.Answers.{timeAt}
 use Rattle.time.specs.Range.{InRange}
 use Rattle.time.specs.declared.Answer.the-variants.{Time as At}
 use Rattle.time.proofs.Ranges.{answerAt-of-early, answerAt-of-late, answerAt-of-west, answerAt-of-east, answerAt-of-InRange}
@@ -27,24 +28,30 @@ returns-3 c = sym (answerAt-of-west (c .before .before .before .args .i) (c .bef
 returns-4 : tie.Need-returns-4
 returns-4 c = sym (answerAt-of-east (c .before .before .before .before .args .i) (c .before .before .before .if1 .left) (c .before .before .if2 .left) (c .before .if3 .left) (c .if4 .taken))
 
-cast-t9 : tie.Need-cast-t9
-cast-t9 c = search needs
+sub-new : tie.Need-sub-new
+sub-new c = fits w64 tt (sub (cast w64 _ tt (in-range c .late)) (lit (pos 377736739200)))
 
-sub-t10 : tie.Need-sub-t10
-sub-t10 c = fits w64 tt (sub (cast w64 _ tt (in-range c .late)) (lit (pos 377736739200)))
-
-cast-t11 : tie.Need-cast-t11
-cast-t11 c = search needs
-
-sub-t12 : tie.Need-sub-t12
-sub-t12 c = fits w32 tt (sub (cast w32 _ tt (in-range c .east)) (lit (pos 93600)))
+sub-new-2 : tie.Need-sub-new-2
+sub-new-2 c = fits w32 tt (sub (cast w32 _ tt (in-range c .east)) (lit (pos 93600)))
 
 returns-5 : tie.Need-returns-5
-returns-5 c = let p = in-range c in
-    (λ i. At (record { seconds = read w64 tt (sub (cast w64 _ tt (p .late)) (lit (pos 377736739200))) .is i; offset = read w32 tt (sub (cast w32 _ tt (p .east)) (lit (pos 93600))) .is i }))
-    ∙ sym (answerAt-of-InRange _ p)
+returns-5 c =
+    let p = in-range (c .before) in
+    let s = read w64 tt (sub (cast w64 _ tt (p .late)) (lit (pos 377736739200))) .is in
+    let o = read w32 tt (sub (cast w32 _ tt (p .east)) (lit (pos 93600))) .is in
+    ap At (c .new .ensures ∙ (λ i. timeAt (s i) (o i))) ∙ sym (answerAt-of-InRange _ p)
 
 pub time-of-spec : {M : Type 1} → statement M
 time-of-spec =
     tie.close
-    (tie.spec returns returns-2 returns-3 returns-4 cast-t9 sub-t10 cast-t11 sub-t12 returns-5)
+    (tie.spec
+    returns
+    returns-2
+    returns-3
+    returns-4
+    (λ c. search needs)
+    sub-new
+    (λ c. search needs)
+    sub-new-2
+    (λ c κs. search needs)
+    returns-5)

@@ -1,83 +1,47 @@
--- `time::write::put_header` meets its contract: the offset, the digits in front of it, and the sign in front of those.
+-- `time::write::put_header` meets its contract: the offset, and the seconds in front of it.
 -- Assumes nothing.
-use mathlib.Core.Path.{_≡_, ap, _∙_}
-use Prim.Native.Nat.{ℕ, _≤_}
+use mathlib.Core.Path.{_≡_}
+use mathlib.Core.List.{_∷_, _++_}
+use Prim.Native.Nat.{_+_, _-_}
 use native.Mathlib.Omega.{arith}
-use lib.IntN.{pos, natAbs}
-use lib.ListN.{length}
+use lib.ListN.{length, drop}
 use mir.Syntax.{w64}
-use Rattle.ints.proofs.Machine.{lit, param, lt-yes, lt-no}
-use Rattle.text.specs.Decimal.{decimal}
-use Rattle.time.proofs.Headers.{length-decimal-le-sizeOf, put-negative, put-seconds}
+use Rattle.ints.proofs.Machine.{param}
+use Rattle.text.specs.Decimal.{signed, signedBefore}
+use Rattle.text.proofs.Putting.{put-put}
+use Rattle.time.specs.Header.{offsetBytes, space, sizeOf}
 use borrow.Author.Needs.{needs}
 use Rattle.time.proofs.write.put_header.Statement.{statement}
 use Rattle.time.proofs.write.put_header.Tie as tie
 
+-- the end of the seconds
+end-is : (c : tie.Start) → c .args .end ≡ length (signed (c .args .seconds)) + 6
+unfolding sizeOf
+end-is c = c .pre .1
+
 put-offset-requires : tie.Need-put-offset-requires
-put-offset-requires c κs =
-    let start = c .before .before in
-    (start .pre .0, omega (arith, start .pre .1, length-decimal-le-sizeOf (start .args .seconds)), start .pre .2)
+put-offset-requires c κs = let start = c .before .before in (start .pre .0, omega (arith, end-is start), start .pre .2)
 
-magnitude-requires : tie.Need-magnitude-requires
-magnitude-requires c κs = search needs
+sub-put-signed : tie.Need-sub-put-signed
+sub-put-signed c = omega (arith, end-is (c .before .before .before .before .before))
 
-sub-put-decimal : tie.Need-sub-put-decimal
-sub-put-decimal c =
+put-signed-requires : tie.Need-put-signed-requires
+put-signed-requires c κs =
     let start = c .before .before .before .before .before .before in
-    omega (arith, start .pre .1, length-decimal-le-sizeOf (start .args .seconds))
-
-put-decimal-requires : tie.Need-put-decimal-requires
-put-decimal-requires c κs =
-    let at-mag = c .before in
-    let start = at-mag .before .before .before .before .before .before in
-    let d : length (decimal (at-mag .magnitude .result)) ≡ length (decimal (natAbs (start .args .seconds))) =
-    ap (λ (v : ℕ). length (decimal v)) (at-mag .magnitude .ensures ∙ ap natAbs (param w64 (start .fits .seconds) .is)) in
-    (omega (arith, d, start .pre .1, length-decimal-le-sizeOf (start .args .seconds)), search needs)
-
-put-byte-requires : tie.Need-put-byte-requires
-put-byte-requires c κs =
-    let start = c .before .before .before .before .before .before .before .before .before .before .before .before in
-    let s : 1 ≤ length (start .args .room .now) = omega (arith, start .pre .1, start .pre .2, length-decimal-le-sizeOf (start .args .seconds)) in
-    (omega arith, search needs)
-
-same-length : tie.Need-same-length
-same-length c = search needs
+    rw (param w64 (start .fits .seconds) .is) (omega (arith, end-is start), search needs)
 
 returns : tie.Need-returns
 returns c =
-    let at-byte = c .before .before in
-    let at-if = at-byte .before .before in
-    let at-digits = at-if .before .before .before in
-    let at-mag = at-digits .before .before in
-    let at-offset = at-mag .before .before .before in
+    let at-seconds = c .before .before in
+    let at-offset = at-seconds .before .before .before .before in
     let start = at-offset .before .before .before in
-    let p = param w64 (start .fits .seconds) in
-    put-negative (start .args .room .now) _ _ _ _ (start .args .seconds) _ (start .args .end) (at-mag .magnitude .ensures ∙ ap natAbs (p .is)) (lt-yes p (lit (pos 0)) (at-if .if1 .taken)) (start .pre .1) (start .pre .2)
-    (at-offset .put-offset .ensures) (at-digits .put-decimal .ensures) (at-byte .put-byte .ensures)
-
-same-length-2 : tie.Need-same-length-2
-same-length-2 c = search needs
-
-returns-2 : tie.Need-returns-2
-returns-2 c =
-    let at-digits = c .before .before .before in
-    let at-mag = at-digits .before .before in
-    let at-offset = at-mag .before .before .before in
-    let start = at-offset .before .before .before in
-    let p = param w64 (start .fits .seconds) in
-    put-seconds (start .args .room .now) _ _ _ (start .args .seconds) _ (start .args .end) (at-mag .magnitude .ensures ∙ ap natAbs (p .is)) (lt-no p (lit (pos 0)) (c .if1 .left)) (start .pre .1) (start .pre .2)
-    (at-offset .put-offset .ensures) (at-digits .put-decimal .ensures)
+    let z = start .args .seconds in
+    let e = start .args .end in
+    let l = start .args .room .now in
+    let p = rw (param w64 (start .fits .seconds) .is) at (at-seconds .put-signed .ensures .1) in
+    put-put (signedBefore z) l (space ∷ offsetBytes (start .args .sign) (start .args .minutes) ++ drop e l) _ _ (e - 6 - length (signed z)) 0 (e - 6) (at-offset .put-offset .ensures) p (omega (arith, end-is start)) (omega arith) (omega (arith, start .pre .2))
 
 pub put-header-spec : {M : Type 1} → statement M
 put-header-spec =
     tie.close
-    (tie.spec
-    put-offset-requires
-    magnitude-requires
-    sub-put-decimal
-    put-decimal-requires
-    put-byte-requires
-    same-length
-    returns
-    same-length-2
-    returns-2)
+    (tie.spec put-offset-requires sub-put-signed put-signed-requires (λ c. search needs) returns)
