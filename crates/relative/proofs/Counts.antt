@@ -8,15 +8,13 @@ use Prim.Native.Nat.{ℕ, _≤_}
 use Prim.Native.Char.{code}
 use native.Mathlib.Omega.{arith}
 use borrow.Author.Tests.{ne-eqb}
-use lib.Dec.{leb}
 use Rattle.text.specs.Bytes.{isDigit, lowerOf, sameLetters}
 use Rattle.text.specs.Quote.{bytes}
-use Rattle.text.specs.Number.{digitsOf, readFrom, fit}
+use Rattle.text.specs.Number.{digitsOf, fit}
 use Rattle.text.specs.declared.number.Number.{Number}
 use Rattle.text.specs.declared.number.Number.the-variants.{Value, Not}
-use Rattle.text.proofs.Lists.{by-test}
 use Rattle.text.proofs.LowerCase.{lowerOf-digit}
-use Rattle.text.proofs.Numbers.{digit-range}
+use Rattle.text.proofs.Numbers.{digit-range, readFrom-digit, fit-value}
 use Rattle.relative.specs.Words.{spelled}
 
 -- a text that opens with a digit is not one that opens with a letter
@@ -43,15 +41,6 @@ module _ (b : ℕ) (w : List ℕ) (d : isDigit b ≡ true) where
       )
 
 -- so of what is digits nothing else is asked
-readFrom-digit : (v b : ℕ) (w : List ℕ) (n : ℕ) → readFrom v (b ∷ w) ≡ Value n → isDigit b ≡ true
-unfolding readFrom
-readFrom-digit v b w n = by-test (isDigit b) (λ e h. e) (λ e h. let k : Not ≡ Value n = rw e at h in let z : _≡_ {A = ℕ} 0 1 = cc in absurd (omega arith))
-
-fit-value : (limit n : ℕ) (x : Number) → fit limit x ≡ Value n → x ≡ Value n
-unfolding fit
-fit-value limit n (Value m) = by-test (leb m limit) (λ e h. rw e at h) (λ e h. let k : Not ≡ Value n = rw e at h in let z : _≡_ {A = ℕ} 0 1 = cc in absurd (omega arith))
-fit-value limit n Not = λ h. h
-
 pub spelled-of-digits : (limit n : ℕ) (w : List ℕ) (x : Number) → fit limit (digitsOf w) ≡ Value n → spelled w x ≡ x
 unfolding digitsOf
 spelled-of-digits limit n [] x h = let z : _≡_ {A = ℕ} 0 1 = cc (fit-value limit n Not h) in absurd (omega arith)

@@ -10,40 +10,26 @@ use borrow.Author.Tests.{leb-true, leb-false}
 use lib.Dec.{leb}
 use lib.IntN.{ℤ, pos, negsuc, natAbs, _+ℤ_, _-ℤ_, _*ℤ_, -ℤ-+ℤ-cancel}
 use Rattle.ints.proofs.Parts.{le-parts, parts-le, add-parts, up-mul, dn-mul, parts-eq}
-use Rattle.ints.proofs.Machine.{leZ-sub-sub, In-of-isIn}
+use Rattle.ints.proofs.Machine.{In-of-isIn}
 use Rattle.text.proofs.Lists.{by-test, both}
 use Rattle.calendar.specs.Calendar.{firstDay, monthLength, monthOf, IsDate}
+use Rattle.calendar.specs.Back.{monthsBack}
 use Rattle.calendar.specs.Civil.{Civil, monthCount, civilDay, civilDate}
 use Rattle.calendar.proofs.Lengths.{firstDay-suc, monthLength-ge}
 use Rattle.calendar.proofs.Dates.{IsDate-monthOf, IsDate-day-lt, monthOf-of-IsDate}
 use Rattle.ints.proofs.Parts.{natAbs-sub-add, pos-natAbs-add}
 use Rattle.calendar.proofs.Civil.{civilAt, civilDate-sub, monthCount-civilAt}
 use Rattle.time.specs.Answers.{timeAt}
-use Rattle.time.specs.Range.{leastSeconds, mostSeconds, leastOffset, mostOffset, secondsInRange, offsetInRange, timeInRange, since1970, timeOf, instantOf, InRange}
+use Rattle.time.specs.Range.{leastSeconds, mostSeconds, leastOffset, mostOffset, secondsInRange, offsetInRange, timeInRange, instantOf, InRange}
 use Rattle.time.specs.declared.Time.{Time}
-use Rattle.time.specs.declared.range.Instant.{Instant}
 use Rattle.time.specs.declared.Refusal.the-variants.{Range}
 use Rattle.time.specs.declared.Answer.the-variants.{Refused}
-use Rattle.time.proofs.Ranges.{timeOf-instantOf}
-use Rattle.relative.specs.Steps.{localSeconds, monthStart, monthsEarlier, landed}
+use Rattle.time.proofs.Ranges.{InRange-of-timeOf, timeOf-instantOf}
+use Rattle.relative.specs.Steps.{localSeconds, monthsEarlier, landed}
 use Rattle.relative.specs.Months.{dateAt, clockAt, dayOfMonth, earlierDate, secondsAt, Earlier}
-use Rattle.relative.proofs.Landing.{range-of-secondsInRange, pos-sub, local-of, landed-of-month-lt}
+use Rattle.relative.proofs.Landing.{local-of, landed-of-month-lt, monthsEarlier-is}
 
 -- ---- a time in range, as numbers from 0
-offset-range : (o : ℕ) → offsetInRange (pos o -ℤ pos 93600) ≡ true → (1 ≤ o) × (o ≤ 187199)
-unfolding offsetInRange
-offset-range o e =
-    let p = both (leb 1 o) (leb o 187199) (rw (leZ-sub-sub 1 o 93600, leZ-sub-sub o 187199 93600) at e) in
-    (leb-true 1 o (p .0), leb-true o 187199 (p .1))
-
-InRange-of-timeOf : (i : Instant) → timeInRange (timeOf i) ≡ true → InRange i
-unfolding timeInRange
-InRange-of-timeOf i e =
-    let p = both (secondsInRange (since1970 (i .seconds))) (offsetInRange (pos (i .offset) -ℤ pos 93600)) e in
-    let s = range-of-secondsInRange (i .seconds) (p .0) in
-    let o = offset-range (i .offset) (p .1) in
-    record { early = s .0; late = s .1; west = o .0; east = o .1 }
-
 -- beyond the months that are counted a landing is refused
 pub landed-of-monthOf-lt : (x : Time) (n : ℕ) (z : ℤ) → timeInRange x ≡ true → monthOf (localSeconds x / 86400) < n → landed (monthsEarlier x n) z ≡ Refused Range
 landed-of-monthOf-lt x n z e h =
@@ -70,19 +56,13 @@ module _ (x : Time) (n : ℕ) where
   abbrev month : ℕ
   month = monthOf day
 
-  abbrev back : ℕ
-  back = (firstDay (month - n) + (day - firstDay month)) * 86400 + localSeconds x % 86400
-
-  monthsEarlier-is : n ≤ month → monthsEarlier x n ≡ pos back -ℤ pos 377736739200 -ℤ x .offset
-  unfolding monthsEarlier monthStart
-  monthsEarlier-is h = rw (pos-sub month n h)
-
-  pub localSeconds-back : n ≤ month → localSeconds (timeAt (monthsEarlier x n) (x .offset)) ≡ back
+  localSeconds-back : n ≤ month → localSeconds (timeAt (monthsEarlier x n) (x .offset)) ≡ monthsBack (localSeconds x) n
   localSeconds-back h =
+      let back : ℤ = pos (monthsBack (localSeconds x) n) in
       ap natAbs (
-      ap (λ (z : ℤ). z +ℤ x .offset +ℤ pos 377736739200) (monthsEarlier-is h)
-      ∙ ap (λ (z : ℤ). z +ℤ pos 377736739200) (-ℤ-+ℤ-cancel (pos back -ℤ pos 377736739200) (x .offset))
-      ∙ -ℤ-+ℤ-cancel (pos back) (pos 377736739200)
+      ap (λ (z : ℤ). z +ℤ x .offset +ℤ pos 377736739200) (monthsEarlier-is x n h)
+      ∙ ap (λ (z : ℤ). z +ℤ pos 377736739200) (-ℤ-+ℤ-cancel (back -ℤ pos 377736739200) (x .offset))
+      ∙ -ℤ-+ℤ-cancel back (pos 377736739200)
       )
 
 -- ---- its date
@@ -134,11 +114,12 @@ pub monthCount-dateAt : (x : Time) → monthCount (dateAt x) ≡ monthOf (localS
 monthCount-dateAt x = ap monthCount (civilDate-sub (localSeconds x / 86400)) ∙ monthCount-civilAt (localSeconds x / 86400)
 
 pub Earlier-landing : (x : Time) (n : ℕ) → n ≤ monthOf (localSeconds x / 86400) → Earlier x n (timeAt (monthsEarlier x n) (x .offset))
+unfolding monthsBack
 Earlier-landing x n h =
     let k : ℕ = day x n - firstDay (month x n) in
     let e = localSeconds-back x n h in
-    let d : back x n / 86400 ≡ firstDay (month x n - n) + k = omega arith in
-    let c : back x n % 86400 ≡ localSeconds x % 86400 = omega arith in
+    let d : monthsBack (localSeconds x) n / 86400 ≡ firstDay (month x n - n) + k = omega arith in
+    let c : monthsBack (localSeconds x) n % 86400 ≡ localSeconds x % 86400 = omega arith in
     record {
       counted = rw (monthCount-dateAt x) h;
       date = ap (λ (t : ℕ). civilDate (pos (t / 86400) -ℤ pos 4371953)) e ∙ ap (λ (t : ℕ). civilDate (pos t -ℤ pos 4371953)) d ∙ civilDate-sub (firstDay (month x n - n) + k) ∙ civilAt-run (month x n - n) k (IsDate-day-lt (IsDate-monthOf (day x n))) ∙ sym (earlierDate-run x n);
@@ -148,7 +129,7 @@ Earlier-landing x n h =
 
 -- ---- its instant, from the date
 pub monthsEarlier-secondsAt : (x : Time) (n : ℕ) → n ≤ monthOf (localSeconds x / 86400) → monthsEarlier x n ≡ secondsAt (earlierDate (dateAt x) n) (clockAt x) (x .offset)
-unfolding secondsAt
+unfolding secondsAt monthsBack
 monthsEarlier-secondsAt x n h =
     let m : ℕ = month x n - n in
     let k : ℕ = day x n - firstDay (month x n) in

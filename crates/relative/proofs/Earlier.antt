@@ -25,9 +25,9 @@ use Rattle.relative.specs.Pairs.{pairsOf, agoIn, isKnown, known}
 use Rattle.relative.specs.Steps.{localSeconds, monthsEarlier, landing, landed, step, steps}
 use Rattle.relative.specs.Relative.{from, relativeOf}
 use Rattle.relative.specs.Months.{dateAt, clockAt, earlierDate, secondsAt, Earlier, OnePair}
-use Rattle.relative.specs.declared.Unit.{Unit}
-use Rattle.relative.specs.declared.Unit.the-variants.{Months}
-use Rattle.relative.specs.declared.Pair.{Pair}
+use Rattle.relative.specs.declared.pair.Unit.{Unit}
+use Rattle.relative.specs.declared.pair.Unit.the-variants.{Months}
+use Rattle.relative.specs.declared.pair.Pair.{Pair}
 use Rattle.relative.proofs.Named.{relativeOf-of-pairs}
 use Rattle.relative.proofs.Dates.{landed-of-monthOf-lt, Earlier-landing, monthsEarlier-secondsAt, monthCount-dateAt}
 use Rattle.relative.proofs.Joining.{known-or}

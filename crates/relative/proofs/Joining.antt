@@ -12,6 +12,7 @@ use Rattle.text.specs.Bytes.{isAlphanumeric, ascii}
 use Rattle.text.specs.Words.{separator}
 use Rattle.text.specs.declared.words.Separator.the-variants.{Mark}
 use Rattle.text.specs.declared.number.Number.the-variants.{Not}
+use Rattle.text.proofs.Plain.{ascii-append}
 use Rattle.text.proofs.Taking.{words-append}
 use Rattle.time.specs.Range.{timeInRange}
 use Rattle.time.specs.declared.Time.{Time}
@@ -25,9 +26,9 @@ use Rattle.relative.specs.Pairs.{pairsOf, agoIn, known}
 use Rattle.relative.specs.Steps.{steps}
 use Rattle.relative.specs.Relative.{from, relativeOf}
 use Rattle.relative.specs.Joined.{Whole, spaced, after}
-use Rattle.relative.specs.declared.Pair.{Pair}
+use Rattle.relative.specs.declared.pair.Pair.{Pair}
 use Rattle.relative.proofs.Holding.{steps-refused}
-use Rattle.relative.proofs.Texts.{pairsFrom-append, waitsFrom-append, known-append, ascii-append, steps-append, Good, steps-good}
+use Rattle.relative.proofs.Texts.{pairsFrom-append, waitsFrom-append, known-append, steps-append, Good, steps-good}
 use Rattle.relative.proofs.Named.{relativeOf-of-pairs}
 
 -- what a whole text answers: its pairs from the current time

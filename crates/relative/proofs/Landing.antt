@@ -1,18 +1,17 @@
 -- Where steps land, as the code finds it on numbers from 0 and as the definitions have it on whole numbers. In order: landings
 -- below the range; seconds; the months before month 0; months.
 -- Assumes nothing.
-use mathlib.Core.Path.{_≡_, refl, sym, _∙_}
-use mathlib.Core.Bool.{true}
+use mathlib.Core.Path.{_≡_, refl}
 use Prim.Native.Nat.{ℕ, suc, _+_, _-_, _*_, _/_, _%_, _≤_, _<_}
 use native.Mathlib.Omega.{arith}
-use native.Mathlib.Nat.{div-lt-iff-lt-mul, le-div-iff-mul-le}
+use native.Mathlib.Nat.{div-lt-iff-lt-mul}
 use borrow.Author.Tests.{leb-true, leb-false}
 use lib.Dec.{leb}
 use lib.IntN.{ℤ, pos, negsuc, negℤ, _+ℤ_, _-ℤ_, _*ℤ_}
 use lib.Signed.{_≤ℤ_, _<ℤ_}
-use Rattle.ints.proofs.Parts.{add-parts, up-neg, dn-neg, up-mul, dn-mul, natAbs-parts, one-dn, parts-eq, parts-lt, parts-le, le-parts}
+use Rattle.ints.proofs.Parts.{add-parts, up-neg, dn-neg, up-mul, dn-mul, natAbs-parts, one-dn, parts-eq, parts-lt, parts-le, le-parts, pos-sub, pos-sub-lt}
 use Rattle.ints.proofs.Machine.{isIn-of-lt}
-use Rattle.text.proofs.Lists.{by-test, both}
+use Rattle.text.proofs.Lists.{by-test}
 use Rattle.calendar.specs.Calendar.{firstDay, monthOf}
 use Rattle.calendar.specs.Back.{monthsBack, backOf}
 use Rattle.calendar.specs.declared.Found.{Found}
@@ -21,22 +20,16 @@ use Rattle.calendar.proofs.Lengths.{firstDay-zero}
 use Rattle.calendar.proofs.Cycle.{firstDay-le, firstDay-add-4800}
 use Rattle.calendar.proofs.Dates.{IsDate-monthOf, IsDate-day-lt, IsDate-month-lt}
 use Rattle.time.specs.Range.{leastSeconds, mostSeconds, secondsInRange, since1970, timeOf, InRange}
+use Rattle.time.specs.declared.Time.{Time}
 use Rattle.time.specs.declared.range.Instant.{Instant}
 use Rattle.time.specs.declared.Refusal.the-variants.{Range}
 use Rattle.time.specs.declared.Answer.the-variants.{Refused}
-use Rattle.time.proofs.Ranges.{secondsInRange-since1970}
 use Rattle.relative.specs.Steps.{localSeconds, monthStart, monthsEarlier, landed}
 
 -- ---- below the range
 pub landed-of-lt : (z o : ℤ) → z <ℤ leastSeconds → landed z o ≡ Refused Range
 unfolding landed secondsInRange
 landed-of-lt z o h = rw (isIn-of-lt leastSeconds mostSeconds h)
-
--- in range, counted from 0
-pub range-of-secondsInRange : (n : ℕ) → secondsInRange (since1970 n) ≡ true → (31715999 ≤ n) × (n ≤ 631138946400)
-range-of-secondsInRange n e =
-    let p = both (leb 31715999 n) (leb n 631138946400) (sym (secondsInRange-since1970 n) ∙ e) in
-    (leb-true 31715999 n (p .0), leb-true n 631138946400 (p .1))
 
 -- ---- seconds
 -- a difference that would be below 0
@@ -45,21 +38,9 @@ seconds-far t n k o h l =
     let m : t < n * k = div-lt-iff-lt-mul h .0 l in
     landed-of-lt _ o (parts-lt _ _ (omega (arith, add-parts (since1970 t) (negℤ (pos (n * k))), add-parts (pos t) (negsuc 377736739199), up-neg (pos (n * k)), dn-neg (pos (n * k)))))
 
-pub mul-le-of-div : (t n k : ℕ) → 1 ≤ k → n ≤ t / k → n * k ≤ t
-mul-le-of-div t n k h l = le-div-iff-mul-le h .0 l
-
-pub since1970-sub : (t n : ℕ) → n ≤ t → since1970 (t - n) ≡ since1970 t -ℤ pos n
-since1970-sub t n h = parts-eq _ _ (omega (arith, add-parts (since1970 t) (negℤ (pos n)), add-parts (pos t) (negsuc 377736739199), add-parts (pos (t - n)) (negsuc 377736739199), up-neg (pos n), dn-neg (pos n)))
-
 -- ---- months
-pub pos-sub : (m n : ℕ) → n ≤ m → pos m -ℤ pos n ≡ pos (m - n)
-pos-sub m n h = parts-eq _ _ (omega (arith, add-parts (pos m) (negℤ (pos n)), up-neg (pos n), dn-neg (pos n)))
-
-pub pos-sub-lt : (m n : ℕ) → m < n → pos m -ℤ pos n ≡ negsuc (n - suc m)
-pos-sub-lt m n h = parts-eq _ _ (omega (arith, add-parts (pos m) (negℤ (pos n)), up-neg (pos n), dn-neg (pos n)))
-
 -- months before month 0 begin before day 0
-pub monthStart-negsuc : (j : ℕ) → monthStart (negsuc j) ≤ℤ pos 0
+monthStart-negsuc : (j : ℕ) → monthStart (negsuc j) ≤ℤ pos 0
 unfolding monthStart
 monthStart-negsuc j =
     let a = firstDay-le (4799 - j % 4800) 4800 (omega arith) in
@@ -96,10 +77,13 @@ local-of i r =
     omega (arith, r .early, one-dn (s +ℤ o +ℤ pos 377736739200), natAbs-parts (s +ℤ o +ℤ pos 377736739200), add-parts (s +ℤ o) (pos 377736739200), add-parts s o, add-parts (pos (i .seconds)) (negsuc 377736739199), add-parts (pos (i .offset)) (negsuc 93599))
 
 -- where the calendar has a month n before, the landing is the calendar's
+pub monthsEarlier-is : (x : Time) (n : ℕ) → n ≤ monthOf (localSeconds x / 86400) → monthsEarlier x n ≡ pos (monthsBack (localSeconds x) n) -ℤ pos 377736739200 -ℤ x .offset
+unfolding monthsEarlier monthsBack monthStart
+monthsEarlier-is x n h = rw (pos-sub (monthOf (localSeconds x / 86400)) n h)
+
 pub monthsEarlier-of-le : (i : Instant) (n : ℕ) → InRange i → let t : ℕ = i .seconds + i .offset - 93600 in n ≤ monthOf (t / 86400)
     → monthsEarlier (timeOf i) n ≡ pos (monthsBack t n) -ℤ pos 377736739200 -ℤ (pos (i .offset) -ℤ pos 93600)
-unfolding monthsEarlier monthsBack monthStart
-monthsEarlier-of-le i n r h = rw (local-of i r, pos-sub (monthOf ((i .seconds + i .offset - 93600) / 86400)) n h)
+monthsEarlier-of-le i n r = rw (local-of i r) at (monthsEarlier-is (timeOf i) n)
 
 -- where it has none, the landing is below the range
 module _ (m : ℤ) (k c : ℕ) (o : ℤ) (h : m ≤ℤ pos 0) (a : k < 31) (b : c < 86400) (e : negsuc 93598 ≤ℤ o) where

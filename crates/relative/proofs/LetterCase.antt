@@ -1,25 +1,22 @@
 -- Letter case does not matter: a text answers as its small letters do. In order: bytes; texts; words; counts and units; pairs;
--- the reader; the theorem, for any two texts that are the same in any letter case, and for a text in capitals.
+-- the reader; the theorem, for any two texts that are the same in any letter case.
 -- Assumes nothing.
 use mathlib.Core.Path.{_≡_, refl, sym, ap, _∙_}
 use mathlib.Core.Bool.{true}
 use mathlib.Core.List.{List, [], _∷_}
-use Prim.Native.Nat.{ℕ, _+_, _-_, _≤_}
-use native.Mathlib.Omega.{arith}
-use borrow.Author.Tests.{leb-true, le-leb, lt-leb, eq-eqb}
-use lib.Dec.{leb, eqb}
+use Prim.Native.Nat.{ℕ, _-_}
+use lib.Dec.{eqb}
 use lib.ListN.{length, getD}
-use Rattle.text.specs.Bytes.{between, lowerOf, sameLetters}
+use Rattle.text.specs.Bytes.{lowerOf, sameLetters}
 use Rattle.text.specs.Quote.{bytes}
 use Rattle.text.specs.declared.number.Number.{Number}
 use Rattle.text.specs.declared.number.Number.the-variants.{Value, Not}
-use Rattle.text.proofs.Lists.{by-test, both}
+use Rattle.text.proofs.Lists.{by-test}
 use Rattle.text.proofs.LowerCase.{lowerOf-lowerOf, lowers, ascii-lowers, sameLetters-lowers, lowers-of-same, trim-lowers, length-lowers, getD-lowers, take-lowers, allLowers, words-lowers, digitsOf-lowers}
 use Rattle.time.specs.declared.Now.{Now}
 use Rattle.relative.specs.Words.{wordsOf, spelled, countOf, singular, unitNamed, unitOf}
 use Rattle.relative.specs.Pairs.{next, pairsFrom, agoFrom}
 use Rattle.relative.specs.Relative.{namedOf, byPairs, byName, relativeOf}
-use Rattle.relative.specs.Joined.{upperOf, uppers}
 
 namedOf-lowers : (s : List ℕ) → namedOf (lowers s) ≡ namedOf s
 unfolding namedOf
@@ -75,24 +72,3 @@ relativeOf-lowers bound s now = rw (ascii-lowers s, namedOf-lowers s, byName-low
 pub letter-case-does-not-matter : (bound : ℕ) (s t : List ℕ) (now : Now) → sameLetters s t ≡ true → relativeOf bound s now ≡ relativeOf bound t now
 letter-case-does-not-matter bound s t now e =
     sym (relativeOf-lowers bound s now) ∙ ap (λ (u : List ℕ). relativeOf bound u now) (lowers-of-same s t e) ∙ relativeOf-lowers bound t now
-
--- a text and its twin in capitals
-lowerOf-upperOf : (b : ℕ) → lowerOf b ≡ lowerOf (upperOf b)
-unfolding lowerOf upperOf
-lowerOf-upperOf b =
-    by-test (between 97 122 b)
-    (λ e.
-    let k = both (leb 97 b) (leb b 122) e in
-    let l : 97 ≤ b = leb-true 97 b (k .0) in
-    let m : b ≤ 122 = leb-true b 122 (k .1) in
-    let n : b - 32 + 32 ≡ b = omega arith in
-    rw (e, le-leb 65 b (omega arith), lt-leb b 90 (omega arith), le-leb 65 (b - 32) (omega arith), le-leb (b - 32) 90 (omega arith), n))
-    (λ e. rw e)
-
-sameLetters-uppers : (s : List ℕ) → sameLetters s (uppers s) ≡ true
-unfolding sameLetters uppers
-sameLetters-uppers [] = refl
-sameLetters-uppers (b ∷ s) = rw (eq-eqb (lowerOf b) (lowerOf (upperOf b)) (lowerOf-upperOf b), sameLetters-uppers s)
-
-pub upper-case-answers-alike : (bound : ℕ) (s : List ℕ) (now : Now) → relativeOf bound (uppers s) now ≡ relativeOf bound s now
-upper-case-answers-alike bound s now = sym (letter-case-does-not-matter bound s (uppers s) now (sameLetters-uppers s))

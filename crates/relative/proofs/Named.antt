@@ -1,54 +1,27 @@
--- A text with a pair is no named text: a named text is one word. In order: trimming takes no word away; letters and digits alone
--- are one word, in any letter case; so what a text with a pair answers.
+-- A text with a pair is no named text: a named text is one word. In order: letters and digits alone are one word, in any
+-- letter case; so what a text with a pair answers.
 -- Assumes nothing.
 use mathlib.Core.Path.{_≡_, refl, sym, ap, _∙_}
 use mathlib.Core.Bool.{Bool, true, false, _&&_, _||_, false≢true}
-use mathlib.Core.List.{List, [], _∷_, reverse, reverse-cons, reverse-reverse}
+use mathlib.Core.List.{List, [], _∷_}
 use Prim.Native.Nat.{ℕ, _≤_, _<_}
-use native.Mathlib.Omega.{arith}
 use native.Mathlib.Nat.{not-suc-le-zero}
-use borrow.Author.Tests.{le-leb, lt-leb, lt-ltb, eqb-true}
+use borrow.Author.Tests.{le-leb, lt-ltb, eqb-true}
 use lib.Dec.{eqb}
 use lib.ListN.{length}
-use Rattle.text.specs.Bytes.{isSpace, isAlphanumeric, lowerOf, ascii, sameLetters}
+use Rattle.text.specs.Bytes.{isAlphanumeric, lowerOf, ascii, sameLetters}
 use Rattle.text.specs.Quote.{bytes}
-use Rattle.text.specs.Trim.{trim, trimStart, trimEnd}
+use Rattle.text.specs.Trim.{trim}
 use Rattle.text.specs.Words.{separator, pieces, full, words}
 use Rattle.text.specs.declared.words.Separator.the-variants.{Mark}
 use Rattle.text.specs.declared.number.Number.the-variants.{Not}
-use Rattle.text.proofs.Digits.{space-range}
 use Rattle.text.proofs.Lists.{by-test, both}
 use Rattle.text.proofs.LowerCase.{isAlphanumeric-lowerOf}
-use Rattle.text.proofs.Taking.{words-cons-separator, words-snoc-separator}
+use Rattle.text.proofs.Trimming.{words-trim}
 use Rattle.time.specs.declared.Now.{Now}
 use Rattle.relative.specs.Words.{wordsOf}
 use Rattle.relative.specs.Pairs.{pairsFrom, pairsOf, known, agoIn}
 use Rattle.relative.specs.Relative.{from, namedOf, byPairs, relativeOf}
-
--- ---- white space parts words
-isSpace-separates : (b : ℕ) → isSpace b ≡ true → separator Mark b ≡ true
-unfolding isAlphanumeric
-isSpace-separates b h =
-    let l : b < 48 = omega (arith, space-range b h) in
-    rw (lt-leb 48 b l, lt-leb 65 b (omega arith), lt-leb 97 b (omega arith))
-
-words-trimStart : (s : List ℕ) → words (separator Mark) (trimStart s) ≡ words (separator Mark) s
-unfolding trimStart
-words-trimStart [] = refl
-words-trimStart (b ∷ s) =
-    by-test (isSpace b) (λ e. rw e (words-trimStart s ∙ sym (words-cons-separator (separator Mark) b s (isSpace-separates b e)))) (λ e. rw e)
-
-words-reverse-trimStart : (r : List ℕ) → words (separator Mark) (reverse (trimStart r)) ≡ words (separator Mark) (reverse r)
-unfolding trimStart
-words-reverse-trimStart [] = refl
-words-reverse-trimStart (b ∷ r) =
-    by-test (isSpace b)
-    (λ e. rw e (words-reverse-trimStart r ∙ sym (words-snoc-separator (separator Mark) b (reverse r) (isSpace-separates b e)) ∙ ap (words (separator Mark)) (sym (reverse-cons b r))))
-    (λ e. rw e)
-
-pub words-trim : (s : List ℕ) → words (separator Mark) (trim s) ≡ words (separator Mark) s
-unfolding trim trimEnd
-words-trim s = words-reverse-trimStart (reverse (trimStart s)) ∙ ap (words (separator Mark)) (reverse-reverse (trimStart s)) ∙ words-trimStart s
 
 -- ---- letters and digits alone are one word, so that no count has a unit
 abbrev one : List ℕ → Bool
@@ -80,10 +53,10 @@ not-same-of-pair : (s t : List ℕ) → one t ≡ true → 0 < length (pairsOf s
 unfolding wordsOf
 not-same-of-pair s t o h =
     by-test (sameLetters (trim s) t)
-    (λ e. absurd (not-suc-le-zero (rw (← words-trim s, no-pair (trim s) (same-one (trim s) t e o)) at h)))
+    (λ e. absurd (not-suc-le-zero (rw (← words-trim Mark s, no-pair (trim s) (same-one (trim s) t e o)) at h)))
     (λ e. e)
 
-pub namedOf-of-pair : (s : List ℕ) → 0 < length (pairsOf s) → namedOf s ≡ Not
+namedOf-of-pair : (s : List ℕ) → 0 < length (pairsOf s) → namedOf s ≡ Not
 unfolding namedOf isAlphanumeric
 namedOf-of-pair s h =
     rw (not-same-of-pair s (bytes "now") refl h, not-same-of-pair s (bytes "today") refl h, not-same-of-pair s (bytes "yesterday") refl h)

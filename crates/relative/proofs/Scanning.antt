@@ -20,7 +20,8 @@ use Rattle.text.proofs.Taking.{words-takeWord, takeWord-moves}
 use Rattle.text.specs.declared.number.Number.the-variants.{Value, Not}
 use Rattle.relative.specs.Words.{wordsOf, is, countOf, unitOf}
 use Rattle.relative.specs.Pairs.{pairsFrom, agoFrom, known, isKnown, pairsOf, agoIn}
-use Rattle.relative.specs.declared.Pair.{Pair}
+use Rattle.relative.specs.declared.pair.Unit.{Unit}
+use Rattle.relative.specs.declared.pair.Pair.{Pair}
 
 -- the words that are left at a place
 abbrev pub left : List ℕ → ℕ → List (List ℕ)
@@ -96,12 +97,12 @@ module _ {bound : ℕ} {s : List ℕ} {held : List Pair} {n : ℕ} {k a : Bool} 
         }
 
     -- one too many
-    pub counted : bound ≤ n → Scanned bound s held (n + 1) (k && isKnown (unitOf u)) a ws
+    pub counted : {x : Unit} {b : Bool} → x ≡ unitOf u → b ≡ isKnown x → bound ≤ n → Scanned bound s held (n + 1) (k && b) a ws
     unfolding pairsFrom agoFrom known
-    counted l =
+    counted g i l =
         record {
           number = omega (arith, rw (e, f) at (h .number));
-          told = rw (e, f, ← and-assoc) at (h .told);
+          told = rw (i, g) (rw (e, f, ← and-assoc) at (h .told));
           mark = rw (e, f) at (h .mark);
           store = λ m. absurd (omega arith);
         }

@@ -7,12 +7,10 @@ use mathlib.Core.List.{List, [], _∷_, _++_}
 use Prim.Native.String.{String}
 use Prim.Native.Nat.{ℕ, _+_, _*_, _≤_, _<_}
 use native.Mathlib.Omega.{arith}
-use borrow.Author.Tests.{eqb-true, eqb-false}
-use lib.Dec.{eqb}
 use lib.IntN.{ℤ, pos, negℤ, _-ℤ_, +ℤ-idr}
 use lib.Signed.{leZ, _≤ℤ_, _<ℤ_}
 use lib.ListN.{length, length-append}
-use Rattle.ints.proofs.Parts.{add-parts, up-neg, dn-neg, parts-eq, parts-le, le-parts, parts-lt, lt-parts}
+use Rattle.ints.proofs.Parts.{add-parts, up-neg, dn-neg, parts-le, le-parts, parts-lt, lt-parts, sub-sub}
 use Rattle.ints.proofs.Machine.{lit, le-no, leZ-true, In-of-isIn}
 use Rattle.text.specs.Bytes.{isDigit, isAlphanumeric, lowerOf, ascii, sameLetters}
 use Rattle.text.specs.Quote.{bytes}
@@ -20,7 +18,7 @@ use Rattle.text.specs.Trim.{trim}
 use Rattle.text.specs.Number.{digitsOf, readFrom, fit}
 use Rattle.text.specs.Words.{words, pieces, full}
 use Rattle.text.specs.declared.number.Number.the-variants.{Value}
-use Rattle.text.proofs.Lists.{by-test, both, sameLetters-of-length}
+use Rattle.text.proofs.Lists.{by-test, both, sameLetters-of-length, length-of-same}
 use Rattle.time.specs.Answers.{timeAt}
 use Rattle.time.specs.Range.{leastSeconds, mostSeconds, secondsInRange, offsetInRange, timeInRange}
 use Rattle.time.specs.declared.Time.{Time}
@@ -34,9 +32,9 @@ use Rattle.relative.specs.Steps.{landing, landed, step, steps}
 use Rattle.relative.specs.Relative.{from, namedOf, relativeOf}
 use Rattle.relative.specs.Joined.{Whole, spaced, isSeconds, allSeconds}
 use Rattle.relative.specs.Months.{OnePair}
-use Rattle.relative.specs.declared.Unit.{Unit}
-use Rattle.relative.specs.declared.Unit.the-variants.{Seconds, Months, Unknown}
-use Rattle.relative.specs.declared.Pair.{Pair}
+use Rattle.relative.specs.declared.pair.Unit.{Unit}
+use Rattle.relative.specs.declared.pair.Unit.the-variants.{Seconds, Months, Unknown}
+use Rattle.relative.specs.declared.pair.Pair.{Pair}
 use Rattle.relative.proofs.Landing.{landed-of-lt}
 use Rattle.relative.proofs.Holding.{steps-refused}
 use Rattle.relative.proofs.Named.{relativeOf-of-pairs}
@@ -53,9 +51,6 @@ unfolding relativeOf namedOf from steps step landing landed
 now-is-the-current-time bound s x a e c = rw (a, e, c, +ℤ-idr (x .seconds), secondsInRange-of-time x c)
 
 -- ---- `yesterday`
-length-of-same : (s t : List ℕ) → sameLetters s t ≡ true → length s ≡ length t
-length-of-same s t e = by-test (eqb (length s) (length t)) (λ f. eqb-true (length s) (length t) f) (λ f. absurd (false≢true (sym (sameLetters-of-length s t (eqb-false (length s) (length t) f)) ∙ e)))
-
 -- a text as long as another is not one of another length
 not-is : (t : List ℕ) (u v : String) → (length (bytes u) ≡ length (bytes v) → ⊥) → is t u ≡ true → is t v ≡ false
 not-is t u v h e = sameLetters-of-length t (bytes v) (λ f. h (sym (length-of-same t (bytes u) e) ∙ f))
@@ -108,9 +103,6 @@ secondsInRange-lt z n h e =
     let y = z -ℤ pos n in
     let k : y ≤ℤ mostSeconds = parts-le _ _ (omega (arith, le-parts h, add-parts z (negℤ (pos n)), up-neg (pos n), dn-neg (pos n))) in
     le-no (lit leastSeconds) (lit y) (sym (and-true (leZ leastSeconds y)) ∙ (rw (leZ-true k) at e))
-
-sub-sub : (z : ℤ) (a b : ℕ) → z -ℤ pos a -ℤ pos b ≡ z -ℤ pos (a + b)
-sub-sub z a b = parts-eq _ _ (omega (arith, add-parts (z -ℤ pos a) (negℤ (pos b)), add-parts z (negℤ (pos a)), add-parts z (negℤ (pos (a + b))), up-neg (pos a), dn-neg (pos a), up-neg (pos b), dn-neg (pos b), up-neg (pos (a + b)), dn-neg (pos (a + b))))
 
 sub-lt : (z : ℤ) (a b : ℕ) → (z -ℤ pos a) <ℤ leastSeconds → (z -ℤ pos (a + b)) <ℤ leastSeconds
 sub-lt z a b h = parts-lt _ _ (omega (arith, lt-parts h, add-parts z (negℤ (pos a)), add-parts z (negℤ (pos (a + b))), up-neg (pos a), dn-neg (pos a), up-neg (pos (a + b)), dn-neg (pos (a + b))))

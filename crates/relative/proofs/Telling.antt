@@ -1,12 +1,12 @@
 -- What a scan says of a text is what `byPairs` asks, and where the steps start is what `from` asks.
 -- Assumes nothing.
 use mathlib.Core.Path.{_≡_, refl, sym, ap, _∙_}
-use mathlib.Core.Bool.{Bool, true, false, cond, not, _&&_, _||_}
-use mathlib.Core.List.{List, [], _∷_}
-use Prim.Native.Nat.{ℕ, suc, _≤_}
+use mathlib.Core.Bool.{Bool, true, false, _&&_, _||_}
+use mathlib.Core.List.{List}
+use Prim.Native.Nat.{ℕ, zero, suc, _≤_, _<_}
 use native.Mathlib.Omega.{arith}
-use borrow.Author.Tests.{leb-true, lt-ltb}
-use lib.Dec.{leb, ltb, eqb, eqb·suc-zero}
+use borrow.Author.Tests.{lt-ltb, le-leb, lt-leb}
+use lib.Dec.{ltb, eqb·suc-zero}
 use lib.ListN.{length, take}
 use Rattle.text.proofs.Lists.{by-test}
 use Rattle.time.specs.Range.{timeInRange, timeOf, movedOf}
@@ -22,43 +22,45 @@ use Rattle.time.proofs.Ranges.{timeOf-instantOf}
 use Rattle.relative.specs.Pairs.{known, pairsOf, agoIn}
 use Rattle.relative.specs.Steps.{steps}
 use Rattle.relative.specs.Relative.{from, byPairs}
-use Rattle.relative.specs.Held.{toldOf, Holds, startOf}
-use Rattle.relative.specs.declared.Pair.{Pair}
-use Rattle.relative.specs.declared.pairs.Told.{Told}
-use Rattle.relative.specs.declared.pairs.Told.the-variants.{Pairs, Not}
+use Rattle.relative.specs.Held.{places, countedOf, Holds, startOf}
+use Rattle.relative.specs.declared.pair.Pair.{Pair}
+use Rattle.relative.specs.declared.pairs.Counted.{Counted}
+use Rattle.relative.specs.declared.pairs.Counted.the-variants.{Pairs, Nothing}
 use Rattle.relative.specs.declared.steps.Start.{Start}
 use Rattle.relative.specs.declared.steps.Start.the-variants.{From, No}
 
--- ---- the verdict
-abbrev pub byTold : Now → List Pair → Told → Answer
-byTold now ps (Pairs n) = from now ps
-byTold now ps (Not r) = Refused r
+-- ---- what the count says
+nothing-of-counted : (n : ℕ) (allowed : Bool) → countedOf n allowed ≡ Nothing → (ltb 0 n && allowed) ≡ false
+unfolding countedOf
+nothing-of-counted zero allowed e = refl
+nothing-of-counted (suc n) true e = let z : _≡_ {A = ℕ} 0 1 = cc (rw eqb·suc-zero at e) in absurd (omega arith)
+nothing-of-counted (suc n) false e = rw (lt-ltb 0 (suc n) (omega arith))
 
-told-cond : (bound : ℕ) (now : Now) (ps : List Pair) (ok : Bool)
-    → cond (not (ltb 0 (length ps) && ok)) (Refused Form) (cond (not (leb (length ps) bound)) (Refused TooMany) (from now ps)) ≡ byTold now ps (toldOf bound (length ps) ok)
-unfolding toldOf
-told-cond bound now [] ok = refl
-told-cond bound now (p ∷ ps) true = by-test (leb (length (p ∷ ps)) bound) (λ f. rw (lt-ltb 0 (suc (length ps)) (omega arith), f, eqb·suc-zero)) (λ f. rw (lt-ltb 0 (suc (length ps)) (omega arith), f, eqb·suc-zero))
-told-cond bound now (p ∷ ps) false = rw (lt-ltb 0 (suc (length ps)) (omega arith), eqb·suc-zero)
+pairs-of-counted : (n m : ℕ) (allowed : Bool) → countedOf n allowed ≡ Pairs m → ((ltb 0 n && allowed) ≡ true) × (n ≡ m)
+unfolding countedOf
+pairs-of-counted zero m allowed e = let z : _≡_ {A = ℕ} 0 1 = cc in absurd (omega arith)
+pairs-of-counted (suc n) m true e = let k : Pairs (suc n) ≡ Pairs m = rw eqb·suc-zero at e in (rw (lt-ltb 0 (suc n) (omega arith)), cc)
+pairs-of-counted (suc n) m false e = let k : Nothing ≡ Pairs m = rw eqb·suc-zero at e in let z : _≡_ {A = ℕ} 0 1 = cc in absurd (omega arith)
 
-pub byPairs-told : (bound : ℕ) (s : List ℕ) (now : Now) → byPairs bound s now ≡ byTold now (pairsOf s) (toldOf bound (length (pairsOf s)) (known (pairsOf s) || agoIn s))
-unfolding byPairs
-byPairs-told bound s now = told-cond bound now (pairsOf s) (known (pairsOf s) || agoIn s)
+-- ---- how many pairs go on
+module _ (bound : ℕ) (s : List ℕ) (now : Now) (t : Counted) (e : t ≡ countedOf (length (pairsOf s)) (known (pairsOf s) || agoIn s)) where
+  -- none: 2
+  pub byPairs-of-nothing : t ≡ Nothing → byPairs bound s now ≡ Refused Form
+  unfolding byPairs
+  byPairs-of-nothing f = rw (nothing-of-counted (length (pairsOf s)) (known (pairsOf s) || agoIn s) (sym e ∙ f))
 
--- so many pairs that go on
-toldOf-pairs : (bound n m : ℕ) (ok : Bool) → toldOf bound n ok ≡ Pairs m → (n ≡ m) × (m ≤ bound)
-unfolding toldOf
-toldOf-pairs bound n m ok =
-    by-test (eqb n 0)
-    (λ e h. let k : Not Form ≡ Pairs m = rw e at h in let z : _≡_ {A = ℕ} 0 1 = cc in absurd (omega arith))
-    (λ e. by-test ok
-    (λ f. by-test (leb n bound)
-    (λ g h. let k : Pairs n ≡ Pairs m = rw (e, f, g) at h in let j : n ≡ m = cc in (j, rw j at (leb-true n bound g)))
-    (λ g h. let k : Not TooMany ≡ Pairs m = rw (e, f, g) at h in let z : _≡_ {A = ℕ} 0 1 = cc in absurd (omega arith)))
-    (λ f h. let k : Not Form ≡ Pairs m = rw (e, f) at h in let z : _≡_ {A = ℕ} 0 1 = cc in absurd (omega arith)))
+  -- so many, and 5 if they are too many
+  module _ {n : ℕ} (f : t ≡ Pairs n) where
+    pub byPairs-of-lt : bound < n → byPairs bound s now ≡ Refused TooMany
+    unfolding byPairs
+    byPairs-of-lt h = let p = pairs-of-counted (length (pairsOf s)) n (known (pairsOf s) || agoIn s) (sym e ∙ f) in rw (p .0, lt-leb (length (pairsOf s)) bound (omega (arith, p .1)))
+
+    pub byPairs-of-le : n ≤ bound → byPairs bound s now ≡ from now (pairsOf s)
+    unfolding byPairs
+    byPairs-of-le h = let p = pairs-of-counted (length (pairsOf s)) n (known (pairsOf s) || agoIn s) (sym e ∙ f) in rw (p .0, le-leb (length (pairsOf s)) bound (omega (arith, p .1)))
 
 -- ---- the start
-abbrev pub byStart : List Pair → Start → Answer
+abbrev byStart : List Pair → Start → Answer
 byStart ps (From i) = steps ps (Time (timeOf i))
 byStart ps (No r) = Refused r
 
@@ -68,7 +70,7 @@ from-startOf Missing ps = refl
 from-startOf (At x) ps = by-test (timeInRange x) (λ e. rw (e, timeOf-instantOf x e)) (λ e. rw e)
 
 -- as a time is moved to numbers from 0
-abbrev pub byMoved : Moved → Start
+abbrev byMoved : Moved → Start
 byMoved (In i) = From i
 byMoved Out = No Current
 
@@ -80,11 +82,10 @@ startOf-movedOf x = by-test (timeInRange x) (λ e. rw e) (λ e. rw e)
 pub from-of-start : (now : Now) (ps : List Pair) (s t : Start) → s ≡ startOf now → s ≡ t → from now ps ≡ byStart ps t
 from-of-start now ps s t e f = from-startOf now ps ∙ ap (byStart ps) (sym e ∙ f)
 
--- a verdict that was found
-pub byPairs-of-told : (bound : ℕ) (s : List ℕ) (now : Now) (t u : Told) → t ≡ toldOf bound (length (pairsOf s)) (known (pairsOf s) || agoIn s) → t ≡ u → byPairs bound s now ≡ byTold now (pairsOf s) u
-byPairs-of-told bound s now t u e f = byPairs-told bound s now ∙ ap (byTold now (pairsOf s)) (sym e ∙ f)
+-- what a scan holds
+pub Holds-of-counted : (n : ℕ) (allowed : Bool) (held ps : List Pair) (t : Counted) → t ≡ countedOf n allowed → (n ≤ places → take n held ≡ ps) → Holds t held ps
+Holds-of-counted n allowed held ps (Pairs m) e h = rw (pairs-of-counted n m allowed (sym e) .1) at h
+Holds-of-counted n allowed held ps Nothing e h = tt
 
--- what a scan holds, where the verdict lets pairs go on
-pub Holds-of-toldOf : (bound n : ℕ) (ok : Bool) (held ps : List Pair) (t : Told) → t ≡ toldOf bound n ok → (n ≤ bound → take n held ≡ ps) → Holds bound t held ps
-Holds-of-toldOf bound n ok held ps (Pairs m) e h = let g = toldOf-pairs bound n m ok (sym e) in (g .1, rw (g .0) at (h (rw (g .0) (g .1))))
-Holds-of-toldOf bound n ok held ps (Not r) e h = tt
+pub take-of-Holds : (t : Counted) (n : ℕ) (held ps : List Pair) → t ≡ Pairs n → Holds t held ps → n ≤ places → take n held ≡ ps
+take-of-Holds t n held ps e h = rw e at h

@@ -1,12 +1,10 @@
--- Two texts in a row: their words, pairs, marks and steps; an answer in range. In order: pairs; texts; steps; what steps keep.
+-- Two texts in a row: their pairs and steps; an answer in range. In order: pairs; steps; what steps keep.
 -- Assumes nothing.
 use mathlib.Core.Path.{_≡_, refl}
 use mathlib.Core.Bool.{true, _&&_}
 use mathlib.Core.List.{List, [], _∷_, _++_}
 use Prim.Native.Nat.{ℕ}
-use lib.Dec.{ltb}
 use lib.IntN.{ℤ}
-use Rattle.text.specs.Bytes.{ascii}
 use Rattle.text.specs.declared.number.Number.{Number}
 use Rattle.text.specs.declared.number.Number.the-variants.{Value, Not}
 use Rattle.text.proofs.Lists.{by-test, both}
@@ -16,7 +14,7 @@ use Rattle.time.specs.declared.Answer.the-variants.{Time, Refused}
 use Rattle.relative.specs.Pairs.{next, pairsFrom, known, isKnown}
 use Rattle.relative.specs.Steps.{landing, landed, step, steps}
 use Rattle.relative.specs.Joined.{waitsFrom}
-use Rattle.relative.specs.declared.Pair.{Pair}
+use Rattle.relative.specs.declared.pair.Pair.{Pair}
 
 -- ---- pairs
 pub pairsFrom-append : (c : Number) (a b : List (List ℕ)) → pairsFrom c (a ++ b) ≡ pairsFrom c a ++ pairsFrom (waitsFrom c a) b
@@ -35,12 +33,6 @@ unfolding known
 known-append [] b = refl
 known-append (p ∷ a) b = by-test (isKnown (p .unit)) (λ e. rw e (known-append a b)) (λ e. rw e)
 
--- ---- texts
-pub ascii-append : (a b : List ℕ) → ascii (a ++ b) ≡ (ascii a && ascii b)
-unfolding ascii
-ascii-append [] b = refl
-ascii-append (x ∷ a) b = by-test (ltb x 128) (λ e. rw e (ascii-append a b)) (λ e. rw e)
-
 -- ---- steps
 pub steps-append : (a b : List Pair) (x : Answer) → steps (a ++ b) x ≡ steps b (steps a x)
 unfolding steps
@@ -56,7 +48,7 @@ landed-good : (z o : ℤ) → offsetInRange o ≡ true → Good (landed z o)
 unfolding landed timeInRange
 landed-good z o h = by-test (secondsInRange z) (λ e. rw e (rw e h)) (λ e. rw e tt)
 
-pub step-good : (p : Pair) (x : Answer) → Good x → Good (step p x)
+step-good : (p : Pair) (x : Answer) → Good x → Good (step p x)
 unfolding step timeInRange
 step-good p (Time x) g = landed-good (landing x (p .count) (p .unit)) (x .offset) (both (secondsInRange (x .seconds)) (offsetInRange (x .offset)) g .1)
 step-good p (Refused r) g = tt

@@ -1,8 +1,8 @@
--- What the code holds on the way to an answer: pairs as two lists of numbers, the verdict on a text, a current time or a landing
--- as numbers from 0. A unit is held as its seconds, or as its months and 1,000,000 more, and 0 is an unknown one. Nothing here is
+-- What the code holds on the way to an answer: pairs as two lists of numbers, how many there are, a current time or a landing as
+-- numbers from 0. A unit is held as its seconds, or as its months and 1,000,000 more, and 0 is an unknown one. Nothing here is
 -- needed to read what `parse` ensures.
 -- Assumes nothing.
-use Prim.Native.Nat.{ℕ, _-_, _≤_}
+use Prim.Native.Nat.{ℕ, _+_, _-_, _≤_}
 use mathlib.Core.Path.{_≡_}
 use mathlib.Core.Bool.{Bool, cond}
 use mathlib.Core.List.{List, [], _∷_}
@@ -13,21 +13,35 @@ use Rattle.time.specs.declared.range.Moved.{Moved}
 use Rattle.time.specs.declared.range.Moved.the-variants.{In, Out}
 use Rattle.time.specs.declared.Now.{Now}
 use Rattle.time.specs.declared.Now.the-variants.{Missing, At}
-use Rattle.time.specs.declared.Refusal.{Refusal}
-use Rattle.time.specs.declared.Refusal.the-variants.{Form, Missing as NoCurrent, Current, Pairs as TooMany, Range}
+use Rattle.time.specs.declared.Refusal.the-variants.{Missing as NoCurrent, Current, Range}
 use Rattle.time.specs.declared.Answer.{Answer}
 use Rattle.time.specs.declared.Answer.the-variants.{Time, Refused}
-use Rattle.relative.specs.declared.Unit.{Unit as PairUnit}
-use Rattle.relative.specs.declared.Unit.the-variants.{Seconds, Months, Unknown}
-use Rattle.relative.specs.declared.Pair.{Pair}
-use Rattle.relative.specs.declared.pairs.Told.{Told}
-use Rattle.relative.specs.declared.pairs.Told.the-variants.{Pairs, Not}
+use Rattle.relative.specs.declared.pair.Unit.{Unit as PairUnit}
+use Rattle.relative.specs.declared.pair.Unit.the-variants.{Seconds, Months, Unknown}
+use Rattle.relative.specs.declared.pair.Pair.{Pair}
+use Rattle.relative.specs.declared.pairs.Counted.{Counted}
+use Rattle.relative.specs.declared.pairs.Counted.the-variants.{Pairs, Nothing}
 use Rattle.relative.specs.declared.steps.Start.{Start}
 use Rattle.relative.specs.declared.steps.Start.the-variants.{From, No}
 
--- a unit, of its number
+-- the places in the two lists
+abbrev pub places : ℕ
+places = 32
+
+-- the number of a unit, and the unit of a number
+unfoldable pub codeOf : PairUnit → ℕ
+codeOf (Seconds k) = k
+codeOf (Months k) = k + 1000000
+codeOf Unknown = 0
+
 unfoldable pub unitAt : ℕ → PairUnit
 unitAt n = cond (eqb n 0) Unknown (cond (leb n 1000000) (Seconds n) (Months (n - 1000000)))
+
+-- a unit that its number gives back: at least one second or one month, at most a million
+abbrev pub Coded : PairUnit → Type 0
+Coded (Seconds k) = (1 ≤ k) × (k ≤ 1000000)
+Coded (Months k) = (1 ≤ k) × (k ≤ 1000000)
+Coded Unknown = Unit {0}
 
 -- a unit of at least one second or one month
 abbrev pub Sized : PairUnit → Type 0
@@ -40,19 +54,14 @@ zipped [] us = []
 zipped (c ∷ cs) [] = []
 zipped (c ∷ cs) (u ∷ us) = record { count = c; unit = unitAt u } ∷ zipped cs us
 
--- the verdict on a text of n pairs, whose units may stand or not
-unfoldable pub toldOf : ℕ → ℕ → Bool → Told
-toldOf bound n units = cond (eqb n 0) (Not Form) (cond units (cond (leb n bound) (Pairs n) (Not TooMany)) (Not Form))
+-- how many pairs a text of n pairs says, if their units are allowed: all known, or with the mark
+unfoldable pub countedOf : ℕ → Bool → Counted
+countedOf n allowed = cond (eqb n 0) Nothing (cond allowed (Pairs n) Nothing)
 
--- the pairs that go on are those held first
-abbrev pub Holds : ℕ → Told → List Pair → List Pair → Type 0
-Holds bound (Pairs n) held ps = (n ≤ bound) × (take n held ≡ ps)
-Holds bound (Not r) held ps = Unit {0}
-
--- the refusal of a verdict (of a text that goes on there is none)
-abbrev pub toldRefusal : Told → Refusal
-toldRefusal (Pairs n) = Form
-toldRefusal (Not r) = r
+-- the pairs of the text are those held first, if there are places for them all
+abbrev pub Holds : Counted → List Pair → List Pair → Type 0
+Holds (Pairs n) held ps = n ≤ places → take n held ≡ ps
+Holds Nothing held ps = Unit {0}
 
 -- where the steps start
 unfoldable pub startOf : Now → Start
@@ -62,11 +71,6 @@ startOf (At x) = cond (timeInRange x) (From (instantOf x)) (No Current)
 abbrev pub StartInRange : Start → Type 0
 StartInRange (From i) = InRange i
 StartInRange (No r) = Unit {0}
-
--- the refusal of a start (of one that there is, none)
-abbrev pub startRefusal : Start → Refusal
-startRefusal (From i) = Form
-startRefusal (No r) = r
 
 -- the answer of a landing
 abbrev pub answerOf : Moved → Answer

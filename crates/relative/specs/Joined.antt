@@ -1,21 +1,21 @@
 -- Demand 3: what two relative texts have to be so that, joined by a space, they answer as the second read from the first's
--- answer; and so that their order does not matter. Last, a text in capitals.
+-- answer; and so that their order does not matter.
 -- Assumes nothing.
-use Prim.Native.Nat.{ℕ, _-_, _<_}
+use Prim.Native.Nat.{ℕ, _<_}
 use Prim.Native.Char.{code}
 use mathlib.Core.Path.{_≡_}
-use mathlib.Core.Bool.{Bool, true, false, cond, _&&_}
+use mathlib.Core.Bool.{Bool, true, false, _&&_}
 use mathlib.Core.List.{List, [], _∷_, _++_}
 use lib.ListN.{length}
-use Rattle.text.specs.Bytes.{between, ascii}
+use Rattle.text.specs.Bytes.{ascii}
 use Rattle.text.specs.declared.number.Number.{Number}
 use Rattle.text.specs.declared.number.Number.the-variants.{Not}
 use Rattle.time.specs.declared.Now.the-variants.{At}
 use Rattle.time.specs.declared.Answer.{Answer}
 use Rattle.time.specs.declared.Answer.the-variants.{Time, Refused}
-use Rattle.relative.specs.declared.Unit.{Unit}
-use Rattle.relative.specs.declared.Unit.the-variants.{Seconds, Months, Unknown}
-use Rattle.relative.specs.declared.Pair.{Pair}
+use Rattle.relative.specs.declared.pair.Unit.{Unit}
+use Rattle.relative.specs.declared.pair.Unit.the-variants.{Seconds, Months, Unknown}
+use Rattle.relative.specs.declared.pair.Pair.{Pair}
 use Rattle.relative.specs.Words.{wordsOf}
 use Rattle.relative.specs.Pairs.{next, pairsOf, known}
 use Rattle.relative.specs.Relative.{relativeOf}
@@ -50,11 +50,3 @@ isSeconds Unknown = false
 unfoldable pub allSeconds : List Pair → Bool
 allSeconds [] = true
 allSeconds (p ∷ ps) = isSeconds (p .unit) && allSeconds ps
-
--- a text in capitals
-unfoldable pub upperOf : ℕ → ℕ
-upperOf b = cond (between (code "a") (code "z") b) (b - 32) b
-
-unfoldable pub uppers : List ℕ → List ℕ
-uppers [] = []
-uppers (b ∷ s) = upperOf b ∷ uppers s

@@ -13,7 +13,7 @@ use Rattle.calendar.specs.Civil.{Civil, monthCount, civilDay, civilDate}
 use Rattle.time.specs.declared.Time.{Time}
 use Rattle.relative.specs.Pairs.{pairsOf}
 use Rattle.relative.specs.Steps.{localSeconds}
-use Rattle.relative.specs.declared.Unit.{Unit}
+use Rattle.relative.specs.declared.pair.Unit.{Unit}
 
 -- the local date of a time, and the second of its day
 abbrev pub dateAt : Time → Civil

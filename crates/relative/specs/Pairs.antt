@@ -7,9 +7,9 @@ use mathlib.Core.List.{List, [], _∷_}
 use Rattle.text.specs.declared.number.Number.{Number}
 use Rattle.text.specs.declared.number.Number.the-variants.{Value, Not}
 use Rattle.relative.specs.Words.{wordsOf, is, countOf, unitOf}
-use Rattle.relative.specs.declared.Unit.{Unit}
-use Rattle.relative.specs.declared.Unit.the-variants.{Seconds, Months, Unknown}
-use Rattle.relative.specs.declared.Pair.{Pair}
+use Rattle.relative.specs.declared.pair.Unit.{Unit}
+use Rattle.relative.specs.declared.pair.Unit.the-variants.{Seconds, Months, Unknown}
+use Rattle.relative.specs.declared.pair.Pair.{Pair}
 
 -- what waits once the word w is read: a count, if w is one; other words are passed over
 abbrev pub next : Number → List ℕ → Number

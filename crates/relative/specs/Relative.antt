@@ -19,8 +19,8 @@ use Rattle.time.specs.declared.Answer.the-variants.{Time, Refused}
 use Rattle.relative.specs.Words.{is}
 use Rattle.relative.specs.Pairs.{pairsOf, agoIn, known}
 use Rattle.relative.specs.Steps.{steps}
-use Rattle.relative.specs.declared.Unit.the-variants.{Seconds}
-use Rattle.relative.specs.declared.Pair.{Pair}
+use Rattle.relative.specs.declared.pair.Unit.the-variants.{Seconds}
+use Rattle.relative.specs.declared.pair.Pair.{Pair}
 
 -- the bound of 32 pairs
 abbrev pub maxPairs : ℕ

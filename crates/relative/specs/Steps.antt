@@ -14,15 +14,16 @@ use Rattle.time.specs.declared.Time.{Time}
 use Rattle.time.specs.declared.Refusal.the-variants.{Range}
 use Rattle.time.specs.declared.Answer.{Answer}
 use Rattle.time.specs.declared.Answer.the-variants.{Time as At, Refused}
-use Rattle.relative.specs.declared.Unit.{Unit}
-use Rattle.relative.specs.declared.Unit.the-variants.{Seconds, Months, Unknown}
-use Rattle.relative.specs.declared.Pair.{Pair}
+use Rattle.relative.specs.declared.pair.Unit.{Unit}
+use Rattle.relative.specs.declared.pair.Unit.the-variants.{Seconds, Months, Unknown}
+use Rattle.relative.specs.declared.pair.Pair.{Pair}
 
 -- the local clock of a time in range, in seconds from day 0
 abbrev pub localSeconds : Time → ℕ
 localSeconds x = natAbs (x .seconds +ℤ x .offset +ℤ pos 377736739200)
 
--- the first day of a month, of those before month 0 too: 4,800 months have 146,097 days
+-- the first day of a month, of those before month 0 too: 4,800 months have 146,097 days (`monthStart-sub-4800` says that the second
+-- clause keeps this)
 unfoldable pub monthStart : ℤ → ℤ
 monthStart (pos m) = pos (firstDay m)
 monthStart (negsuc m) = pos (firstDay (4799 - m % 4800)) -ℤ pos ((m / 4800 + 1) * 146097)

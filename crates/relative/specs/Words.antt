@@ -4,7 +4,7 @@ use Prim.Native.Nat.{ℕ, _-_, _^_}
 use Prim.Native.Char.{code}
 use Prim.Native.String.{String}
 use mathlib.Core.Bool.{Bool, cond}
-use mathlib.Core.List.{List}
+use mathlib.Core.List.{List, [], _∷_}
 use lib.Dec.{eqb}
 use lib.ListN.{length, getD, take}
 use Rattle.text.specs.Bytes.{lowerOf, sameLetters}
@@ -14,8 +14,8 @@ use Rattle.text.specs.Number.{digitsOf, fit}
 use Rattle.text.specs.declared.words.Separator.the-variants.{Mark}
 use Rattle.text.specs.declared.number.Number.{Number}
 use Rattle.text.specs.declared.number.Number.the-variants.{Value}
-use Rattle.relative.specs.declared.Unit.{Unit}
-use Rattle.relative.specs.declared.Unit.the-variants.{Seconds, Months, Unknown}
+use Rattle.relative.specs.declared.pair.Unit.{Unit}
+use Rattle.relative.specs.declared.pair.Unit.the-variants.{Seconds, Months, Unknown}
 
 -- words are runs of ASCII letters and digits
 unfoldable pub wordsOf : List ℕ → List (List ℕ)
@@ -41,11 +41,18 @@ unfoldable pub singular : List ℕ → List ℕ
 singular w = let n : ℕ = length w - 1 in cond (eqb (lowerOf (getD w n 0)) (code "s")) (take n w) w
 
 -- second, minute, hour, day, week, month, year: how many seconds one has, or how many months
+abbrev pub unitNames : List (String × Unit)
+unitNames =
+    ("second", Seconds 1) ∷ ("minute", Seconds 60) ∷ ("hour", Seconds 3600) ∷ ("day", Seconds 86400) ∷ ("week", Seconds 604800) ∷
+    ("month", Months 1) ∷ ("year", Months 12) ∷ []
+
+-- the unit whose name w is
+abbrev pub unitAmong : List (String × Unit) → List ℕ → Unit
+unitAmong [] w = Unknown
+unitAmong (n ∷ ns) w = cond (is w (n .0)) (n .1) (unitAmong ns w)
+
 unfoldable pub unitNamed : List ℕ → Unit
-unitNamed w =
-    cond (is w "second") (Seconds 1) (cond (is w "minute") (Seconds 60) (cond (is w "hour") (Seconds 3600)
-    (cond (is w "day") (Seconds 86400) (cond (is w "week") (Seconds 604800)
-    (cond (is w "month") (Months 1) (cond (is w "year") (Months 12) Unknown))))))
+unitNamed w = unitAmong unitNames w
 
 unfoldable pub unitOf : List ℕ → Unit
 unitOf w = unitNamed (singular w)

@@ -2,7 +2,9 @@
 // time at a fixed offset.
 //
 // Every text has an answer: a time, or the refusal 1, 2, 5, 3, 4 or 6 that comes first. `parse`
-// reads no month table; `parse_with` is lent it, for callers that read many texts.
+// reads no month table; `parse_with` borrows one, for callers that read many texts.
+mod held;
+mod pair;
 mod pairs;
 mod steps;
 mod words;
@@ -11,30 +13,17 @@ ghost use mathlib.Core.Path.{_≡_};
 ghost use mathlib.Core.List.{_∷_, []};
 ghost use Rattle.calendar.specs.Table.{IsMonths};
 ghost use Rattle.relative.specs.Relative.{maxPairs, from, namedOf, byPairs, relativeOf};
-ghost use Rattle.relative.specs.declared.Unit.the-variants.{Seconds};
-use pairs::Told;
+ghost use Rattle.relative.specs.declared.pair.Unit.the-variants.{Seconds};
+use held::PLACES;
+pub use pair::MAX_PAIRS;
+pub use pair::Pair;
+pub use pair::Unit;
+use pairs::Counted;
 use steps::Start;
 use text::number::Number;
 use time::Answer;
 use time::Now;
 use time::Refusal;
-
-// The most pairs that a text may have.
-pub const MAX_PAIRS: usize = 32;
-
-// How a unit is subtracted: so many seconds off the time, or so many months off the month count. An
-// unknown one counts as seconds, in a text that has the mark.
-pub enum Unit {
-    Seconds(u64),
-    Months(u64),
-    Unknown,
-}
-
-// A count and its unit.
-pub struct Pair {
-    pub count: u64,
-    pub unit: Unit,
-}
 
 // The time that a relative text says, at the current time's offset. Refused: NotAscii, a byte of
 // 128 or more; Form, no pair, or an unknown unit without the mark; Pairs, more than MAX_PAIRS of
@@ -46,7 +35,8 @@ pub fn parse(s: &[u8], current: Now) -> Answer
     parse_with(&[], s, current)
 }
 
-// The same by a month table that is lent, or a part that opens it: for many texts in a row.
+// The same with a borrowed month table, the whole or any leading part of it: for many texts in a
+// row.
 pub fn parse_with(months: &[u32], s: &[u8], current: Now) -> Answer
     requires { ⌜ IsMonths (now months) ⌝ }
     ensures { λ r. ⌜ r ≡ relativeOf maxPairs (now (s .entry)) current ⌝ }
@@ -83,27 +73,30 @@ fn seconds_before(current: Now, k: u64) -> Answer
     ensures { λ r. ⌜ r ≡ from current (record { count = k; unit = Seconds 1 } ∷ []) ⌝ }
 {
     let start = steps::start_of(current);
-    let Start::From(i) = start else {
-        return Answer::Refused(steps::start_refusal(start));
-    };
-    steps::answer(steps::seconds_back(i, k, 1))
+    match start {
+        Start::From(i) => steps::answer(steps::seconds_back(i, k, 1)),
+        Start::No(r) => Answer::Refused(r),
+    }
 }
 
-// Pairs go into two lent arrays, which are filled only here: a named text does without. Only a text
-// with a count and its unit goes on to the calendar.
+// Pairs go into two arrays, which are filled only here: a named text does without. Only a text with
+// a count and its unit goes on to the calendar.
 fn parse_pairs(months: &[u32], s: &[u8], current: Now) -> Answer
     requires { ⌜ IsMonths (now months) ⌝ }
     ensures { λ r. ⌜ r ≡ byPairs maxPairs (now (s .entry)) current ⌝ }
 {
-    let mut counts = [0u64; MAX_PAIRS];
-    let mut units = [0u64; MAX_PAIRS];
-    let told = pairs::parse_ago(s, &mut counts, &mut units);
-    let Told::Pairs(n) = told else {
-        return Answer::Refused(pairs::told_refusal(told));
+    let mut counts = [0u64; PLACES];
+    let mut units = [0u64; PLACES];
+    let counted = pairs::parse_ago(s, &mut counts, &mut units);
+    let Counted::Pairs(n) = counted else {
+        return Answer::Refused(Refusal::Form);
     };
+    if n > MAX_PAIRS {
+        return Answer::Refused(Refusal::Pairs);
+    }
     let start = steps::start_of(current);
-    let Start::From(i) = start else {
-        return Answer::Refused(steps::start_refusal(start));
-    };
-    steps::answer(steps::subtract_pairs(months, &counts, &units, n, i))
+    match start {
+        Start::From(i) => steps::answer(steps::subtract_pairs(months, &counts, &units, n, i)),
+        Start::No(r) => Answer::Refused(r),
+    }
 }

@@ -1,62 +1,49 @@
-// The pairs of a text, and the mark `ago`. Pairs go to two lent arrays, counts and units, a unit as
-// in `words`.
+// The pairs of a text, and the mark `ago`. Pairs go to two borrowed arrays, as in `held`.
 ghost use mathlib.Core.Path.{_≡_};
 ghost use mathlib.Core.Bool.{_||_};
 ghost use Prim.Native.Nat.{_≤_};
 ghost use lib.ListN.{length, take};
-ghost use Rattle.relative.specs.Held.{unitAt, zipped, toldOf, toldRefusal, Holds};
+ghost use Rattle.relative.specs.Held.{places, zipped, countedOf, Holds};
 ghost use Rattle.relative.specs.Pairs.{isKnown, known, pairsOf, agoIn};
-ghost use Rattle.relative.specs.Relative.{maxPairs};
-use crate::MAX_PAIRS;
+use crate::held;
+use crate::held::PLACES;
+use crate::pair::Unit;
 use crate::words;
 use text::bytes;
 use text::number::Number;
 use text::words::Separator;
 use text::words::Taken;
 use text::words::Words;
-use time::Refusal;
 
-// What a text says: so many pairs that go on to the calendar, or a refusal.
-pub enum Told {
+// How many pairs a text has. Nothing: it has none, or an unknown unit without the mark.
+pub enum Counted {
     Pairs(usize),
-    Not(Refusal),
+    Nothing,
 }
 
-// The refusal; of pairs that go on there is none.
-pub fn told_refusal(t: Told) -> Refusal
-    ensures { λ r. ⌜ r ≡ toldRefusal t ⌝ }
-{
-    match t {
-        Told::Pairs(_) => Refusal::Form,
-        Told::Not(r) => r,
-    }
-}
-
-// The pairs of a text, the first of the arrays. The whole text is read before 5 is decided: a later
-// word may make it 2.
-pub fn parse_ago(s: &[u8], counts: &mut [u64; MAX_PAIRS], units: &mut [u64; MAX_PAIRS]) -> Told
-    requires { ⌜ (length (now counts) ≡ maxPairs) × (length (now units) ≡ maxPairs) ⌝ }
-    ensures told { λ r. ⌜ r ≡ toldOf maxPairs (length (pairsOf (now (s .entry)))) (known (pairsOf (now (s .entry))) || agoIn (now (s .entry))) ⌝ }
-    ensures pairs { λ r. ⌜ Holds maxPairs r (zipped (now (counts .exit)) (now (units .exit))) (pairsOf (now (s .entry))) ⌝ }
-    ensures lengths { λ r. ⌜ (length (now (counts .exit)) ≡ maxPairs) × (length (now (units .exit)) ≡ maxPairs) ⌝ }
+// Counts the pairs of a text, and stores them as far as the arrays have room. The whole text is
+// read, however many pairs it has: a later word may make it Nothing.
+pub fn parse_ago(s: &[u8], counts: &mut [u64; PLACES], units: &mut [u64; PLACES]) -> Counted
+    requires { ⌜ (length (now counts) ≡ places) × (length (now units) ≡ places) ⌝ }
+    ensures counted { λ r. ⌜ r ≡ countedOf (length (pairsOf (now (s .entry)))) (known (pairsOf (now (s .entry))) || agoIn (now (s .entry))) ⌝ }
+    ensures pairs { λ r. ⌜ Holds r (zipped (now (counts .exit)) (now (units .exit))) (pairsOf (now (s .entry))) ⌝ }
+    ensures lengths { λ r. ⌜ (length (now (counts .exit)) ≡ places) × (length (now (units .exit)) ≡ places) ⌝ }
 {
     let a = scan(s, counts, units);
-    verdict(a.n, a.known, a.ago)
+    verdict(a.n, a.known | a.ago)
 }
 
-fn verdict(n: usize, known: bool, ago: bool) -> Told
-    ensures { λ r. ⌜ r ≡ toldOf maxPairs n (known || ago) ⌝ }
+// Unknown units are allowed only with the mark.
+fn verdict(n: usize, allowed: bool) -> Counted
+    ensures { λ r. ⌜ r ≡ countedOf n allowed ⌝ }
 {
     if n == 0 {
-        return Told::Not(Refusal::Form);
+        return Counted::Nothing;
     }
-    if known | ago {
-        if n <= MAX_PAIRS {
-            return Told::Pairs(n);
-        }
-        return Told::Not(Refusal::Pairs);
+    if allowed {
+        return Counted::Pairs(n);
     }
-    Told::Not(Refusal::Form)
+    Counted::Nothing
 }
 
 // How many pairs, whether all their units are known, and the mark.
@@ -67,13 +54,13 @@ struct Scanned {
 }
 
 // Pairs beyond the arrays are counted, and their units looked at, but not held.
-fn scan(s: &[u8], counts: &mut [u64; MAX_PAIRS], units: &mut [u64; MAX_PAIRS]) -> Scanned
-    requires { ⌜ (length (now counts) ≡ maxPairs) × (length (now units) ≡ maxPairs) ⌝ }
+fn scan(s: &[u8], counts: &mut [u64; PLACES], units: &mut [u64; PLACES]) -> Scanned
+    requires { ⌜ (length (now counts) ≡ places) × (length (now units) ≡ places) ⌝ }
     ensures number { λ r. ⌜ r .n ≡ length (pairsOf (now (s .entry))) ⌝ }
     ensures known { λ r. ⌜ r .known ≡ known (pairsOf (now (s .entry))) ⌝ }
     ensures mark { λ r. ⌜ r .ago ≡ agoIn (now (s .entry)) ⌝ }
-    ensures pairs { λ r. ⌜ (r .n ≤ maxPairs → take (r .n) (zipped (now (counts .exit)) (now (units .exit))) ≡ pairsOf (now (s .entry))) ⌝ }
-    ensures lengths { λ r. ⌜ (length (now (counts .exit)) ≡ maxPairs) × (length (now (units .exit)) ≡ maxPairs) ⌝ }
+    ensures pairs { λ r. ⌜ (r .n ≤ places → take (r .n) (zipped (now (counts .exit)) (now (units .exit))) ≡ pairsOf (now (s .entry))) ⌝ }
+    ensures lengths { λ r. ⌜ (length (now (counts .exit)) ≡ places) × (length (now (units .exit)) ≡ places) ⌝ }
 {
     let mut n: usize = 0;
     let mut known = true;
@@ -102,9 +89,10 @@ fn scan(s: &[u8], counts: &mut [u64; MAX_PAIRS], units: &mut [u64; MAX_PAIRS]) -
         w = after;
         let u = words::unit(text::words::within(s, y));
         known = known & is_known(u);
-        if n < MAX_PAIRS {
+        if n < PLACES {
+            let code = held::code_of(u);
             counts[n] = v;
-            units[n] = u;
+            units[n] = code;
             n += 1;
             continue;
         }
@@ -112,8 +100,12 @@ fn scan(s: &[u8], counts: &mut [u64; MAX_PAIRS], units: &mut [u64; MAX_PAIRS]) -
     }
 }
 
-fn is_known(u: u64) -> bool
-    ensures { λ r. ⌜ r ≡ isKnown (unitAt u) ⌝ }
+fn is_known(u: Unit) -> bool
+    ensures { λ r. ⌜ r ≡ isKnown u ⌝ }
 {
-    u != 0
+    match u {
+        Unit::Seconds(_) => true,
+        Unit::Months(_) => true,
+        Unit::Unknown => false,
+    }
 }

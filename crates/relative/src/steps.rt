@@ -7,12 +7,12 @@ ghost use lib.ListN.{length, take};
 ghost use Rattle.calendar.specs.Table.{IsMonths};
 ghost use Rattle.time.specs.Range.{since1970, timeOf, InRange, MovedInRange};
 ghost use Rattle.time.specs.declared.Answer.the-variants.{Time as TimeAt};
-ghost use Rattle.relative.specs.Held.{unitAt, Sized, zipped, startOf, startRefusal, StartInRange, answerOf};
-ghost use Rattle.relative.specs.Relative.{maxPairs};
+ghost use Rattle.relative.specs.Held.{places, Sized, zipped, startOf, StartInRange, answerOf};
 ghost use Rattle.relative.specs.Steps.{monthsEarlier, landed, step, steps};
-use crate::MAX_PAIRS;
-use crate::Pair;
-use crate::Unit;
+use crate::held;
+use crate::held::PLACES;
+use crate::pair::Pair;
+use crate::pair::Unit;
 use calendar::Found;
 use time::Answer;
 use time::Now;
@@ -40,16 +40,6 @@ pub fn start_of(current: Now) -> Start
     Start::From(i)
 }
 
-// The refusal; of a start that there is, none.
-pub fn start_refusal(s: Start) -> Refusal
-    ensures { λ r. ⌜ r ≡ startRefusal s ⌝ }
-{
-    match s {
-        Start::From(_) => Refusal::Form,
-        Start::No(r) => r,
-    }
-}
-
 // A landing as the reader's answer.
 pub fn answer(m: Moved) -> Answer
     requires { ⌜ MovedInRange m ⌝ }
@@ -64,20 +54,20 @@ pub fn answer(m: Moved) -> Answer
 // The first n pairs, each from where the one before landed.
 pub fn subtract_pairs(
     months: &[u32],
-    counts: &[u64; MAX_PAIRS],
-    units: &[u64; MAX_PAIRS],
+    counts: &[u64; PLACES],
+    units: &[u64; PLACES],
     n: usize,
     i: Instant,
 ) -> Moved
-    requires { ⌜ IsMonths (now months) × (length (now counts) ≡ maxPairs) × (length (now units) ≡ maxPairs) ⌝ }
-    requires { ⌜ (n ≤ maxPairs) × InRange i ⌝ }
+    requires { ⌜ IsMonths (now months) × (length (now counts) ≡ places) × (length (now units) ≡ places) ⌝ }
+    requires { ⌜ (n ≤ places) × InRange i ⌝ }
     ensures is { λ r. ⌜ answerOf r ≡ steps (take n (zipped (now (counts .entry)) (now (units .entry)))) (TimeAt (timeOf i)) ⌝ }
     ensures range { λ r. ⌜ MovedInRange r ⌝ }
 {
     let mut at = i;
     let mut k: usize = 0;
     while k < n {
-        let unit = unit_at(units[k]);
+        let unit = held::unit_at(units[k]);
         let pair = Pair {
             count: counts[k],
             unit: unit,
@@ -90,20 +80,6 @@ pub fn subtract_pairs(
         k += 1;
     }
     Moved::In(at)
-}
-
-// The unit of a number, as `words` has it.
-fn unit_at(n: u64) -> Unit
-    ensures is { λ r. ⌜ r ≡ unitAt n ⌝ }
-    ensures size { λ r. ⌜ Sized r ⌝ }
-{
-    if n == 0 {
-        return Unit::Unknown;
-    }
-    if n <= 1000000 {
-        return Unit::Seconds(n);
-    }
-    Unit::Months(n - 1000000)
 }
 
 fn subtract_pair(months: &[u32], p: Pair, i: Instant) -> Moved
@@ -133,8 +109,8 @@ pub fn seconds_back(i: Instant, n: u64, k: u64) -> Moved
     kept(t - n * k, i.offset)
 }
 
-// n times k months earlier, on the local clock. Not the month's first day is tested, but the
-// landing.
+// n times k months earlier, on the local clock. The landing is tested for range,
+// not the first day of its month.
 fn months_earlier(months: &[u32], i: Instant, n: u64, k: u64) -> Moved
     requires { ⌜ IsMonths (now months) × InRange i × (1 ≤ k) ⌝ }
     ensures is { λ r. ⌜ answerOf r ≡ landed (monthsEarlier (timeOf i) (n * k)) (timeOf i .offset) ⌝ }

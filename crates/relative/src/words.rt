@@ -1,11 +1,10 @@
-// What a word alone says: a count, or a unit. A unit is a number here: its seconds, or its months
-// and 1,000,000 more; 0 is none that is known.
+// What a word alone says: a count, or a unit.
 ghost use mathlib.Core.Path.{_≡_};
 ghost use mathlib.Core.Bool.{cond};
 ghost use Rattle.text.specs.Bytes.{sameLetters};
 ghost use Rattle.text.specs.declared.number.Number.the-variants.{Value, Not};
 ghost use Rattle.relative.specs.Words.{spelled as spelledOf, countOf, singular as singularOf, unitNamed, unitOf};
-ghost use Rattle.relative.specs.Held.{unitAt};
+use crate::pair::Unit;
 use text::bytes;
 use text::number::Number;
 
@@ -40,7 +39,7 @@ fn spelled(w: &[u8]) -> Number
     n
 }
 
-// n if w is the name, and otherwise what is told already.
+// n if w is the name, else `other`.
 fn named(w: &[u8], name: &[u8], n: u64, other: Number) -> Number
     ensures { λ r. ⌜ r ≡ cond (sameLetters (now (w .entry)) (now (name .entry))) (Value n) other ⌝ }
 {
@@ -50,8 +49,8 @@ fn named(w: &[u8], name: &[u8], n: u64, other: Number) -> Number
     other
 }
 
-pub fn unit(w: &[u8]) -> u64
-    ensures { λ r. ⌜ unitAt r ≡ unitOf (now (w .entry)) ⌝ }
+pub fn unit(w: &[u8]) -> Unit
+    ensures { λ r. ⌜ r ≡ unitOf (now (w .entry)) ⌝ }
 {
     unit_named(singular(w))
 }
@@ -64,35 +63,35 @@ fn singular(w: &[u8]) -> &[u8]
         return w;
     }
     let n = w.len() - 1;
-    if bytes::lower(w[n]) == 115 {
+    if bytes::lower(w[n]) == b's' {
         return &w[..n];
     }
     w
 }
 
-fn unit_named(w: &[u8]) -> u64
-    ensures { λ r. ⌜ unitAt r ≡ unitNamed (now (w .entry)) ⌝ }
+fn unit_named(w: &[u8]) -> Unit
+    ensures { λ r. ⌜ r ≡ unitNamed (now (w .entry)) ⌝ }
 {
     if bytes::same_ignoring_case(w, b"second") {
-        return 1;
+        return Unit::Seconds(1);
     }
     if bytes::same_ignoring_case(w, b"minute") {
-        return 60;
+        return Unit::Seconds(60);
     }
     if bytes::same_ignoring_case(w, b"hour") {
-        return 3600;
+        return Unit::Seconds(3600);
     }
     if bytes::same_ignoring_case(w, b"day") {
-        return 86400;
+        return Unit::Seconds(86400);
     }
     if bytes::same_ignoring_case(w, b"week") {
-        return 604800;
+        return Unit::Seconds(604800);
     }
     if bytes::same_ignoring_case(w, b"month") {
-        return 1000001;
+        return Unit::Months(1);
     }
     if bytes::same_ignoring_case(w, b"year") {
-        return 1000012;
+        return Unit::Months(12);
     }
-    0
+    Unit::Unknown
 }

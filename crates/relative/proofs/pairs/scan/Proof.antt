@@ -1,7 +1,7 @@
 -- `relative::pairs::scan` meets its contract. The invariant: what is held, counted and marked, with the words that are left at
 -- the reader, makes the whole (`Scanned`); each pair took more than one byte. The measure is what is left of the text.
 -- Assumes nothing.
-use mathlib.Core.Path.{_≡_}
+use mathlib.Core.Path.{_≡_, ap, _∙_}
 use mathlib.Core.Bool.{false}
 use mathlib.Core.List.{List, _∷_}
 use Prim.Native.Nat.{ℕ, _≤_, _<_, _-_}
@@ -10,20 +10,23 @@ use borrow.Author.Needs.{needs}
 use lib.ListN.{length, length-set}
 use Rattle.text.specs.Places.{part}
 use Rattle.text.specs.declared.number.Number.the-variants.{Value}
-use Rattle.relative.specs.Words.{is, countOf}
-use Rattle.relative.specs.Relative.{maxPairs}
-use Rattle.relative.specs.Held.{zipped}
-use Rattle.relative.proofs.Holding.{stored-two}
+use Rattle.relative.specs.Words.{is, countOf, unitOf}
+use Rattle.relative.specs.Held.{places, zipped}
+use Rattle.relative.proofs.Holding.{Coded-unitOf, stored-two}
 use Rattle.relative.proofs.Scanning.{left, Scanned, scanned-start, all-number, all-known, all-mark, all-stored, marked, passed, dropped, counted, took-word, took-none, took-second, took-last, further}
 use Rattle.relative.proofs.pairs.scan.Statement.{statement}
 use Rattle.relative.proofs.pairs.scan.Tie as tie
 
 abbrev Inv-loop : tie.InvT-loop
 Inv-loop s counts₀ units₀ n₀ known₀ ago₀ w₀ W counts units n known ago w =
-    (n ≤ w .at) × ((length counts ≡ maxPairs) × (length units ≡ maxPairs)) × Scanned maxPairs s (zipped counts units) n known ago (left s (w .at))
+    (n ≤ w .at) × ((length counts ≡ places) × (length units ≡ places)) × Scanned places s (zipped counts units) n known ago (left s (w .at))
 
 abbrev μ-loop : tie.MeasureT-loop
 μ-loop s counts₀ units₀ n₀ known₀ ago₀ w₀ W counts units n known ago w = length s - w .at
+
+-- what is behind, before the words of a list
+abbrev Behind : (c : tie.At-loop Inv-loop μ-loop) → List (List ℕ) → Type 0
+Behind c = Scanned places (c .before .before .before .args .s .now) (zipped (c .loop .counts) (c .loop .units)) (c .loop .n) (c .loop .known) (c .loop .ago)
 
 -- ---- the first word that is left
 module _ (c : tie.After-known-told Inv-loop μ-loop) where
@@ -39,20 +42,35 @@ module _ (c : tie.After-known-told Inv-loop μ-loop) where
   abbrev place : ℕ
   place = c .before .t .given .0 .1 .0 .at
 
-  first : Scanned maxPairs text (zipped (at-loop .loop .counts) (at-loop .loop .units)) (at-loop .loop .n) (at-loop .loop .known) (at-loop .loop .ago) (word ∷ left text place)
+  first : Behind at-loop (word ∷ left text place)
   first = took-word _ _ (c .before .before .before .take .ensures) (at-loop .loop .inv .2) (c .before .t .given .1)
 
   moved : (at-loop .loop .w .at < place) × (place ≤ length text)
   moved = further _ _ (c .before .before .before .take .ensures) (c .before .t .given .1)
 
 -- it is not `ago`
-not-ago : (c : tie.Else1 Inv-loop μ-loop) → is (word (c .before .before .before .before)) "ago" ≡ false
-not-ago c = rw (← c .before .before .before .within .ensures, ← c .before .same-ignoring-case .ensures) (c .if1 .left)
+module _ (c : tie.Else1 Inv-loop μ-loop) where
+  abbrev at-word : tie.After-known-told Inv-loop μ-loop
+  at-word = c .before .before .before .before
+
+  not-ago : is (word at-word) "ago" ≡ false
+  not-ago = rw (← c .before .before .before .within .ensures, ← c .before .same-ignoring-case .ensures) (c .if1 .left)
+
+-- it is a count
+module _ (c : tie.After-known-told2 Inv-loop μ-loop) where
+  abbrev at-other : tie.Else1 Inv-loop μ-loop
+  at-other = c .before .before .before .before
+
+  counts : countOf (word (at-word at-other)) ≡ Value (c .before .c .given .0 .0)
+  counts = rw (← at-other .before .before .before .within .ensures, ← c .before .before .before .count .ensures) (c .before .c .given .1)
 
 -- ---- the word after it
 module _ (c : tie.After-known-told3 Inv-loop μ-loop) where
+  abbrev at-count : tie.After-known-told2 Inv-loop μ-loop
+  at-count = c .before .before .before .before
+
   abbrev at-first : tie.After-known-told Inv-loop μ-loop
-  at-first = c .before .before .before .before .before .before .before .before .before .before .before .before
+  at-first = at-word (at-other at-count)
 
   abbrev word2 : List ℕ
   word2 = part (text at-first) (c .before .t2 .given .0 .0)
@@ -60,17 +78,19 @@ module _ (c : tie.After-known-told3 Inv-loop μ-loop) where
   abbrev place2 : ℕ
   place2 = c .before .t2 .given .0 .1 .0 .at
 
-  abbrev at-loop2 : tie.At-loop Inv-loop μ-loop
-  at-loop2 = at-loop at-first
-
-  second : Scanned maxPairs (text at-first) (zipped (at-loop2 .loop .counts) (at-loop2 .loop .units)) (at-loop2 .loop .n) (at-loop2 .loop .known) (at-loop2 .loop .ago) (word at-first ∷ word2 ∷ left (text at-first) place2)
+  second : Behind (at-loop at-first) (word at-first ∷ word2 ∷ left (text at-first) place2)
   second = took-second _ _ (c .before .before .before .take2 .ensures) (first at-first) (c .before .t2 .given .1)
 
   moved2 : (place at-first < place2) × (place2 ≤ length (text at-first))
   moved2 = further _ _ (c .before .before .before .take2 .ensures) (c .before .t2 .given .1)
 
-  counts : countOf (word at-first) ≡ Value (c .before .before .before .before .before .c .given .0 .0)
-  counts = rw (← c .before .before .before .before .before .before .before .before .before .before .before .within .ensures, ← c .before .before .before .before .before .before .before .count .ensures) (c .before .before .before .before .before .c .given .1)
+-- its unit
+module _ (c : tie.After-is-known Inv-loop μ-loop) where
+  abbrev at-second : tie.After-known-told3 Inv-loop μ-loop
+  at-second = c .before .before .before
+
+  unit-is : c .before .unit .result ≡ unitOf (word2 at-second)
+  unit-is = c .before .unit .ensures ∙ ap unitOf (c .before .before .within2 .ensures)
 
 -- no word is read yet
 loop-holds : tie.Need-loop-holds Inv-loop μ-loop
@@ -79,8 +99,9 @@ loop-holds c = rw (c .new .ensures) (search needs, c .before .before .pre, scann
 -- no word is left
 returns : tie.Need-returns Inv-loop μ-loop
 returns c =
-    let h = took-none _ _ (c .before .before .take .ensures) (c .before .before .before .loop .inv .2) (c .enum-told .given .1) in
-    (all-number h, (all-known h, (all-mark h, (all-stored h, c .before .before .before .loop .inv .1))))
+    let inv = c .before .before .before .loop .inv in
+    let all = took-none _ _ (c .before .before .take .ensures) (inv .2) (c .enum-told .given .1) in
+    (all-number all, (all-known all, (all-mark all, (all-stored all, inv .1))))
 
 loop-less : tie.Need-loop-less Inv-loop μ-loop
 loop-less c = omega (arith, moved (c .before .before .before .before))
@@ -88,54 +109,72 @@ loop-less c = omega (arith, moved (c .before .before .before .before))
 -- `ago`: the mark
 loop-again : tie.Need-loop-again Inv-loop μ-loop
 loop-again c =
-    let at-word = c .before .before .before .before in
-    (omega (arith, moved at-word), c .before .before .before .before .before .before .before .before .loop .inv .1, marked (first at-word) (rw (← c .before .before .before .within .ensures, ← c .before .same-ignoring-case .ensures) (c .if1 .taken)))
+    let at = c .before .before .before .before in (
+      omega (arith, moved at),
+      at-loop at .loop .inv .1,
+      marked (first at) (rw (← c .before .before .before .within .ensures, ← c .before .same-ignoring-case .ensures) (c .if1 .taken)),
+    )
 
 loop-less-2 : tie.Need-loop-less-2 Inv-loop μ-loop
-loop-less-2 c = omega (arith, moved (c .before .before .before .before .before .before .before))
+loop-less-2 c = omega (arith, moved (at-word (c .before .before .before)))
 
 -- any other word that is no count
 loop-again-2 : tie.Need-loop-again-2 Inv-loop μ-loop
 loop-again-2 c =
-    let at-word = c .before .before .before .before .before .before .before in
-    (omega (arith, moved at-word), c .before .before .before .before .before .before .before .before .before .before .before .loop .inv .1, passed (first at-word) (not-ago (c .before .before .before)) (rw (← c .before .before .before .before .before .before .within .ensures, ← c .before .before .count .ensures) (c .enum-told2 .given .1)))
+    let other = c .before .before .before in
+    let at = at-word other in (
+      omega (arith, moved at),
+      at-loop at .loop .inv .1,
+      passed (first at) (not-ago other) (rw (← other .before .before .before .within .ensures, ← c .before .before .count .ensures) (c .enum-told2 .given .1)),
+    )
 
 -- a count at the end
 returns-2 : tie.Need-returns-2 Inv-loop μ-loop
 returns-2 c =
-    let h = dropped (took-last _ _ (c .before .before .take2 .ensures) (first (c .before .before .before .before .before .before .before .before .before .before .before)) (c .enum-told3 .given .1)) (not-ago (c .before .before .before .before .before .before .before)) in
-    (all-number h, (all-known h, (all-mark h, (all-stored h, c .before .before .before .before .before .before .before .before .before .before .before .before .before .before .before .loop .inv .1))))
+    let other = at-other (c .before .before .before) in
+    let at = at-word other in
+    let all = dropped (took-last _ _ (c .before .before .take2 .ensures) (first at) (c .enum-told3 .given .1)) (not-ago other) in
+    (all-number all, (all-known all, (all-mark all, (all-stored all, at-loop at .loop .inv .1))))
+
+-- a unit that a word says has a number
+code-of-requires : tie.Need-code-of-requires Inv-loop μ-loop
+code-of-requires c κs = rw (unit-is (c .before)) (Coded-unitOf _)
 
 add-n : tie.Need-add-n Inv-loop μ-loop
-add-n c = omega (arith, c .if2 .taken)
+add-n c = omega (arith, c .before .if2 .taken)
 
 loop-less-3 : tie.Need-loop-less-3 Inv-loop μ-loop
-loop-less-3 c = omega (arith, moved (c .before .before .before .before .before .before .before .before .before .before .before .before .before .before .before .before), moved2 (c .before .before .before .before))
+loop-less-3 c = let at = at-second (c .before .before) in omega (arith, moved (at-first at), moved2 at)
 
 -- a pair that is held
 loop-again-3 : tie.Need-loop-again-3 Inv-loop μ-loop
 loop-again-3 c =
-    let at-unit = c .before .before .before .before in
-    let inv = c .before .before .before .before .before .before .before .before .before .before .before .before .before .before .before .before .before .before .before .before .loop .inv in (
-      omega (arith, inv .0, moved (c .before .before .before .before .before .before .before .before .before .before .before .before .before .before .before .before), moved2 at-unit),
+    let at-unit = c .before .before in
+    let at = at-second at-unit in
+    let inv = at-loop (at-first at) .loop .inv in (
+      omega (arith, inv .0, moved (at-first at), moved2 at),
       (simp length-set (inv .1 .0), simp length-set (inv .1 .1)),
-      rw (c .before .is-known .ensures) (stored-two _ _ _ (second at-unit) (not-ago (c .before .before .before .before .before .before .before .before .before .before .before .before)) (counts at-unit) (rw (← c .before .before .before .within2 .ensures) (c .before .before .unit .ensures)) (inv .1 .0) (inv .1 .1) (omega (arith, c .if2 .taken))),
+      stored-two _ _ (second at) (not-ago (at-other (at-count at))) (counts (at-count at)) (unit-is at-unit) (at-unit .is-known .ensures) (c .code-of .ensures) (inv .1 .0) (inv .1 .1) (omega (arith, c .before .if2 .taken)),
     )
 
 add-n-2 : tie.Need-add-n-2 Inv-loop μ-loop
-add-n-2 c = omega (arith, c .before .before .before .before .before .before .before .before .before .before .before .before .before .before .before .before .before .before .before .before .before .before .before .good .0 .0, c .before .before .before .before .before .before .before .before .before .before .before .before .before .before .before .before .before .before .before .before .loop .inv .0, moved (c .before .before .before .before .before .before .before .before .before .before .before .before .before .before .before .before))
+add-n-2 c =
+    let at-unit = c .before in
+    let at = at-second at-unit in
+    omega (arith, at-loop (at-first at) .before .before .before .good .0 .0, at-loop (at-first at) .loop .inv .0, moved (at-first at))
 
 loop-less-4 : tie.Need-loop-less-4 Inv-loop μ-loop
-loop-less-4 c = omega (arith, moved (c .before .before .before .before .before .before .before .before .before .before .before .before .before .before .before .before), moved2 (c .before .before .before .before))
+loop-less-4 c = let at = at-second (c .before) in omega (arith, moved (at-first at), moved2 at)
 
--- one too many: counted, not held
+-- one for which there is no place: counted, not held
 loop-again-4 : tie.Need-loop-again-4 Inv-loop μ-loop
 loop-again-4 c =
-    let at-unit = c .before .before .before .before in
-    let inv = c .before .before .before .before .before .before .before .before .before .before .before .before .before .before .before .before .before .before .before .before .loop .inv in (
-      omega (arith, inv .0, moved (c .before .before .before .before .before .before .before .before .before .before .before .before .before .before .before .before), moved2 at-unit),
+    let at-unit = c .before in
+    let at = at-second at-unit in
+    let inv = at-loop (at-first at) .loop .inv in (
+      omega (arith, inv .0, moved (at-first at), moved2 at),
       inv .1,
-      rw (c .before .is-known .ensures, c .before .before .unit .ensures, c .before .before .before .within2 .ensures) (counted (second at-unit) (not-ago (c .before .before .before .before .before .before .before .before .before .before .before .before)) (counts at-unit) (c .if2 .left)),
+      counted (second at) (not-ago (at-other (at-count at))) (counts (at-count at)) (unit-is at-unit) (at-unit .is-known .ensures) (c .if2 .left),
     )
 
 pub scan-spec : {M : Type 1} → statement M
@@ -167,6 +206,7 @@ scan-spec =
     (λ c κs. search needs)
     (λ c κs. search needs)
     (λ c κs. search needs)
+    code-of-requires
     (λ c. search needs)
     (λ c. search needs)
     (λ c. search needs)

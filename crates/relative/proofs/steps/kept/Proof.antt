@@ -2,7 +2,7 @@
 -- Assumes nothing.
 use mathlib.Core.Path.{sym, _∙_}
 use Rattle.relative.specs.Steps.{landed}
-use Rattle.relative.proofs.Landing.{range-of-secondsInRange}
+use Rattle.time.proofs.Ranges.{range-of-secondsInRange}
 use borrow.Author.Needs.{needs}
 use Rattle.relative.proofs.steps.kept.Statement.{statement}
 use Rattle.relative.proofs.steps.kept.Tie as tie

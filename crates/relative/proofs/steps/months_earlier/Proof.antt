@@ -5,9 +5,10 @@ use mathlib.Core.Path.{sym}
 use Prim.Native.Nat.{_<_, _+_, _-_, _*_}
 use native.Mathlib.Omega.{arith}
 use native.Mathlib.Nat.{div-lt-iff-lt-mul}
+use Rattle.ints.proofs.Parts.{mul-le-of-div}
 use Rattle.calendar.specs.declared.Found.the-variants.{At}
 use Rattle.calendar.proofs.Dates.{lt-of-Below}
-use Rattle.relative.proofs.Landing.{mul-le-of-div, landed-of-month-lt, month-lt, Told, backOf-told, monthsEarlier-of-le, since1970-local, landed-local-lt}
+use Rattle.relative.proofs.Landing.{landed-of-month-lt, month-lt, Told, backOf-told, monthsEarlier-of-le, since1970-local, landed-local-lt}
 use borrow.Author.Needs.{needs}
 use Rattle.relative.proofs.steps.months_earlier.Statement.{statement}
 use Rattle.relative.proofs.steps.months_earlier.Tie as tie

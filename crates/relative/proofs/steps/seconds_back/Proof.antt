@@ -2,7 +2,9 @@
 -- Assumes nothing.
 use mathlib.Core.Path.{sym}
 use native.Mathlib.Omega.{arith}
-use Rattle.relative.proofs.Landing.{seconds-far, mul-le-of-div, since1970-sub}
+use Rattle.ints.proofs.Parts.{mul-le-of-div}
+use Rattle.time.proofs.Ranges.{since1970-sub}
+use Rattle.relative.proofs.Landing.{seconds-far}
 use borrow.Author.Needs.{needs}
 use Rattle.relative.proofs.steps.seconds_back.Statement.{statement}
 use Rattle.relative.proofs.steps.seconds_back.Tie as tie

@@ -1,77 +1,72 @@
--- `relative::words::unit_named` meets its contract. Each return: the tests that led there say which case of `unitNamed` holds.
+-- `relative::words::unit_named` meets its contract. Behind each test that fails, the names that are left decide (`Left`).
 -- Assumes nothing.
+use mathlib.Core.Path.{_≡_, sym, _∙_}
+use mathlib.Core.Bool.{Bool, true, false, cond}
+use mathlib.Core.List.{List}
+use Prim.Native.Nat.{ℕ}
 use borrow.Author.Needs.{needs}
-use Rattle.relative.specs.Words.{unitNamed}
-use Rattle.relative.specs.Held.{unitAt}
+use lib.ListN.{drop}
+use Rattle.relative.specs.Words.{unitNames, unitAmong, unitNamed}
+use Rattle.relative.specs.declared.pair.Unit.{Unit}
 use Rattle.relative.proofs.words.unit_named.Statement.{statement}
 use Rattle.relative.proofs.words.unit_named.Tie as tie
 
+taken : (b : Bool) (u v : Unit) → b ≡ true → cond b u v ≡ u
+taken b u v e = rw e
+
+left : (b : Bool) (u v : Unit) → b ≡ false → cond b u v ≡ v
+left b u v e = rw e
+
+-- w has none of the first k names
+abbrev Left : ℕ → List ℕ → Type 0
+Left k w = unitNamed w ≡ unitAmong (drop k unitNames) w
+
+abbrev word-1 : tie.Else1 → List ℕ
+word-1 c = c .before .before .before .before .args .w .now
+
+left-1 : (c : tie.Else1) → Left 1 (word-1 c)
+unfolding unitNamed
+left-1 c = left _ _ _ (sym (c .before .same-ignoring-case .ensures) ∙ c .if1 .left)
+
 returns : tie.Need-returns
-unfolding unitNamed unitAt
-returns c =
-    rw (← c .before .same-ignoring-case .ensures, c .if1 .taken)
+unfolding unitNamed
+returns c = sym (taken _ _ _ (sym (c .before .same-ignoring-case .ensures) ∙ c .if1 .taken))
 
-returns-2 : tie.Need-returns-2
-unfolding unitNamed unitAt
-returns-2 c =
-    let at-1 = c .before .before .before in
-    rw (← at-1 .before .same-ignoring-case .ensures, at-1 .if1 .left, ← c .before .same-ignoring-case2 .ensures, c .if2 .taken)
+abbrev word-2 : tie.Else2 → List ℕ
+word-2 c = word-1 (c .before .before .before)
 
-returns-3 : tie.Need-returns-3
-unfolding unitNamed unitAt
-returns-3 c =
-    let at-2 = c .before .before .before in
-    let at-1 = at-2 .before .before .before in
-    rw (← at-1 .before .same-ignoring-case .ensures, at-1 .if1 .left, ← at-2 .before .same-ignoring-case2 .ensures, at-2 .if2 .left, ← c .before .same-ignoring-case3 .ensures, c .if3 .taken)
+left-2 : (c : tie.Else2) → Left 2 (word-2 c)
+left-2 c = left-1 (c .before .before .before) ∙ left _ _ _ (sym (c .before .same-ignoring-case2 .ensures) ∙ c .if2 .left)
 
-returns-4 : tie.Need-returns-4
-unfolding unitNamed unitAt
-returns-4 c =
-    let at-3 = c .before .before .before in
-    let at-2 = at-3 .before .before .before in
-    let at-1 = at-2 .before .before .before in
-    rw (← at-1 .before .same-ignoring-case .ensures, at-1 .if1 .left, ← at-2 .before .same-ignoring-case2 .ensures, at-2 .if2 .left, ← at-3 .before .same-ignoring-case3 .ensures, at-3 .if3 .left, ← c .before .same-ignoring-case4 .ensures, c .if4 .taken)
+abbrev word-3 : tie.Else3 → List ℕ
+word-3 c = word-2 (c .before .before .before)
 
-returns-5 : tie.Need-returns-5
-unfolding unitNamed unitAt
-returns-5 c =
-    let at-4 = c .before .before .before in
-    let at-3 = at-4 .before .before .before in
-    let at-2 = at-3 .before .before .before in
-    let at-1 = at-2 .before .before .before in
-    rw (← at-1 .before .same-ignoring-case .ensures, at-1 .if1 .left, ← at-2 .before .same-ignoring-case2 .ensures, at-2 .if2 .left, ← at-3 .before .same-ignoring-case3 .ensures, at-3 .if3 .left, ← at-4 .before .same-ignoring-case4 .ensures, at-4 .if4 .left, ← c .before .same-ignoring-case5 .ensures, c .if5 .taken)
+left-3 : (c : tie.Else3) → Left 3 (word-3 c)
+left-3 c = left-2 (c .before .before .before) ∙ left _ _ _ (sym (c .before .same-ignoring-case3 .ensures) ∙ c .if3 .left)
 
-returns-6 : tie.Need-returns-6
-unfolding unitNamed unitAt
-returns-6 c =
-    let at-5 = c .before .before .before in
-    let at-4 = at-5 .before .before .before in
-    let at-3 = at-4 .before .before .before in
-    let at-2 = at-3 .before .before .before in
-    let at-1 = at-2 .before .before .before in
-    rw (← at-1 .before .same-ignoring-case .ensures, at-1 .if1 .left, ← at-2 .before .same-ignoring-case2 .ensures, at-2 .if2 .left, ← at-3 .before .same-ignoring-case3 .ensures, at-3 .if3 .left, ← at-4 .before .same-ignoring-case4 .ensures, at-4 .if4 .left, ← at-5 .before .same-ignoring-case5 .ensures, at-5 .if5 .left, ← c .before .same-ignoring-case6 .ensures, c .if6 .taken)
+abbrev word-4 : tie.Else4 → List ℕ
+word-4 c = word-3 (c .before .before .before)
 
-returns-7 : tie.Need-returns-7
-unfolding unitNamed unitAt
-returns-7 c =
-    let at-6 = c .before .before .before in
-    let at-5 = at-6 .before .before .before in
-    let at-4 = at-5 .before .before .before in
-    let at-3 = at-4 .before .before .before in
-    let at-2 = at-3 .before .before .before in
-    let at-1 = at-2 .before .before .before in
-    rw (← at-1 .before .same-ignoring-case .ensures, at-1 .if1 .left, ← at-2 .before .same-ignoring-case2 .ensures, at-2 .if2 .left, ← at-3 .before .same-ignoring-case3 .ensures, at-3 .if3 .left, ← at-4 .before .same-ignoring-case4 .ensures, at-4 .if4 .left, ← at-5 .before .same-ignoring-case5 .ensures, at-5 .if5 .left, ← at-6 .before .same-ignoring-case6 .ensures, at-6 .if6 .left, ← c .before .same-ignoring-case7 .ensures, c .if7 .taken)
+left-4 : (c : tie.Else4) → Left 4 (word-4 c)
+left-4 c = left-3 (c .before .before .before) ∙ left _ _ _ (sym (c .before .same-ignoring-case4 .ensures) ∙ c .if4 .left)
 
-returns-8 : tie.Need-returns-8
-unfolding unitNamed unitAt
-returns-8 c =
-    let at-6 = c .before .before .before in
-    let at-5 = at-6 .before .before .before in
-    let at-4 = at-5 .before .before .before in
-    let at-3 = at-4 .before .before .before in
-    let at-2 = at-3 .before .before .before in
-    let at-1 = at-2 .before .before .before in
-    rw (← at-1 .before .same-ignoring-case .ensures, at-1 .if1 .left, ← at-2 .before .same-ignoring-case2 .ensures, at-2 .if2 .left, ← at-3 .before .same-ignoring-case3 .ensures, at-3 .if3 .left, ← at-4 .before .same-ignoring-case4 .ensures, at-4 .if4 .left, ← at-5 .before .same-ignoring-case5 .ensures, at-5 .if5 .left, ← at-6 .before .same-ignoring-case6 .ensures, at-6 .if6 .left, ← c .before .same-ignoring-case7 .ensures, c .if7 .left)
+abbrev word-5 : tie.Else5 → List ℕ
+word-5 c = word-4 (c .before .before .before)
+
+left-5 : (c : tie.Else5) → Left 5 (word-5 c)
+left-5 c = left-4 (c .before .before .before) ∙ left _ _ _ (sym (c .before .same-ignoring-case5 .ensures) ∙ c .if5 .left)
+
+abbrev word-6 : tie.Else6 → List ℕ
+word-6 c = word-5 (c .before .before .before)
+
+left-6 : (c : tie.Else6) → Left 6 (word-6 c)
+left-6 c = left-5 (c .before .before .before) ∙ left _ _ _ (sym (c .before .same-ignoring-case6 .ensures) ∙ c .if6 .left)
+
+abbrev word-7 : tie.Else7 → List ℕ
+word-7 c = word-6 (c .before .before .before)
+
+left-7 : (c : tie.Else7) → Left 7 (word-7 c)
+left-7 c = left-6 (c .before .before .before) ∙ left _ _ _ (sym (c .before .same-ignoring-case7 .ensures) ∙ c .if7 .left)
 
 pub unit-named-spec : {M : Type 1} → statement M
 unit-named-spec =
@@ -82,20 +77,20 @@ unit-named-spec =
     returns
     (λ c. search needs)
     (λ c κs. search needs)
-    returns-2
+    (λ c. sym (left-1 (c .before .before .before) ∙ taken _ _ _ (sym (c .before .same-ignoring-case2 .ensures) ∙ c .if2 .taken)))
     (λ c. search needs)
     (λ c κs. search needs)
-    returns-3
+    (λ c. sym (left-2 (c .before .before .before) ∙ taken _ _ _ (sym (c .before .same-ignoring-case3 .ensures) ∙ c .if3 .taken)))
     (λ c. search needs)
     (λ c κs. search needs)
-    returns-4
+    (λ c. sym (left-3 (c .before .before .before) ∙ taken _ _ _ (sym (c .before .same-ignoring-case4 .ensures) ∙ c .if4 .taken)))
     (λ c. search needs)
     (λ c κs. search needs)
-    returns-5
+    (λ c. sym (left-4 (c .before .before .before) ∙ taken _ _ _ (sym (c .before .same-ignoring-case5 .ensures) ∙ c .if5 .taken)))
     (λ c. search needs)
     (λ c κs. search needs)
-    returns-6
+    (λ c. sym (left-5 (c .before .before .before) ∙ taken _ _ _ (sym (c .before .same-ignoring-case6 .ensures) ∙ c .if6 .taken)))
     (λ c. search needs)
     (λ c κs. search needs)
-    returns-7
-    returns-8)
+    (λ c. sym (left-6 (c .before .before .before) ∙ taken _ _ _ (sym (c .before .same-ignoring-case7 .ensures) ∙ c .if7 .taken)))
+    (λ c. sym (left-7 c)))

@@ -1,11 +1,11 @@
--- `relative::steps::unit_at` meets its contract: its tests are those of `unitAt`.
+-- `relative::held::unit_at` meets its contract: its tests are those of `unitAt`.
 -- Assumes nothing.
 use native.Mathlib.Omega.{arith}
 use borrow.Author.Tests.{eq-eqb, ne-eqb, le-leb, lt-leb}
 use Rattle.relative.specs.Held.{unitAt}
 use borrow.Author.Needs.{needs}
-use Rattle.relative.proofs.steps.unit_at.Statement.{statement}
-use Rattle.relative.proofs.steps.unit_at.Tie as tie
+use Rattle.relative.proofs.held.unit_at.Statement.{statement}
+use Rattle.relative.proofs.held.unit_at.Tie as tie
 
 returns : tie.Need-returns
 unfolding unitAt
