@@ -43,7 +43,7 @@ impl Refusal {
             6 => Refusal::Range,
             7 => Refusal::Offset,
             8 => Refusal::Room,
-            _ => panic!("the library `dates` returned {number}, which is no number of its contracts"),
+            _ => panic!("the library returned {number}, which is no number of its contracts"),
         }
     }
 }

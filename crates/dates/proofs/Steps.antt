@@ -28,14 +28,6 @@ numberFrom-not-ascii : (least : ℤ) (s : List ℕ) → ascii s ≡ false → nu
 unfolding numberFrom fitSigned
 numberFrom-not-ascii least s h = rw (signedOf-not-ascii s h)
 
-rawOf-not-ascii : (l : Limits) (s : List ℕ) → ascii s ≡ false → rawOf l s ≡ Refused NotAscii
-unfolding rawOf
-rawOf-not-ascii l s h = rw h
-
-isoOf-not-ascii : (s : List ℕ) → ascii s ≡ false → isoOf s ≡ Refused NotAscii
-unfolding isoOf
-isoOf-not-ascii s h = rw h
-
 ascii-of-cons : (b : ℕ) (s : List ℕ) → b ≡ code "@" → ascii (b ∷ s) ≡ false → ascii s ≡ false
 unfolding ascii
 ascii-of-cons b s e h = rw e at h
@@ -67,14 +59,14 @@ plainOf-of-other l b s n = rw (ne-eqb b (code "@") n)
 
 -- behind `@` raw says 1; without it nothing is settled
 plainOf-not-ascii : (l : Limits) (s : List ℕ) → ascii s ≡ false → orElse (plainOf l s) (Refused NotAscii) ≡ Refused NotAscii
-unfolding plainOf atOf markedOf ascii
+unfolding plainOf atOf markedOf rawOf ascii
 plainOf-not-ascii l [] h = absurd (false≢true (sym h))
 plainOf-not-ascii l (b ∷ s) h =
     by-test (eqb b (code "@"))
-    (λ e. rw (e, rawOf-not-ascii l s (ascii-of-cons b s (eqb-true b (code "@") e) h)))
+    (λ e. rw (e, ascii-of-cons b s (eqb-true b (code "@") e) h))
     (λ e. rw (e, numberFrom-not-ascii (pos 100000000) (b ∷ s) h))
 
 -- ---- the steps: 1 needs no test in front of them
 pub anyOf-in-turn : (l : Limits) (s : List ℕ) (now : Now) → anyOf l s now ≡ orElse (plainOf l s) (orElse (isoOf s) (orElse (relativeOf maxPairs s now) (rawOf l s)))
-unfolding anyOf
-anyOf-in-turn l s now = by-test (ascii s) (λ e. rw e) (λ e. rw (e, isoOf-not-ascii s e) (sym (plainOf-not-ascii l s e)))
+unfolding anyOf isoOf
+anyOf-in-turn l s now = by-test (ascii s) (λ e. rw e) (λ e. rw e (sym (plainOf-not-ascii l s e)))

@@ -1,7 +1,4 @@
-// Dates as Git writes them and people type them: the face that callers see. "Any" tries the forms one after the other; the entries
-// for C are in `entries`.
-pub mod entries;
-
+// Dates as Git writes them and people type them, in any form: the forms are tried one after the other.
 ghost use mathlib.Core.Path.{_≡_};
 ghost use Rattle.calendar.specs.Table.{IsMonths};
 ghost use Rattle.header.specs.Raw.{rule1};
