@@ -1,5 +1,5 @@
--- What the ISO writer of `time` writes is read back. In order: the bytes of the line; its fields; its instant; its day;
--- `iso-read-back`.
+-- What the ISO writer of `time` writes is read back. In order: the bytes of the line; its fields; its instant; its day; the line of a
+-- time as it is; `iso-read-back`.
 -- Assumes nothing.
 use mathlib.Core.Path.{_≡_, refl, sym, ap, _∙_, subst}
 use mathlib.Core.Bool.{true, false}

@@ -15,7 +15,7 @@ use Rattle.text.specs.Number.{readFrom, digitsOf, unsignedOf, signedOf, fitSign
 use Rattle.text.specs.Places.{firstPlace}
 use Rattle.text.specs.Trim.{trim}
 use Rattle.text.specs.declared.number.Integer.the-variants.{NotOne}
-use Rattle.text.proofs.Lists.{by-test, both}
+use Rattle.text.proofs.Lists.{by-test, both, take-two-drop}
 use Rattle.time.specs.Answers.{answerNumber}
 use Rattle.time.specs.declared.Time.{Time}
 use Rattle.time.specs.declared.Answer.{Answer}
@@ -26,7 +26,6 @@ use Rattle.iso.specs.Iso.{zoned, isoOf}
 use Rattle.iso.specs.declared.forms.Fields.{Fields}
 use Rattle.iso.specs.declared.forms.Fields.the-variants.{Are, Missing}
 use Rattle.text.proofs.FirstPlaces.{getD-firstPlace}
-use Rattle.iso.proofs.Places.{two-getD}
 use Rattle.iso.proofs.Said.{saidOf-of-month, saidOf-of-day, flexible-short, flexible-four, dotted-four}
 
 -- ---- at most one form
@@ -47,7 +46,7 @@ compact-of-dot s p =
     (λ e. by-test (ltb 8 (length s))
     (λ f.
     let h : 4 + 2 ≤ length s = omega (arith, ltb-true 8 (length s) f) in
-    let m : int32 (two 4 s) ≡ NotOne = ap int32 (two-getD 4 s h) ∙ ap (λ (b : ℕ). int32 (b ∷ getD s 5 0 ∷ [])) p ∙ int32-dot (getD s 5 0) in
+    let m : int32 (two 4 s) ≡ NotOne = ap int32 (take-two-drop s 4 h) ∙ ap (λ (b : ℕ). int32 (b ∷ getD s 5 0 ∷ [])) p ∙ int32-dot (getD s 5 0) in
     rw (e, f, m) (saidOf-of-month _ _ _ _))
     (λ f. rw (e, f)))
     (λ e. rw e)
@@ -63,7 +62,7 @@ flexible-of-T s e =
     by-test (ltb (length s) 11) (λ f. sym (flexible-short s (ltb-true _ _ f)))
     (λ f.
     let h : 8 + 2 ≤ length s = omega (arith, ltb-false (length s) 11 f) in
-    let d : int32 (two 8 s) ≡ NotOne = ap int32 (two-getD 8 s h) ∙ ap (λ (x : ℕ). int32 (x ∷ getD s 9 0 ∷ [])) b ∙ int32-T (getD s 9 0) in
+    let d : int32 (two 8 s) ≡ NotOne = ap int32 (take-two-drop s 8 h) ∙ ap (λ (x : ℕ). int32 (x ∷ getD s 9 0 ∷ [])) b ∙ int32-T (getD s 9 0) in
     rw (d, saidOf-of-day) (same (eqb (getD s 4 0) 45 && (eqb (getD s 7 0) 45 && isSeparator (getD s 10 0)))))
   where
     same : (t : Bool) → cond t Missing Missing ≡ Missing

@@ -6,7 +6,7 @@ use mathlib.Core.List.{List, [], _∷_}
 use Prim.Native.Nat.{_^_, _-_}
 use lib.IntN.{pos, negsuc}
 use lib.ListN.{replicate}
-use Rattle.text.specs.Decimal.{decimalBy, decimalBefore, signed, signedBefore}
+use Rattle.text.specs.Decimal.{digitsUpTo, decimal, signed, signedBefore}
 use Rattle.text.specs.Quote.{bytes}
 use Rattle.calendar.specs.Calendar.{leap, lengths, monthLength, yearLength, yearStart, total, firstDay, spanOf, yearOf, monthOf}
 use Rattle.calendar.specs.Dates.{dateOf}
@@ -41,7 +41,7 @@ headers =
     writes (headerBytes (timeAt (pos 1466000000) (negsuc 7199))) (bytes "1466000000 -0200") ∷ []
 
 headers-right : AllRight headers
-unfolding headerBytes signedBefore headerSign signByte wholeMinutes decimalBefore decimalBy
+unfolding headerBytes signedBefore signed decimal digitsUpTo headerSign signByte wholeMinutes
 headers-right = (refl, (refl, (refl, (refl, tt))))
 
 -- "360000, which writes as 7"
@@ -56,12 +56,12 @@ least-offset = refl
 
 -- "the room lent is shorter than the bytes to be written": six bytes for `5 +0000`, which takes seven
 short-by-one : headerWritten (timeAt (pos 5) (pos 0)) (replicate 6 0) ≡ Refused Room
-unfolding headerWritten sizeOf signed signedBefore decimalBefore decimalBy
+unfolding headerWritten sizeOf signed decimal digitsUpTo
 short-by-one = refl
 
 -- "`size` is digits, plus 1 if negative, plus 6"; zero has one digit
 sizes : (sizeOf (pos 0) ≡ 7) × (sizeOf (negsuc 0) ≡ 8) × (sizeOf (pos 1745582210) ≡ 16)
-unfolding sizeOf signed signedBefore decimalBefore decimalBy
+unfolding sizeOf signed decimal digitsUpTo
 sizes = (refl, refl, refl)
 
 -- ---- the ISO line
