@@ -1,7 +1,9 @@
-//! Memory between two fences: pages that cannot be touched. A text or a room that ends at the upper fence, or begins at
-//! the lower one, ends the program if a single byte beyond it is read or written; [`watch`] has it say which.
+//! Memory between two fences, which are pages that can be neither read nor written.
 //!
-//! For Linux, whose numbers these are.
+//! A text or a room ends at the upper fence or begins at the lower one. A call that touches a byte beyond it then ends
+//! the program, and [`watch`] has the program print the text or room first.
+//!
+//! For Linux: the constants below are its own.
 
 use std::ffi::c_void;
 use std::ptr;
@@ -22,9 +24,9 @@ const PRIVATE_ANONYMOUS: i32 = 0x02 | 0x20;
 const SEGMENTATION_FAULT: i32 = 11;
 const STANDARD_ERROR: i32 = 2;
 
-/// What is lent at the moment, for the last words of a program that touched a fence.
-static LENT: AtomicPtr<u8> = AtomicPtr::new(ptr::null_mut());
-static LENT_LEN: AtomicUsize = AtomicUsize::new(0);
+/// The slice that was handed out last, for [`touched`] to print.
+static HANDED_OUT: AtomicPtr<u8> = AtomicPtr::new(ptr::null_mut());
+static HANDED_OUT_LEN: AtomicUsize = AtomicUsize::new(0);
 
 /// Some pages between two fences.
 pub struct Fence {
@@ -33,10 +35,11 @@ pub struct Fence {
 }
 
 impl Fence {
-    /// Room for texts of up to `len` bytes. It is kept until the program ends.
+    /// Memory for texts of up to `len` bytes. It is not freed before the program ends.
     pub fn new(len: usize) -> Fence {
         let len = len.next_multiple_of(PAGE);
-        // SAFETY: a new mapping, of which no one else knows; only its inner pages are opened.
+        // SAFETY: the mapping is new, so nothing else points into it. It has `len` bytes and a page on either side, so
+        // `start` and the pages that are opened lie inside it.
         unsafe {
             let base = mmap(ptr::null_mut(), len + 2 * PAGE, NONE, PRIVATE_ANONYMOUS, -1, 0);
             assert!(base as isize != -1, "no memory for a fence");
@@ -48,38 +51,42 @@ impl Fence {
 
     /// The last `len` bytes before the upper fence.
     pub fn last(&mut self, len: usize) -> &mut [u8] {
-        self.lend(self.len - len.min(self.len), len)
+        self.slice(self.len - len.min(self.len), len)
     }
 
     /// The first `len` bytes after the lower fence.
     pub fn first(&mut self, len: usize) -> &mut [u8] {
-        self.lend(0, len)
+        self.slice(0, len)
     }
 
-    fn lend(&mut self, at: usize, len: usize) -> &mut [u8] {
+    /// `len` bytes from `at` on.
+    fn slice(&mut self, at: usize, len: usize) -> &mut [u8] {
         assert!(at + len <= self.len, "the fence is for texts of up to {} bytes", self.len);
-        // SAFETY: within the mapping, lent once through `&mut self`.
-        unsafe {
-            LENT.store(self.start.add(at), Ordering::Relaxed);
-            LENT_LEN.store(len, Ordering::Relaxed);
-            std::slice::from_raw_parts_mut(self.start.add(at), len)
-        }
+        // SAFETY: `at + len` is at most `self.len`, so the bytes lie in the accessible pages, which the kernel filled with
+        // zeros and which are never unmapped. The slice borrows `self` mutably, so there is no other.
+        let slice = unsafe { std::slice::from_raw_parts_mut(self.start.add(at), len) };
+        HANDED_OUT.store(slice.as_mut_ptr(), Ordering::Relaxed);
+        HANDED_OUT_LEN.store(len, Ordering::Relaxed);
+        slice
     }
 }
 
-/// Has a program that touches a fence say what was lent, and end with status 1.
+/// From here on, a program that touches a fence prints the slice that was handed out last and exits with status 1.
 pub fn watch() {
-    // SAFETY: the handler calls nothing but `write` and `_exit`, which a handler may.
+    // SAFETY: `touched` has the signature of a handler and calls only `write` and `_exit`, which are allowed in one.
     unsafe { signal(SEGMENTATION_FAULT, touched) };
 }
 
 extern "C" fn touched(_: i32) {
-    let say = |bytes: &[u8]| unsafe { write(STANDARD_ERROR, bytes.as_ptr(), bytes.len()) };
-    let lent = LENT.load(Ordering::Relaxed);
-    say(b"\na byte outside what was lent was touched; lent was \"");
-    for place in 0..LENT_LEN.load(Ordering::Relaxed).min(200) {
-        // SAFETY: `lent` and its length were stored together, and the mapping stays.
-        let byte = unsafe { *lent.add(place) };
+    let say = |bytes: &[u8]| {
+        // SAFETY: pointer and length are those of a slice, which `write` only reads.
+        unsafe { write(STANDARD_ERROR, bytes.as_ptr(), bytes.len()) };
+    };
+    let start = HANDED_OUT.load(Ordering::Relaxed);
+    say(b"\na byte outside the memory of a call was touched; that memory was \"");
+    for place in 0..HANDED_OUT_LEN.load(Ordering::Relaxed).min(200) {
+        // SAFETY: `start` and its length were stored together by this thread, and the mapping is never unmapped.
+        let byte = unsafe { *start.add(place) };
         if (32..127).contains(&byte) {
             say(&[byte]);
         } else {
@@ -88,5 +95,6 @@ extern "C" fn touched(_: i32) {
         }
     }
     say(b"\"\n");
+    // SAFETY: `_exit` takes any status and does not return; it runs no code of this program.
     unsafe { _exit(1) };
 }

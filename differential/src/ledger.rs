@@ -1,4 +1,4 @@
-//! Compares answers, keeps count, and tells what differs.
+//! Compares answers, counts them, and prints what differs.
 
 use std::fmt;
 use std::io::{IsTerminal, Write as _};
@@ -10,15 +10,17 @@ use crate::side::Side;
 
 /// The longest text that is asked.
 pub const LONGEST: usize = 1 << 16;
-/// How many differences of a row are told as they are met. The rest is counted.
-const TOLD: u64 = 3;
-/// What outputs and rooms hold before a call, so that a byte left alone can be told from a byte written.
+/// How many differences of a row are printed as they are found. The rest are only counted.
+const PRINTED: u64 = 3;
+/// How many bytes in front of a room are checked after a call.
+const IN_FRONT: usize = 32;
+/// What outputs and rooms hold before a call, so that a byte that was written can be recognised.
 const SECONDS_BEFORE: i64 = 0x5a5a_5a5a_5a5a_5a5a;
 const OFFSET_BEFORE: i32 = 0x5a5a_5a5a;
 const LENGTH_BEFORE: usize = 0x5a5a;
 const ROOM_BEFORE: u8 = 0xa5;
 
-/// One question, to print and to compare by size.
+/// What a side was asked.
 #[derive(Clone, PartialEq, Eq)]
 pub enum Question {
     Read { form: Form, text: Vec<u8>, now: Option<(i64, i32)> },
@@ -27,7 +29,7 @@ pub enum Question {
 }
 
 impl Question {
-    /// Smaller questions come first: short texts, few bytes of room, small numbers.
+    /// The order by size: short texts come first, then little room, then small numbers.
     fn rank(&self) -> (usize, u64, u32, Vec<u8>) {
         match self {
             Question::Read { text, now, .. } => {
@@ -62,7 +64,7 @@ impl fmt::Display for Question {
     }
 }
 
-/// A question with both answers, as they are printed.
+/// A question with both answers, ready to print.
 #[derive(Clone)]
 pub struct Difference {
     pub question: Question,
@@ -76,14 +78,14 @@ impl fmt::Display for Difference {
     }
 }
 
-/// The count of one reader or writer.
+/// The counts of one reader or writer.
 #[derive(Default)]
 pub struct Row {
     pub compared: u64,
     /// Answered 0.
     pub accepted: u64,
-    /// Answers that are document 01's alone: by intent, or where gix-date cannot be asked.
-    pub by_document: u64,
+    /// Answers that follow from the rules alone, see [`By::Rules`].
+    pub by_rules: u64,
     pub differ: u64,
     pub smallest: Option<Difference>,
 }
@@ -97,13 +99,16 @@ pub struct Ledger<'a> {
     fence: Fence,
     at_last: bool,
     rows: [Row; ROWS],
-    /// No more questions after the first difference.
+    /// Ask nothing more after the first difference.
     stop_at_first: bool,
+    /// The suite that is running, and when it began.
     suite: String,
     begun: Instant,
-    told: Instant,
+    /// Whether to print anything.
     show: bool,
-    until_told: u32,
+    /// When progress was last printed, and how many questions to ask before looking at the clock again.
+    printed: Instant,
+    until_look: u32,
 }
 
 impl<'a> Ledger<'a> {
@@ -116,18 +121,18 @@ impl<'a> Ledger<'a> {
             stop_at_first: false,
             suite: String::new(),
             begun: Instant::now(),
-            told: Instant::now(),
             show: true,
-            until_told: 0,
+            printed: Instant::now(),
+            until_look: 0,
         }
     }
 
-    /// For a side that is known to be wrong: stops at the first difference and prints nothing.
+    /// A ledger for a side that is known to be wrong. It stops at the first difference and prints nothing.
     pub fn until_first(side: &'a dyn Side) -> Ledger<'a> {
         Ledger { stop_at_first: true, show: false, ..Ledger::new(side) }
     }
 
-    /// True once there is nothing more to ask.
+    /// Whether to stop: a difference was found, and the first is enough.
     pub fn is_over(&self) -> bool {
         self.stop_at_first && self.differ() > 0
     }
@@ -140,14 +145,14 @@ impl<'a> Ledger<'a> {
         self.rows.iter().map(|row| row.differ).sum()
     }
 
-    /// Names what is compared next.
+    /// Begins a suite.
     pub fn begin(&mut self, suite: String) {
         self.suite = suite;
         self.begun = Instant::now();
-        self.tell();
+        self.print_progress();
     }
 
-    /// One line for a suite that is done.
+    /// Ends a suite and prints a line for it.
     pub fn end(&mut self, compared: u64) {
         if self.show {
             self.clear();
@@ -163,7 +168,7 @@ impl<'a> Ledger<'a> {
         }
     }
 
-    /// Asks one reader, and compares number, seconds and offset, on a refusal also that both are 0.
+    /// Asks one reader, and compares number, seconds and offset. On a refusal seconds and offset must be 0.
     pub fn ask(&mut self, form: Form, text: &[u8], now: &Now) {
         if self.is_over() {
             return;
@@ -173,7 +178,7 @@ impl<'a> Ledger<'a> {
         let row = &mut self.rows[form as usize];
         row.compared += 1;
         row.accepted += u64::from(wanted.number == 0);
-        row.by_document += u64::from(by == By::Document);
+        row.by_rules += u64::from(by == By::Rules);
         if got != wanted {
             let question = Question::Read { form, text: text.to_vec(), now: now.time };
             self.note(form as usize, question, shown(wanted), shown(got));
@@ -196,7 +201,7 @@ impl<'a> Ledger<'a> {
         self.tick();
     }
 
-    /// Asks a writer, in rooms of every length from 0 to one more than is needed.
+    /// Asks a writer, with rooms of every length from 0 to one more than it needs.
     pub fn ask_rooms(&mut self, writer: Writer, seconds: i64, offset: i32) {
         let longest = match oracle::written(writer, seconds, offset) {
             Bytes::Written(_, length) => length + 1,
@@ -207,8 +212,7 @@ impl<'a> Ledger<'a> {
         }
     }
 
-    /// Asks a writer, and compares number, length and every byte of the room, those before it and those beyond what was
-    /// written among them.
+    /// Asks a writer, and compares number, length and every byte of the room and in front of it.
     pub fn ask_write(&mut self, writer: Writer, seconds: i64, offset: i32, room: usize) {
         if self.is_over() {
             return;
@@ -220,77 +224,79 @@ impl<'a> Ledger<'a> {
             Bytes::Written(_, needed) if room < needed => number = 8,
             Bytes::Written(written, needed) => {
                 length = needed;
-                bytes[32..][..length].copy_from_slice(&written[..length]);
+                bytes[IN_FRONT..][..length].copy_from_slice(&written[..length]);
             }
         }
-        // the room ends at the fence; 32 bytes before it are watched
-        let lent = self.fence.last(32 + room);
-        lent.fill(ROOM_BEFORE);
+        // the room ends at the fence
+        let memory = self.fence.last(IN_FRONT + room);
+        memory.fill(ROOM_BEFORE);
         let mut got_length = LENGTH_BEFORE;
-        let got = self.side.write(writer, seconds, offset, &mut lent[32..], &mut got_length);
+        let got = self.side.write(writer, seconds, offset, &mut memory[IN_FRONT..], &mut got_length);
         let row = &mut self.rows[at_row];
         row.compared += 1;
         row.accepted += u64::from(number == 0);
-        if got != number || got_length != length || lent != &bytes[..32 + room] {
-            let wanted = format!("{number} {length} \"{}\"", bytes[32..32 + room].escape_ascii());
-            let got = format!("{got} {got_length} \"{}\"", lent[32..].escape_ascii());
+        if got != number || got_length != length || memory != &bytes[..IN_FRONT + room] {
+            let wanted = format!("{number} {length} \"{}\"", bytes[IN_FRONT..IN_FRONT + room].escape_ascii());
+            let got = format!("{got} {got_length} \"{}\"", memory[IN_FRONT..].escape_ascii());
             self.note(at_row, Question::Write { writer, seconds, offset, room }, wanted, got);
         }
         self.tick();
     }
 
-    /// What the side answers. The text lies at a fence, and has to be as it was afterwards.
+    /// What the side answers. The text lies next to a fence, and the call must not change it.
     fn read(&mut self, form: Form, text: &[u8], now: &Now) -> Answer {
         self.at_last = !self.at_last;
-        let lent = if self.at_last { self.fence.last(text.len()) } else { self.fence.first(text.len()) };
-        lent.copy_from_slice(text);
+        let memory = if self.at_last { self.fence.last(text.len()) } else { self.fence.first(text.len()) };
+        memory.copy_from_slice(text);
         let (mut seconds, mut offset) = (SECONDS_BEFORE, OFFSET_BEFORE);
-        let number = self.side.read(form, lent, now, &mut seconds, &mut offset);
-        assert!(lent == text, "{} changed its text \"{}\"", form.name(), text.escape_ascii());
+        let number = self.side.read(form, memory, now, &mut seconds, &mut offset);
+        assert!(memory == text, "{} changed its text \"{}\"", form.name(), text.escape_ascii());
         Answer { number, seconds, offset }
     }
 
+    /// Counts a difference, keeps it if it is the smallest so far, and prints it if it is among the first.
     fn note(&mut self, row: usize, question: Question, wanted: String, got: String) {
         let difference = Difference { question, wanted, got };
         let row = &mut self.rows[row];
         row.differ += 1;
-        let tell = self.show && row.differ <= TOLD;
+        let print = self.show && row.differ <= PRINTED;
         if row.smallest.as_ref().is_none_or(|smallest| difference.question.rank() < smallest.question.rank()) {
             row.smallest = Some(difference.clone());
         }
-        if tell {
+        if print {
             self.clear();
             println!("differs: {difference}");
         }
     }
 
-    /// Tells how far it is, a few times a second.
+    /// Prints progress, a few times a second.
     fn tick(&mut self) {
-        if self.until_told > 0 {
-            self.until_told -= 1;
+        if self.until_look > 0 {
+            self.until_look -= 1;
             return;
         }
-        self.until_told = 1 << 12;
-        if self.told.elapsed() > Duration::from_millis(200) {
-            self.tell();
+        self.until_look = 1 << 12;
+        if self.printed.elapsed() > Duration::from_millis(200) {
+            self.print_progress();
         }
     }
 
-    fn tell(&mut self) {
-        self.told = Instant::now();
+    fn print_progress(&mut self) {
+        self.printed = Instant::now();
         if self.show && std::io::stderr().is_terminal() {
             eprint!("\r\x1b[K{}: {} compared, {} differ", self.suite, grouped(self.compared()), grouped(self.differ()));
             let _ = std::io::stderr().flush();
         }
     }
 
+    /// Clears the line with the progress.
     fn clear(&self) {
         if std::io::stderr().is_terminal() {
             eprint!("\r\x1b[K");
         }
     }
 
-    /// The smallest difference, its text cut down as far as it still differs.
+    /// The smallest difference. Its text is cut down as far as the answers still differ.
     pub fn smallest(&mut self) -> Option<Difference> {
         (0..ROWS).filter_map(|row| self.smallest_of(row)).min_by_key(|difference| difference.question.rank())
     }
@@ -305,7 +311,7 @@ impl<'a> Ledger<'a> {
         Some(Difference { question: Question::Read { form, text, now }, wanted: shown(wanted), got: shown(got) })
     }
 
-    /// Takes away runs of bytes, long ones first, as long as the answers still differ.
+    /// Removes runs of bytes, long ones first, wherever the answers still differ without them.
     fn cut_down(&mut self, form: Form, mut text: Vec<u8>, now: &Now) -> Vec<u8> {
         let mut run = text.len();
         while run > 0 {
@@ -324,12 +330,12 @@ impl<'a> Ledger<'a> {
         text
     }
 
-    /// The summary: a row for each reader and writer, and what differs.
+    /// Prints the summary: a row for each reader and writer, and the smallest difference of each.
     pub fn summary(&mut self) {
         println!();
         println!(
             "{:<14} {:>14} {:>14} {:>14} {:>16} {:>8}",
-            "", "compared", "accepted", "refused", "document 01's", "differ"
+            "", "compared", "accepted", "refused", "rules alone", "differ"
         );
         for (name, row) in ROW_NAMES.iter().zip(&self.rows) {
             println!(
@@ -337,12 +343,14 @@ impl<'a> Ledger<'a> {
                 grouped(row.compared),
                 grouped(row.accepted),
                 grouped(row.compared - row.accepted),
-                grouped(row.by_document),
+                grouped(row.by_rules),
                 grouped(row.differ)
             );
         }
         println!("{:<14} {:>14} {:>62}", "all", grouped(self.compared()), grouped(self.differ()));
-        println!("\"document 01's\": answers that gix-date cannot give (4) or gives otherwise by intent (1, 5).");
+        println!(
+            "\"rules alone\": answers that gix-date cannot give (4), or that differ from its own on purpose (1, 5)."
+        );
         for (row, name) in ROW_NAMES.iter().enumerate() {
             if let Some(difference) = self.smallest_of(row) {
                 println!("\nsmallest of {name}: {difference}");

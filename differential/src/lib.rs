@@ -1,7 +1,8 @@
 //! gix-date 0.18.1 beside the proved library.
 //!
-//! `oracle` gives what gix-date answers, in the numbers of document 01; `side` is what is held against it; `texts` and
-//! `suites` make the inputs; `ledger` compares and keeps count. The programs are `compare`, `bench` and `sample`.
+//! `oracle` gives the answers of gix-date, with the numbers of docs/RULES.md, which is cited as RULES. `side` is what is
+//! compared with it. `texts` and `suites` make the inputs; `fence` holds them; `ledger` compares and counts. `planted` has
+//! the mistakes that the comparison must find. The programs are `compare`, `bench` and `sample`.
 
 pub mod fence;
 pub mod ledger;

@@ -1,8 +1,8 @@
-//! What gix-date answers, in the numbers of document 01.
+//! What gix-date answers, with the numbers of RULES 2.
 //!
-//! gix-date says "read" or "not read"; which number a text that is not read has follows from the reader that failed and
-//! from the current time. Three answers are document 01's alone, since the Rust has none of the kind: 1 for a byte of 128
-//! or more, 4 for a current time out of range, 5 for more than 32 pairs.
+//! gix-date says "read" or "not read". The number of a text that is not read follows from the reader that failed and from
+//! the current time. Three answers follow from the rules alone, because gix-date has nothing like them: 1 for a byte of
+//! 128 or more, 4 for a current time out of range, 5 for more than 32 pairs.
 
 use gix_date::Time;
 use gix_date::parse::visible;
@@ -16,8 +16,10 @@ pub const MAX_SECONDS: i64 = 253402207200;
 pub const MAX_OFFSET: i32 = 93599;
 /// The most pairs that are read.
 pub const MAX_PAIRS: usize = 32;
+/// The least number that "any" reads as seconds without an `@` before it.
+pub const LEAST_PLAIN: i64 = 100_000_000;
 
-/// A form of text, each with its reader.
+/// A form of text. Each has its reader.
 #[derive(Clone, Copy, PartialEq, Eq, PartialOrd, Ord, Debug)]
 pub enum Form {
     Header,
@@ -60,21 +62,21 @@ impl Answer {
     }
 }
 
-/// Who gave the answer.
+/// Where an answer comes from.
 #[derive(Clone, Copy, PartialEq, Eq, Debug)]
 pub enum By {
-    /// gix-date read the text, or did not.
+    /// gix-date: it read the text, or did not.
     Rust,
-    /// Document 01, where it differs by intent or where the Rust cannot be asked.
-    Document,
+    /// The rules alone: they differ from gix-date on purpose (1, 5), or gix-date cannot be asked (4).
+    Rules,
 }
 
-/// A current time, made ready for gix-date.
+/// A current time, also in the form that gix-date takes.
 #[derive(Clone)]
 pub struct Now {
-    /// Seconds and offset, if it is there.
+    /// Seconds and offset, unless it is missing.
     pub time: Option<(i64, i32)>,
-    /// The same for gix-date, if it is there and in range.
+    /// The same for gix-date, if it is not missing and in range.
     zoned: Option<Zoned>,
 }
 
@@ -87,7 +89,7 @@ impl Now {
         Now { time: Some((seconds, offset)), zoned: Time::new(seconds, offset).to_zoned().ok() }
     }
 
-    /// The number of a relative text that leads to no time from here.
+    /// The number for a relative text that gives no time from here.
     fn refusal(&self) -> u8 {
         match (&self.time, &self.zoned) {
             (None, _) => 3,
@@ -96,16 +98,16 @@ impl Now {
         }
     }
 
-    /// The current time as gix-date takes it; `None` also where it is out of range.
+    /// The current time as gix-date takes it: `None` if it is missing or out of range.
     pub fn zoned(&self) -> Option<Zoned> {
         self.zoned.clone()
     }
 }
 
-/// What is to be answered to `text`.
+/// The right answer to `text`, and where it comes from.
 pub fn wanted(form: Form, text: &[u8], now: &Now) -> (Answer, By) {
     let Some(text) = text.is_ascii().then(|| std::str::from_utf8(text).expect("ASCII is UTF-8")) else {
-        return (Answer::refused(1), By::Document);
+        return (Answer::refused(1), By::Rules);
     };
     match form {
         Form::Header => plain(gix_date::parse_header(text)),
@@ -113,47 +115,47 @@ pub fn wanted(form: Form, text: &[u8], now: &Now) -> (Answer, By) {
         Form::Iso => plain(visible::iso(text)),
         Form::Relative => match visible::relative(text, now.zoned()) {
             None => (Answer::refused(2), By::Rust),
-            Some(_) if has_too_many_pairs(text) => (Answer::refused(5), By::Document),
+            Some(_) if has_too_many_pairs(text) => (Answer::refused(5), By::Rules),
             Some(Ok(zoned)) => (landed(&zoned), By::Rust),
             Some(Err(_)) => unread(now),
         },
         Form::Any => match visible::any(text, now.zoned()) {
-            Ok(_) if has_too_many_pairs(text) && is_read_as_relative(text) => (Answer::refused(5), By::Document),
+            Ok(_) if has_too_many_pairs(text) && is_read_as_relative(text) => (Answer::refused(5), By::Rules),
             Ok(time) => (Answer::read(time), By::Rust),
             Err(_) => match visible::relative(text, None) {
                 None => (Answer::refused(2), By::Rust),
-                Some(_) if has_too_many_pairs(text) => (Answer::refused(5), By::Document),
+                Some(_) if has_too_many_pairs(text) => (Answer::refused(5), By::Rules),
                 Some(_) => unread(now),
             },
         },
     }
 }
 
-/// The answer of a reader that asks for no current time.
+/// The answer of a reader that needs no current time.
 fn plain(time: Option<Time>) -> (Answer, By) {
     (time.map_or(Answer::refused(2), Answer::read), By::Rust)
 }
 
-/// The answer to a relative text that leads to no time.
+/// The answer to a relative text that gives no time.
 fn unread(now: &Now) -> (Answer, By) {
     let number = now.refusal();
-    (Answer::refused(number), if number == 4 { By::Document } else { By::Rust })
+    (Answer::refused(number), if number == 4 { By::Rules } else { By::Rust })
 }
 
 fn landed(zoned: &Zoned) -> Answer {
     Answer { number: 0, seconds: zoned.timestamp().as_second(), offset: zoned.offset().seconds() }
 }
 
-/// Whether a relative text has more pairs than are read. The shortest that has is `1 x`, 33 times, parted by one byte.
+/// Whether a relative text has more pairs than are read. The shortest such text is 33 times `1 x`, with a byte between.
 fn has_too_many_pairs(text: &str) -> bool {
     const SHORTEST: usize = (MAX_PAIRS + 1) * 4 - 1;
     text.len() >= SHORTEST && visible::pairs(text).is_some_and(|count| count > MAX_PAIRS)
 }
 
-/// Whether "any" gets as far as its relative step. Asked of texts with many pairs only.
+/// Whether "any" gets as far as the relative form. Only used for texts with many pairs.
 fn is_read_as_relative(text: &str) -> bool {
     let at = text.strip_prefix('@').is_some_and(|rest| visible::raw(rest).is_some() || rest.parse::<i64>().is_ok());
-    let number = text.parse::<i64>().is_ok_and(|number| number >= 100_000_000);
+    let number = text.parse::<i64>().is_ok_and(|number| number >= LEAST_PLAIN);
     !at && !number && visible::iso(text).is_none() && visible::relative(text, None).is_some()
 }
 
@@ -173,15 +175,15 @@ impl Writer {
     }
 }
 
-/// The bytes of a time, or the number of the refusal. Room is not its concern.
+/// The bytes of a time and how many they are, or the number of the refusal. The room is not considered.
 pub enum Bytes {
     Written([u8; 32], usize),
     Refused(u8),
 }
 
-/// What is to be written for a time.
+/// What the writer must write for a time.
 ///
-/// gix-date has no ISO writer of this shape: fields are jiff's, the line is put together by document 01's sentences.
+/// gix-date has no ISO writer of this shape: jiff computes the fields, and the line is put together as RULES 9.4 says.
 pub fn written(writer: Writer, seconds: i64, offset: i32) -> Bytes {
     let mut bytes = [0; 32];
     let mut rest = &mut bytes[..];
@@ -220,7 +222,7 @@ pub fn written(writer: Writer, seconds: i64, offset: i32) -> Bytes {
     }
 }
 
-/// Puts a number of `digits` digits, with a byte before it.
+/// Writes a number of `digits` digits, after the byte `before` if there is one.
 fn put(rest: &mut &mut [u8], value: u32, digits: usize, before: Option<u8>) {
     let count = digits + usize::from(before.is_some());
     let (here, beyond) = std::mem::take(rest).split_at_mut(count);
@@ -235,7 +237,7 @@ fn put(rest: &mut &mut [u8], value: u32, digits: usize, before: Option<u8>) {
     *rest = beyond;
 }
 
-/// What `size` is to answer.
+/// What `size` must answer.
 pub fn size(seconds: i64, offset: i32) -> usize {
     Time::new(seconds, offset).size()
 }

@@ -1,5 +1,5 @@
-//! Wrong sides: gix-date's own answers with one mistake each. A comparison that finds no difference is worth as much as
-//! the mistakes that it would have found, so each of these has to be found.
+//! Wrong sides: gix-date's own answers with one mistake each. A comparison that finds no difference says little unless
+//! it would have found a mistake, so it must find each of these.
 
 use jiff::ToSpan as _;
 
@@ -10,7 +10,7 @@ use crate::side::Side;
 pub struct Mistake {
     /// The mistake, as a sentence.
     pub name: &'static str,
-    /// Whether a writer or `size` makes it, and no reader.
+    /// Whether it is a mistake of a writer or of `size`, and not of a reader.
     pub of_writers: bool,
     read: fn(Form, &[u8], &Now) -> Option<Answer>,
     size: fn(i64, i32) -> usize,
@@ -22,7 +22,7 @@ const RIGHT: Mistake =
     Mistake { name: "", of_writers: false, read: |_, _, _| None, size: oracle::size, write, leaves_outputs: false };
 const WRITERS: Mistake = Mistake { of_writers: true, ..RIGHT };
 
-/// The mistakes: the shortcuts and the worthless programs that document 01 names, and others of their kind.
+/// The mistakes: plausible shortcuts, misread rules, and programs that do no work at all.
 pub const MISTAKES: &[Mistake] = &[
     Mistake { name: "everything is refused", read: |_, _, _| Some(refused(2)), ..RIGHT },
     Mistake { name: "every time is the same", read: |_, _, _| Some(time(0, 0)), ..RIGHT },
@@ -147,7 +147,7 @@ fn byte_31_is_space(form: Form, text: &[u8], now: &Now) -> Option<Answer> {
     Some(right(form, &text, now))
 }
 
-/// The second of two words, parted by white space.
+/// The second of two words, which are separated by white space.
 fn second_word(text: &[u8]) -> Option<&str> {
     let text = std::str::from_utf8(text).ok()?;
     let mut words = text.split_whitespace().skip(1);
@@ -222,7 +222,7 @@ fn miscounts(seconds: i64, offset: i32) -> usize {
     oracle::size(seconds, offset) - usize::from(seconds == 1_000_000_000_000_000_000)
 }
 
-/// Writes as it should be.
+/// Writes without a mistake.
 fn write(writer: Writer, seconds: i64, offset: i32, room: &mut [u8], length: &mut usize) -> u8 {
     *length = 0;
     match oracle::written(writer, seconds, offset) {

@@ -1,11 +1,11 @@
-//! Numbers that look random and are the same in every run: splitmix64, from a seed.
+//! Random numbers that are the same in every run with the same seed: splitmix64.
 
 /// The generator.
 #[derive(Clone)]
 pub struct Rng(u64);
 
 impl Rng {
-    /// A generator that starts at `seed`, told apart from others of the same seed by `name`.
+    /// A generator for `seed`. Different names give different sequences.
     pub fn new(seed: u64, name: &str) -> Rng {
         let mut rng = Rng(seed ^ 0x9e37_79b9_7f4a_7c15);
         for byte in name.bytes() {
@@ -23,7 +23,7 @@ impl Rng {
         z ^ (z >> 31)
     }
 
-    /// A number below `n`, which is not 0.
+    /// A number below `n`, which must not be 0.
     pub fn below(&mut self, n: usize) -> usize {
         ((u128::from(self.bits()) * n as u128) >> 64) as usize
     }

@@ -1,13 +1,17 @@
-//! What is held against gix-date.
+//! What is compared with gix-date.
+
+#[cfg(feature = "ours")]
+use chowderbell::entries;
 
 use crate::oracle::{Form, Now, Writer};
 
-/// Five readers, `size` and two writers, with every output in sight.
+/// Five readers, `size` and two writers, with all that they write.
 pub trait Side {
-    /// Reads `text`; what the reader left in `seconds` and `offset` can be looked at.
+    /// Reads `text`. Returns the number, and leaves in `seconds` and `offset` what the reader wrote there.
     fn read(&self, form: Form, text: &[u8], now: &Now, seconds: &mut i64, offset: &mut i32) -> u8;
+    /// Returns the length of a header.
     fn size(&self, seconds: i64, offset: i32) -> usize;
-    /// Writes into `room`; what the writer left in `room` and `length` can be looked at.
+    /// Writes a time. Returns the number, and leaves in `room` and `length` what the writer wrote there.
     fn write(&self, writer: Writer, seconds: i64, offset: i32, room: &mut [u8], length: &mut usize) -> u8;
 }
 
@@ -16,14 +20,13 @@ pub trait Side {
 pub struct Ours;
 
 #[cfg(feature = "ours")]
-impl Side for Ours {
-    fn read(&self, form: Form, text: &[u8], now: &Now, seconds: &mut i64, offset: &mut i32) -> u8 {
-        use chowderbell::entries;
-        // any value but 0 says that the current time is there; where it is missing, its numbers are not looked at
-        let (has_now, now_seconds, now_offset) = match now.time {
-            Some((seconds, offset)) => ([1, 2, 255][text.len() % 3], seconds, offset),
-            None => (0, i64::MIN, 77),
-        };
+impl Ours {
+    /// Calls the entry of `form`. The current time is `has_now`, seconds and offset, as the entries take it.
+    ///
+    /// This is what `bench` measures, so it does nothing else.
+    #[inline]
+    pub fn call(form: Form, text: &[u8], now: (u8, i64, i32), seconds: &mut i64, offset: &mut i32) -> u8 {
+        let (has_now, now_seconds, now_offset) = now;
         match form {
             Form::Header => entries::header(text, seconds, offset),
             Form::Raw => entries::raw(text, seconds, offset),
@@ -32,15 +35,27 @@ impl Side for Ours {
             Form::Any => entries::any(text, has_now, now_seconds, now_offset, seconds, offset),
         }
     }
+}
+
+#[cfg(feature = "ours")]
+impl Side for Ours {
+    fn read(&self, form: Form, text: &[u8], now: &Now, seconds: &mut i64, offset: &mut i32) -> u8 {
+        // Any value but 0 means that there is a current time. Without one, its numbers must not matter.
+        let now = match now.time {
+            Some((seconds, offset)) => ([1, 2, 255][text.len() % 3], seconds, offset),
+            None => (0, i64::MIN, 77),
+        };
+        Ours::call(form, text, now, seconds, offset)
+    }
 
     fn size(&self, seconds: i64, offset: i32) -> usize {
-        chowderbell::entries::size(seconds, offset)
+        entries::size(seconds, offset)
     }
 
     fn write(&self, writer: Writer, seconds: i64, offset: i32, room: &mut [u8], length: &mut usize) -> u8 {
         match writer {
-            Writer::Header => chowderbell::entries::write_header(seconds, offset, room, length),
-            Writer::Iso => chowderbell::entries::write_iso(seconds, offset, room, length),
+            Writer::Header => entries::write_header(seconds, offset, room, length),
+            Writer::Iso => entries::write_iso(seconds, offset, room, length),
         }
     }
 }

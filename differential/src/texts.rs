@@ -1,9 +1,9 @@
-//! Texts: a list of telling ones, good ones at random and around each boundary, and damaged copies of good ones.
+//! Texts: a list of telling ones, boundary numbers and words, random good texts, and damaged copies of these.
 
-use crate::oracle::{MAX_OFFSET, MAX_SECONDS, MIN_SECONDS, Now};
+use crate::oracle::{LEAST_PLAIN, MAX_OFFSET, MAX_SECONDS, MIN_SECONDS, Now};
 use crate::rng::Rng;
 
-/// Texts that a plausible mistake gets wrong, of every form. Also what damaged copies are made from.
+/// Texts of every form that a plausible mistake reads wrongly. Damaged copies are made from these too.
 pub const TELLING: &[&str] = &[
     // header, raw
     "1745582210 +0200",
@@ -152,8 +152,15 @@ pub const TELLING: &[&str] = &[
     " ",
 ];
 
-/// Numbers at which something changes.
-const EDGES: [i128; 24] = [
+/// Noon of 31 May 2021 at offset 0: a day that April does not have.
+pub const NOON: i64 = 1_622_462_400;
+/// The first second of year 0 at offset 0: the first that the ISO writer shows there.
+pub const YEAR_0: i64 = -62_167_219_200;
+
+/// Boundary numbers that random texts draw from: the limits of fields, of widths and of the range.
+///
+/// A seed picks from this list by place, so a change to it changes every random text.
+pub const EDGES: [i128; 24] = [
     0,
     5,
     9,
@@ -169,8 +176,8 @@ const EDGES: [i128; 24] = [
     255,
     256,
     10_000,
-    99_999_999,
-    100_000_000,
+    LEAST_PLAIN as i128 - 1,
+    LEAST_PLAIN as i128,
     1 << 31,
     1 << 32,
     MAX_SECONDS as i128,
@@ -180,14 +187,30 @@ const EDGES: [i128; 24] = [
     10_i128.pow(19),
 ];
 
+/// Boundary numbers around which whole suites try every number: the range, each power of ten and each width.
+///
+/// The suites go 130 to either side, so they meet every number of [`EDGES`] too.
+pub fn every_edge() -> impl Iterator<Item = i128> {
+    let limits = [0, LEAST_PLAIN - 1, MAX_SECONDS, MIN_SECONDS].map(i128::from);
+    let powers_of_ten = (0..=38).map(|power| 10_i128.pow(power));
+    let widths = [7, 8, 15, 16, 31, 32, 63, 64, 126].map(|width| 1 << width);
+    limits.into_iter().chain(powers_of_ten).chain(widths)
+}
+
 const SPACES: [&str; 12] = [" ", " ", " ", " ", "\t", "\n", "\x0b", "\x0c", "\r", "  ", " \t", "\x0b "];
 const SEPARATORS: [&str; 12] = [" ", " ", " ", ".", "-", "_", ",", ", ", "  ", "\t", "+", "/"];
 
-fn push_spaces(rng: &mut Rng, text: &mut Vec<u8>) {
-    text.extend(rng.pick(&SPACES).bytes());
+/// Appends `more` to the text.
+fn push(text: &mut Vec<u8>, more: &str) {
+    text.extend_from_slice(more.as_bytes());
 }
 
-/// A number: near an edge, near a power of ten, or any; sometimes with leading zeros or an odd sign.
+/// Appends some white space.
+fn push_spaces(rng: &mut Rng, text: &mut Vec<u8>) {
+    push(text, rng.pick(&SPACES));
+}
+
+/// A number: near an edge, near a power of ten, or anywhere. Some have leading zeros or an odd sign.
 pub fn number(rng: &mut Rng) -> String {
     let value = match rng.below(5) {
         0 => rng.one_of(&EDGES) + i128::from(rng.within(-2, 2)),
@@ -206,7 +229,7 @@ pub fn number(rng: &mut Rng) -> String {
     format!("{sign}{}{}", "0".repeat(zeros), value.abs())
 }
 
-/// Two bytes of a field: digits, mostly in bounds.
+/// A field of two bytes: mostly two digits, and mostly at most `most`.
 fn field(rng: &mut Rng, most: i64) -> String {
     match rng.below(12) {
         0 => format!("{:02}", rng.within(most, (most + 2).min(99))),
@@ -230,16 +253,16 @@ pub fn header(rng: &mut Rng, text: &mut Vec<u8>) {
     if rng.once_in(8) {
         push_spaces(rng, text);
     }
-    text.extend(number(rng).bytes());
+    push(text, &number(rng));
     if rng.once_in(12) {
         return;
     }
     push_spaces(rng, text);
-    text.extend(header_offset(rng).bytes());
+    push(text, &header_offset(rng));
     if rng.once_in(8) {
         push_spaces(rng, text);
         if rng.once_in(2) {
-            text.extend(rng.pick(&["x", "+0100", "5", "-"]).bytes());
+            push(text, rng.pick(&["x", "+0100", "5", "-"]));
         }
     }
 }
@@ -257,7 +280,7 @@ pub fn month_length(year: i64, month: i64) -> i64 {
     }
 }
 
-/// Four bytes of a year.
+/// A year, and a field of four bytes for it.
 fn year_field(rng: &mut Rng) -> (i64, String) {
     let year = match rng.below(8) {
         0 => rng.one_of(&[0, 1, 4, 100, 400, 1600, 1900, 2000, 2100, 9998, 9999]),
@@ -278,12 +301,12 @@ fn clock(rng: &mut Rng, text: &mut Vec<u8>) {
     let fields = [field(rng, 23), field(rng, 59), field(rng, 59)];
     let count = if rng.once_in(3) { rng.below(3) + 1 } else { 3 };
     let between = if rng.once_in(3) { "" } else { ":" };
-    text.extend(fields[..count].join(between).bytes());
+    push(text, &fields[..count].join(between));
     match rng.below(16) {
-        0 => text.extend(format!(".{:03}", rng.below(1000)).bytes()),
-        1 => text.extend(format!(":{}", rng.below(100)).bytes()),
-        2 => text.extend(format!(" .{}", rng.below(10)).bytes()),
-        3 => text.extend(format!(".{}", rng.pick(&["", "5+", "5-x", "+5 ", "-05 x", ":"])).bytes()),
+        0 => push(text, &format!(".{:03}", rng.below(1000))),
+        1 => push(text, &format!(":{}", rng.below(100))),
+        2 => push(text, &format!(" .{}", rng.below(10))),
+        3 => push(text, &format!(".{}", rng.pick(&["", "5+", "5-x", "+5 ", "-05 x", ":"]))),
         4 => text.push(b':'),
         _ => {}
     }
@@ -293,22 +316,22 @@ fn clock(rng: &mut Rng, text: &mut Vec<u8>) {
 fn iso_offset(rng: &mut Rng, text: &mut Vec<u8>) {
     match rng.below(10) {
         0 => return,
-        1 => text.extend(b"Z"),
-        2 => text.extend(b" Z"),
+        1 => push(text, "Z"),
+        2 => push(text, " Z"),
         kind => {
             if kind < 7 {
                 push_spaces(rng, text);
             }
-            text.extend(rng.pick(&["+", "-"]).bytes());
-            text.extend(field(rng, 23).bytes());
+            push(text, rng.pick(&["+", "-"]));
+            push(text, &field(rng, 23));
             if rng.below(4) > 0 {
                 if rng.once_in(2) {
                     text.push(b':');
                 }
-                text.extend(field(rng, 59).bytes());
+                push(text, &field(rng, 59));
             }
             if rng.once_in(12) {
-                text.extend(rng.pick(&[":", "::", "0", ":00", "Z", " "]).bytes());
+                push(text, rng.pick(&[":", "::", "0", ":00", "Z", " "]));
             }
         }
     }
@@ -341,13 +364,18 @@ pub fn iso(rng: &mut Rng, text: &mut Vec<u8>) {
         2 => format!("{year_text}-{month}-{day}T"),
         _ => format!("{year_text}-{month}-{day} "),
     };
-    text.extend(date.bytes());
+    push(text, &date);
     clock(rng, text);
     iso_offset(rng, text);
 }
 
-const COUNT_NAMES: [&str; 11] = ["one", "two", "three", "four", "five", "six", "seven", "eight", "nine", "ten", "last"];
-const UNITS: [&str; 7] = ["second", "minute", "hour", "day", "week", "month", "year"];
+/// The words that are a whole relative date (RULES 7.1).
+pub const NAMES: [&str; 3] = ["now", "today", "yesterday"];
+/// The words that are a count (RULES 7.3).
+pub const COUNTS: [&str; 11] = ["one", "two", "three", "four", "five", "six", "seven", "eight", "nine", "ten", "last"];
+/// The units, without their final `s` (RULES 7.5).
+pub const UNITS: [&str; 7] = ["second", "minute", "hour", "day", "week", "month", "year"];
+/// Words that are passed over where a count is awaited.
 const PASSED_OVER: [&str; 12] =
     ["and", "the", "zero", "eleven", "x", "99999999999999999999", "3days", "noon", "s", "monday", "1st", "lasts"];
 
@@ -360,11 +388,11 @@ fn in_some_case(rng: &mut Rng, word: &str) -> String {
     }
 }
 
-/// One pair of count and unit. `small` keeps the step to some months.
+/// One pair of count and unit. With `small` the count is at most 40.
 fn pair(rng: &mut Rng, text: &mut Vec<u8>, small: bool) {
     let count = match rng.below(8) {
         0 | 1 => {
-            let name = rng.pick(&COUNT_NAMES);
+            let name = rng.pick(&COUNTS);
             in_some_case(rng, name)
         }
         2 if !small => number(rng).trim_start_matches(['+', '-', ' ']).to_string(),
@@ -377,31 +405,31 @@ fn pair(rng: &mut Rng, text: &mut Vec<u8>, small: bool) {
     let unit = in_some_case(rng, unit);
     let plural = rng.pick(&["s", "s", "", "", "S", "ss"]);
     let plural = if plural == "ss" && !rng.once_in(10) { "s" } else { plural };
-    text.extend(count.bytes());
-    text.extend(rng.pick(&SEPARATORS).bytes());
-    text.extend(unit.bytes());
-    text.extend(plural.bytes());
+    push(text, &count);
+    push(text, rng.pick(&SEPARATORS));
+    push(text, &unit);
+    push(text, plural);
 }
 
 /// A relative date of `pairs` pairs.
 pub fn pairs(rng: &mut Rng, text: &mut Vec<u8>, pairs: usize, small: bool) {
     let ago = rng.below(4);
     if ago == 0 {
-        text.extend(b"ago ");
+        push(text, "ago ");
     }
     for place in 0..pairs {
         if place > 0 {
-            text.extend(rng.pick(&SEPARATORS).bytes());
+            push(text, rng.pick(&SEPARATORS));
         }
         if rng.once_in(20) {
-            text.extend(rng.pick(&PASSED_OVER).bytes());
+            push(text, rng.pick(&PASSED_OVER));
             text.push(b' ');
         }
         pair(rng, text, small);
     }
     if ago >= 2 {
-        text.extend(rng.pick(&SEPARATORS).bytes());
-        text.extend(in_some_case(rng, "ago").bytes());
+        push(text, rng.pick(&SEPARATORS));
+        push(text, &in_some_case(rng, "ago"));
     }
 }
 
@@ -411,8 +439,8 @@ pub fn relative(rng: &mut Rng, text: &mut Vec<u8>) {
         if rng.once_in(3) {
             push_spaces(rng, text);
         }
-        let word = rng.pick(&["now", "today", "yesterday"]);
-        text.extend(in_some_case(rng, word).bytes());
+        let word = rng.pick(&NAMES);
+        push(text, &in_some_case(rng, word));
         if rng.once_in(3) {
             push_spaces(rng, text);
         }
@@ -423,30 +451,30 @@ pub fn relative(rng: &mut Rng, text: &mut Vec<u8>) {
     pairs(rng, text, count, small);
 }
 
-/// What only "any" reads.
+/// A text that only "any" reads, or one near it.
 fn any(rng: &mut Rng, text: &mut Vec<u8>) {
     if rng.below(4) > 0 {
         text.push(b'@');
     }
     if rng.once_in(2) {
-        text.extend(number(rng).bytes());
+        push(text, &number(rng));
     } else {
         header(rng, text);
     }
 }
 
-/// A good text, or nearly, of any form.
+/// A text of any form that is good, or nearly so.
 pub fn good(rng: &mut Rng, text: &mut Vec<u8>) {
     match rng.below(9) {
         0 | 1 => header(rng, text),
         2..=4 => iso(rng, text),
         5 | 6 => relative(rng, text),
         7 => any(rng, text),
-        _ => text.extend(rng.pick(TELLING).bytes()),
+        _ => push(text, rng.pick(TELLING)),
     }
 }
 
-/// Bytes that readers look for, and some that they should not take for them.
+/// Bytes that readers look for, and others that are easily mistaken for them.
 const BYTES: &[u8] = b"0123456789+-:. \t\n\x0b\x0c\rTZ@tzagonows,_/x\0\x08\x0e\x1c\x1f\x7f;<=>?!*";
 
 fn any_byte(rng: &mut Rng) -> u8 {
@@ -489,7 +517,7 @@ pub fn damage(rng: &mut Rng, text: &mut Vec<u8>) {
     }
 }
 
-/// A current time: missing, any, at the end of a month, near the ends of the range, out of range.
+/// A current time: missing, anywhere, at the end of a month, near the ends of the range, or out of range.
 pub fn now(rng: &mut Rng) -> Now {
     let offset = match rng.below(8) {
         0 => rng.one_of(&[MAX_OFFSET, -MAX_OFFSET, MAX_OFFSET - 1, 1 - MAX_OFFSET]),

@@ -1,13 +1,14 @@
-//! The C entries as they stand: numbers in, numbers out.
+//! The C entries themselves: numbers in, numbers out.
 //!
-//! Each call here passes its arguments on and nothing else, so what an entry left in `seconds`, `offset`, `length`
-//! and `room` can be looked at. Number 0 is success; the others are those of [`Refusal`](crate::Refusal). On a refusal
-//! `seconds`, `offset` and `length` are 0 and `room` is as it was. Every text and every number has an answer.
+//! Each function passes its arguments to an entry and does nothing else, so the caller sees what the entry left in
+//! `seconds`, `offset`, `length` and `room`. The number 0 is success; the others are those of
+//! [`Refusal`](crate::Refusal). On a refusal `seconds`, `offset` and `length` are 0, and `room` is not changed. Every text
+//! and every number has an answer.
 
-// SAFETY, of every call in this file: each pointer comes from a reference or a slice that outlives the call, goes with
-// the length of that slice, and is not null; a `&mut` is lent to nothing else. An entry reads `text[0]` to
-// `text[len - 1]`, writes at most `room[0]` to `room[len - 1]` and its outputs, touches no other byte, keeps no pointer
-// and always returns: all of that is proved of it.
+// SAFETY, for every call in this file: each pointer comes from a reference or a slice that lives as long as the call, so
+// it is not null; a slice's pointer comes with its length; and what is written is borrowed mutably, so nothing overlaps
+// it. An entry reads `text[0]` to `text[len - 1]`, writes at most `room[0]` to `room[len - 1]` and its outputs, touches no
+// other byte, keeps no pointer and always returns. All of that is proved.
 mod c {
     extern "C" {
         pub fn chowderbell_header(text: *const u8, len: usize, seconds: *mut i64, offset: *mut i32) -> u8;
@@ -40,26 +41,30 @@ mod c {
 
 /// Reads a header date, `1745582210 +0200`. Returns 0, 1 or 2.
 #[inline]
+#[must_use]
 pub fn header(text: &[u8], seconds: &mut i64, offset: &mut i32) -> u8 {
     unsafe { c::chowderbell_header(text.as_ptr(), text.len(), seconds, offset) }
 }
 
 /// Reads a raw date, the header's strict form. Returns 0, 1 or 2.
 #[inline]
+#[must_use]
 pub fn raw(text: &[u8], seconds: &mut i64, offset: &mut i32) -> u8 {
     unsafe { c::chowderbell_raw(text.as_ptr(), text.len(), seconds, offset) }
 }
 
 /// Reads one of the three ISO forms. Returns 0, 1 or 2.
 #[inline]
+#[must_use]
 pub fn iso(text: &[u8], seconds: &mut i64, offset: &mut i32) -> u8 {
     unsafe { c::chowderbell_iso(text.as_ptr(), text.len(), seconds, offset) }
 }
 
-/// Reads a relative date, `2 weeks ago`, seen from the current time. Returns 0 to 6.
+/// Reads a relative date, `2 weeks ago`, counted back from the current time. Returns 0 to 6.
 ///
-/// The current time is missing if `has_now` is 0; its two numbers are then not looked at.
+/// The current time is missing if `has_now` is 0. Its two numbers are not used then.
 #[inline]
+#[must_use]
 pub fn relative(
     text: &[u8],
     has_now: u8,
@@ -73,26 +78,30 @@ pub fn relative(
 
 /// Reads a date of any form. Returns 0 to 6.
 ///
-/// The current time is missing if `has_now` is 0; its two numbers are then not looked at.
+/// The current time is missing if `has_now` is 0. Its two numbers are not used then.
 #[inline]
+#[must_use]
 pub fn any(text: &[u8], has_now: u8, now_seconds: i64, now_offset: i32, seconds: &mut i64, offset: &mut i32) -> u8 {
     unsafe { c::chowderbell_any(text.as_ptr(), text.len(), has_now, now_seconds, now_offset, seconds, offset) }
 }
 
-/// The number of bytes that [`write_header`] writes, also where the offset is too wide to be written.
+/// The length of the header date, which [`write_header`] writes; also if the offset is too wide to be written.
 #[inline]
+#[must_use]
 pub fn size(seconds: i64, offset: i32) -> usize {
     unsafe { c::chowderbell_size(seconds, offset) }
 }
 
-/// Writes a time as a header date into `room`, from its start. Returns 0, 7 or 8.
+/// Writes a time as a header date at the start of `room`. Returns 0, 7 or 8.
 #[inline]
+#[must_use]
 pub fn write_header(seconds: i64, offset: i32, room: &mut [u8], length: &mut usize) -> u8 {
     unsafe { c::chowderbell_write_header(seconds, offset, room.as_mut_ptr(), room.len(), length) }
 }
 
-/// Writes a time as `YYYY-MM-DDTHH:MM:SS+HH:MM` into `room`, from its start. Returns 0, 6, 7 or 8.
+/// Writes a time as `YYYY-MM-DDTHH:MM:SS+HH:MM` at the start of `room`. Returns 0, 6, 7 or 8.
 #[inline]
+#[must_use]
 pub fn write_iso(seconds: i64, offset: i32, room: &mut [u8], length: &mut usize) -> u8 {
     unsafe { c::chowderbell_write_iso(seconds, offset, room.as_mut_ptr(), room.len(), length) }
 }

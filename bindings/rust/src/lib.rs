@@ -1,4 +1,9 @@
 #![doc = include_str!("../README.md")]
+//!
+//! # Panics
+//!
+//! No call panics when the crate is linked with the library that it was made for. Linked with another version, a call
+//! panics if an entry returns a number that [`Refusal`] does not have.
 #![no_std]
 #![deny(missing_docs)]
 
@@ -6,16 +11,16 @@ pub mod entries;
 mod refusal;
 mod time;
 
-pub use refusal::Refusal;
-pub use time::{Time, TimeBuf, ISO_SIZE, MAX_SIZE};
+pub use refusal::{Refusal, UnknownNumber};
+pub use time::{Time, TimeBuf, HEADER_MAX, ISO_LENGTH};
 
-/// Reads a header date, as it stands in a commit: `1745582210 +0200`.
+/// Reads the date of a commit header: `1745582210 +0200`.
 ///
-/// Lenient as gix-date is: a first word that is no number is read as its leading digits, and an offset that cannot be
-/// read is 0. For a reader that refuses these see [`parse_raw`].
+/// It is as lenient as gix-date: if the first word is not a number, its leading digits are read, and an offset that
+/// cannot be read is 0. [`parse_raw`] refuses both.
 ///
 /// # Errors
-/// [`Refusal::NotAscii`]; [`Refusal::Form`] for a text with a `:` or without a number in front.
+/// [`Refusal::NotAscii`]; [`Refusal::Form`] if the text has a `:` anywhere or does not begin with a number.
 ///
 /// ```
 /// use chowderbell::{parse_header, Refusal, Time};
@@ -25,12 +30,12 @@ pub use time::{Time, TimeBuf, ISO_SIZE, MAX_SIZE};
 /// assert_eq!(parse_header("5 +01:00"), Err(Refusal::Form));
 /// ```
 pub fn parse_header(text: impl AsRef<[u8]>) -> Result<Time, Refusal> {
-    answer(|seconds, offset| entries::header(text.as_ref(), seconds, offset))
+    read(|seconds, offset| entries::header(text.as_ref(), seconds, offset))
 }
 
-/// Reads a raw date: a header date with an offset that is in use somewhere, and nothing else.
+/// Reads a raw date: a number and an offset, and nothing else.
 ///
-/// Hours are at most 14, minutes 0, 15, 30 or 45, seconds 0.
+/// The offset's hours are at most 14, its minutes 0, 15, 30 or 45, its seconds 0.
 ///
 /// # Errors
 /// [`Refusal::NotAscii`], [`Refusal::Form`].
@@ -42,13 +47,13 @@ pub fn parse_header(text: impl AsRef<[u8]>) -> Result<Time, Refusal> {
 /// assert_eq!(parse_raw("5 +1500"), Err(Refusal::Form));
 /// ```
 pub fn parse_raw(text: impl AsRef<[u8]>) -> Result<Time, Refusal> {
-    answer(|seconds, offset| entries::raw(text.as_ref(), seconds, offset))
+    read(|seconds, offset| entries::raw(text.as_ref(), seconds, offset))
 }
 
 /// Reads an ISO date with a time, in one of three forms: dotted, compact, flexible.
 ///
 /// # Errors
-/// [`Refusal::NotAscii`]; [`Refusal::Form`], also for a date that does not exist and for an instant out of range.
+/// [`Refusal::NotAscii`]; [`Refusal::Form`], also if the date does not exist or the time is out of range.
 ///
 /// ```
 /// use chowderbell::{parse_iso, Refusal, Time};
@@ -59,12 +64,12 @@ pub fn parse_raw(text: impl AsRef<[u8]>) -> Result<Time, Refusal> {
 /// assert_eq!(parse_iso("2008-02-30 20:30:45"), Err(Refusal::Form));
 /// ```
 pub fn parse_iso(text: impl AsRef<[u8]>) -> Result<Time, Refusal> {
-    answer(|seconds, offset| entries::iso(text.as_ref(), seconds, offset))
+    read(|seconds, offset| entries::iso(text.as_ref(), seconds, offset))
 }
 
-/// Reads a relative date, `2 weeks ago`, as seen from `now`; the offset is that of `now`.
+/// Reads a relative date, `2 weeks ago`, counted back from `now`. The answer has the offset of `now`.
 ///
-/// The current time is the caller's to give: this library asks no clock. It is looked at only if the text is relative.
+/// The library has no clock, so the caller passes the current time. It is used only if the text is relative.
 ///
 /// # Errors
 /// In the order in which they are tested: [`Refusal::NotAscii`], [`Refusal::Form`], [`Refusal::Pairs`],
@@ -81,13 +86,13 @@ pub fn parse_iso(text: impl AsRef<[u8]>) -> Result<Time, Refusal> {
 /// ```
 pub fn parse_relative(text: impl AsRef<[u8]>, now: Option<Time>) -> Result<Time, Refusal> {
     let (has_now, at) = current(now);
-    answer(|seconds, offset| entries::relative(text.as_ref(), has_now, at.seconds, at.offset, seconds, offset))
+    read(|seconds, offset| entries::relative(text.as_ref(), has_now, at.seconds, at.offset, seconds, offset))
 }
 
-/// Reads a date of any form: `@` and seconds, seconds from 100000000 on, ISO, relative, raw.
+/// Reads a date of any form: `@` and seconds, plain seconds from 100000000 on, ISO, relative, raw.
 ///
 /// # Errors
-/// As [`parse_relative`] for a relative text, otherwise [`Refusal::NotAscii`] or [`Refusal::Form`].
+/// Those of [`parse_relative`] if the text is relative, else [`Refusal::NotAscii`] or [`Refusal::Form`].
 ///
 /// ```
 /// use chowderbell::{parse, Refusal, Time};
@@ -99,10 +104,10 @@ pub fn parse_relative(text: impl AsRef<[u8]>, now: Option<Time>) -> Result<Time,
 /// ```
 pub fn parse(text: impl AsRef<[u8]>, now: Option<Time>) -> Result<Time, Refusal> {
     let (has_now, at) = current(now);
-    answer(|seconds, offset| entries::any(text.as_ref(), has_now, at.seconds, at.offset, seconds, offset))
+    read(|seconds, offset| entries::any(text.as_ref(), has_now, at.seconds, at.offset, seconds, offset))
 }
 
-/// The current time as the entries take it.
+/// The current time as the entries take it: `has_now`, and the time.
 fn current(now: Option<Time>) -> (u8, Time) {
     match now {
         Some(time) => (1, time),
@@ -110,11 +115,9 @@ fn current(now: Option<Time>) -> (u8, Time) {
     }
 }
 
-/// The answer of a reader.
-fn answer(entry: impl FnOnce(&mut i64, &mut i32) -> u8) -> Result<Time, Refusal> {
+/// Calls a reader's entry.
+fn read(entry: impl FnOnce(&mut i64, &mut i32) -> u8) -> Result<Time, Refusal> {
     let mut time = Time::new(0, 0);
-    match entry(&mut time.seconds, &mut time.offset) {
-        0 => Ok(time),
-        number => Err(Refusal::of(number)),
-    }
+    let number = entry(&mut time.seconds, &mut time.offset);
+    refusal::answer(number, time)
 }

@@ -1,23 +1,25 @@
 use core::fmt;
 
-/// Why a text was not read or a time not written. The numbers are those of the C entries.
+/// Why a text was not read or a time was not written. The numbers are those of the C entries (RULES 2).
 #[derive(Clone, Copy, PartialEq, Eq, Hash, Debug)]
+#[non_exhaustive]
 #[repr(u8)]
 pub enum Refusal {
     /// 1: the text holds a byte of 128 or more.
     NotAscii = 1,
-    /// 2: the text is not of the form asked.
+    /// 2: the text is not of the form asked for.
     Form = 2,
-    /// 3: the text is relative, and there is no current time.
+    /// 3: the text is relative, and the current time is missing.
     Missing = 3,
-    /// 4: the current time is out of range: seconds -377705023201 to 253402207200, offset -93599 to 93599.
+    /// 4: the text is relative, and the current time is out of range: seconds -377705023201 to 253402207200, offset
+    /// -93599 to 93599.
     Current = 4,
-    /// 5: the text is relative with more pairs of count and unit than are read.
+    /// 5: the text is relative and has more than 32 pairs of a count and a unit.
     Pairs = 5,
     /// 6: a relative step leaves the range; or the ISO writer is given seconds out of range, or a time whose local
     /// year is not 0 to 9999.
     Range = 6,
-    /// 7: an offset too wide to be written: 100 hours or more in a header, 24 hours or more in an ISO line.
+    /// 7: the offset is too wide to be written: 100 hours or more in a header, 24 hours or more in an ISO line.
     Offset = 7,
     /// 8: the room is shorter than the bytes to be written.
     Room = 8,
@@ -25,16 +27,25 @@ pub enum Refusal {
 
 impl Refusal {
     /// Its number at the C entries.
+    #[must_use]
     pub const fn number(self) -> u8 {
         self as u8
     }
+}
 
-    /// The refusal with this number, for a number that an entry returned and that is not 0.
-    ///
-    /// # Panics
-    /// If there is none: no entry returns such a number.
-    pub(crate) fn of(number: u8) -> Refusal {
-        match number {
+/// The refusal with this number.
+///
+/// ```
+/// use chowderbell::{Refusal, UnknownNumber};
+///
+/// assert_eq!(Refusal::try_from(2), Ok(Refusal::Form));
+/// assert_eq!(Refusal::try_from(0), Err(UnknownNumber(0))); // 0 is success
+/// ```
+impl TryFrom<u8> for Refusal {
+    type Error = UnknownNumber;
+
+    fn try_from(number: u8) -> Result<Refusal, UnknownNumber> {
+        Ok(match number {
             1 => Refusal::NotAscii,
             2 => Refusal::Form,
             3 => Refusal::Missing,
@@ -43,8 +54,8 @@ impl Refusal {
             6 => Refusal::Range,
             7 => Refusal::Offset,
             8 => Refusal::Room,
-            _ => panic!("the library returned {number}, which is no number of its contracts"),
-        }
+            _ => return Err(UnknownNumber(number)),
+        })
     }
 }
 
@@ -52,10 +63,10 @@ impl fmt::Display for Refusal {
     fn fmt(&self, f: &mut fmt::Formatter<'_>) -> fmt::Result {
         f.write_str(match self {
             Refusal::NotAscii => "the text holds a byte of 128 or more",
-            Refusal::Form => "the text is not of the form asked",
-            Refusal::Missing => "the text is relative, and there is no current time",
+            Refusal::Form => "the text is not of the form asked for",
+            Refusal::Missing => "the text is relative, and the current time is missing",
             Refusal::Current => "the current time is out of range",
-            Refusal::Pairs => "the text is relative with too many pairs",
+            Refusal::Pairs => "the text is relative and has too many pairs",
             Refusal::Range => "the time is out of range",
             Refusal::Offset => "the offset is too wide to be written",
             Refusal::Room => "the room is shorter than the bytes to be written",
@@ -64,3 +75,27 @@ impl fmt::Display for Refusal {
 }
 
 impl core::error::Error for Refusal {}
+
+/// A number that is not the number of a [`Refusal`].
+#[derive(Clone, Copy, PartialEq, Eq, Hash, Debug)]
+pub struct UnknownNumber(pub u8);
+
+impl fmt::Display for UnknownNumber {
+    fn fmt(&self, f: &mut fmt::Formatter<'_>) -> fmt::Result {
+        write!(f, "{} is not the number of a refusal", self.0)
+    }
+}
+
+impl core::error::Error for UnknownNumber {}
+
+/// The answer of an entry that returned `number`: `value` if that is 0, else the refusal.
+///
+/// # Panics
+/// Panics if `number` is neither 0 nor the number of a refusal. The contracts of the entries rule that out, so it means
+/// that the crate was linked with another version of the library. No refusal would be a true answer then.
+pub(crate) fn answer<T>(number: u8, value: T) -> Result<T, Refusal> {
+    if number == 0 {
+        return Ok(value);
+    }
+    Err(Refusal::try_from(number).expect("every entry returns 0 or the number of a refusal"))
+}

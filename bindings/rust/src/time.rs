@@ -1,45 +1,51 @@
+use crate::refusal::answer;
 use crate::{entries, Refusal};
 use core::str::FromStr;
 
-/// The most bytes that a header date has: [`Time::MIN`]'s.
-pub const MAX_SIZE: usize = 26;
-/// The bytes of an ISO line, `2008-02-14T20:30:45+00:00`.
-pub const ISO_SIZE: usize = 25;
+/// The length of the longest header date, which is that of [`Time::MIN`]. A room of this many bytes holds every header.
+pub const HEADER_MAX: usize = 26;
+/// The length of every ISO line, `2008-02-14T20:30:45+00:00`.
+pub const ISO_LENGTH: usize = 25;
 
-/// A time: seconds since 1970 and the offset of a clock, in seconds east of Greenwich.
+/// A time: seconds since 1970, and an offset from UTC in seconds.
+///
+/// Times are made by [`Time::new`].
 #[derive(Clone, Copy, PartialEq, Eq, Hash, PartialOrd, Ord, Default, Debug)]
+#[non_exhaustive]
 pub struct Time {
-    /// Seconds since 1 January 1970, 00:00 at offset 0. Negative before that.
+    /// Seconds since 1 January 1970, 00:00 UTC. Negative before that.
     pub seconds: i64,
-    /// What the clock is ahead, in seconds. Negative in the west.
+    /// How many seconds the local clock is ahead of UTC. Negative in the west.
     pub offset: i32,
 }
 
 impl Time {
     /// The smallest time.
-    pub const MIN: Time = Time::new(i64::MIN, -359999);
+    pub const MIN: Time = Time::new(i64::MIN, -359_999);
     /// The largest time.
-    pub const MAX: Time = Time::new(i64::MAX, 359999);
+    pub const MAX: Time = Time::new(i64::MAX, 359_999);
 
     /// The time of `seconds` and `offset`.
+    #[must_use]
     pub const fn new(seconds: i64, offset: i32) -> Time {
         Time { seconds, offset }
     }
 
-    /// The number of bytes that [`Time::write_to`] writes, also where the offset is too wide to be written.
+    /// The length of the header date, which [`Time::write_to`] writes; also if the offset is too wide to be written.
     ///
     /// ```
     /// assert_eq!(chowderbell::Time::new(1745582210, 7200).size(), "1745582210 +0200".len());
     /// ```
+    #[must_use]
     pub fn size(self) -> usize {
         entries::size(self.seconds, self.offset)
     }
 
-    /// Writes the time as a header date at the start of `room`, and returns how many bytes that were: [`Time::size`].
-    /// The bytes beyond stay. Seconds of the offset are dropped.
+    /// Writes the time as a header date at the start of `room` and returns its length, [`Time::size`]. The bytes after it
+    /// are not changed. The offset is cut to whole minutes.
     ///
     /// # Errors
-    /// [`Refusal::Offset`] for an offset of 100 hours or more, [`Refusal::Room`]; `room` is then as it was.
+    /// [`Refusal::Offset`] if the offset is 100 hours or more either way; [`Refusal::Room`]. `room` is not changed then.
     ///
     /// ```
     /// let mut room = [b'.'; 20];
@@ -47,29 +53,29 @@ impl Time {
     /// assert_eq!(&room, b"1745582210 +0200....");
     /// ```
     pub fn write_to(self, room: &mut [u8]) -> Result<usize, Refusal> {
-        written(|length| entries::write_header(self.seconds, self.offset, room, length))
+        write(|length| entries::write_header(self.seconds, self.offset, room, length))
     }
 
-    /// Writes the time as `YYYY-MM-DDTHH:MM:SS+HH:MM` at the start of `room`, and returns how many bytes that were:
-    /// [`ISO_SIZE`]. The bytes beyond stay.
+    /// Writes the time as `YYYY-MM-DDTHH:MM:SS+HH:MM` at the start of `room` and returns its length, [`ISO_LENGTH`]. The
+    /// bytes after it are not changed.
     ///
     /// # Errors
-    /// In the order in which they are tested: [`Refusal::Offset`] for an offset of 24 hours or more,
-    /// [`Refusal::Range`], [`Refusal::Room`]; `room` is then as it was.
+    /// In the order in which they are tested: [`Refusal::Offset`] if the offset is 24 hours or more either way,
+    /// [`Refusal::Range`], [`Refusal::Room`]. `room` is not changed then.
     ///
     /// ```
-    /// let mut room = [0; chowderbell::ISO_SIZE];
+    /// let mut room = [0; chowderbell::ISO_LENGTH];
     /// assert_eq!(chowderbell::Time::new(1203039045, -18000).write_iso(&mut room), Ok(25));
     /// assert_eq!(&room, b"2008-02-14T20:30:45-05:00");
     /// ```
     pub fn write_iso(self, room: &mut [u8]) -> Result<usize, Refusal> {
-        written(|length| entries::write_iso(self.seconds, self.offset, room, length))
+        write(|length| entries::write_iso(self.seconds, self.offset, room, length))
     }
 
-    /// The time as a header date, kept in `buf`.
+    /// The time as a header date, written into `buf`.
     ///
     /// # Errors
-    /// [`Refusal::Offset`] for an offset of 100 hours or more.
+    /// [`Refusal::Offset`] if the offset is 100 hours or more either way.
     ///
     /// ```
     /// use chowderbell::{Time, TimeBuf};
@@ -80,13 +86,13 @@ impl Time {
     /// ```
     pub fn to_str(self, buf: &mut TimeBuf) -> Result<&str, Refusal> {
         let length = self.write_to(&mut buf.room)?;
-        Ok(core::str::from_utf8(&buf.room[..length]).expect("a header date is ASCII"))
+        Ok(buf.text(length))
     }
 
-    /// The time as `YYYY-MM-DDTHH:MM:SS+HH:MM`, kept in `buf`.
+    /// The time as `YYYY-MM-DDTHH:MM:SS+HH:MM`, written into `buf`.
     ///
     /// # Errors
-    /// [`Refusal::Offset`] for an offset of 24 hours or more, [`Refusal::Range`].
+    /// [`Refusal::Offset`] if the offset is 24 hours or more either way; [`Refusal::Range`].
     ///
     /// ```
     /// use chowderbell::{Time, TimeBuf};
@@ -95,11 +101,14 @@ impl Time {
     /// ```
     pub fn to_iso(self, buf: &mut TimeBuf) -> Result<&str, Refusal> {
         let length = self.write_iso(&mut buf.room)?;
-        Ok(core::str::from_utf8(&buf.room[..length]).expect("an ISO line is ASCII"))
+        Ok(buf.text(length))
     }
 }
 
-/// Reads a header date, as [`parse_header`](crate::parse_header).
+/// Reads a header date, like [`parse_header`](crate::parse_header).
+///
+/// `str::parse` has no argument for the current time, and a header date needs none. [`parse`](crate::parse) reads any
+/// form, but without a current time it would refuse every relative date.
 impl FromStr for Time {
     type Err = Refusal;
 
@@ -108,17 +117,22 @@ impl FromStr for Time {
     }
 }
 
-/// Room for the longest date that is written.
+/// A buffer that holds every header date and every ISO line.
 #[derive(Clone, Debug, Default)]
 pub struct TimeBuf {
-    room: [u8; MAX_SIZE],
+    room: [u8; HEADER_MAX],
 }
 
-/// The answer of a writer.
-fn written(entry: impl FnOnce(&mut usize) -> u8) -> Result<usize, Refusal> {
-    let mut length = 0;
-    match entry(&mut length) {
-        0 => Ok(length),
-        number => Err(Refusal::of(number)),
+impl TimeBuf {
+    /// The first `length` bytes, which a writer wrote.
+    fn text(&self, length: usize) -> &str {
+        core::str::from_utf8(&self.room[..length]).expect("the writers write ASCII")
     }
+}
+
+/// Calls a writer's entry.
+fn write(entry: impl FnOnce(&mut usize) -> u8) -> Result<usize, Refusal> {
+    let mut length = 0;
+    let number = entry(&mut length);
+    answer(number, length)
 }

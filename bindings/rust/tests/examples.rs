@@ -1,16 +1,16 @@
-//! The examples of the rules and each refusal, asked through the safe calls. One row, one case.
+//! The examples of RULES 11 and each refusal, through the safe calls. One row is one case.
 
 use chowderbell::Refusal::{self, *};
 use chowderbell::{parse, parse_header, parse_iso, parse_raw, parse_relative, Time};
 
-/// 31 May 2021, noon.
+/// Noon of 31 May 2021 at offset 0.
 const NOW: Time = Time::new(1622462400, 0);
 /// 2008-02-14 20:30:45.
 const S: i64 = 1203021045;
 
 type Answer = Result<(i64, i32), Refusal>;
 
-/// Every row that differs is told, with input, wanted and got.
+/// Reads every row, prints those that differ with input, wanted and got, and fails if there are any.
 fn hold(form: &str, rows: &[(&str, Answer)], read: impl Fn(&str) -> Result<Time, Refusal>) {
     let mut differ = 0;
     for (text, wanted) in rows {
@@ -143,7 +143,7 @@ fn relative_with_many_pairs() {
     hold("relative", &rows, |text| parse_relative(text, Some(NOW)));
     hold("relative", &[(&most, Err(Missing)), (&more, Err(Pairs))], |text| parse_relative(text, None));
     hold("relative", &[(&most, Err(Current)), (&more, Err(Pairs))], |text| parse_relative(text, out));
-    // 2 is tested before 5, so the whole text is read first
+    // 2 is tested before 5, so the whole text is read even if it has too many pairs
     let unknown = "1 x ".repeat(33);
     hold("relative", &[(&unknown, Err(Form)), (&(unknown.clone() + "ago"), Err(Pairs))], |text| {
         parse_relative(text, Some(NOW))

@@ -1,7 +1,7 @@
 //! The writers: bytes written, bytes not written, rooms of every length.
 
 use chowderbell::Refusal::*;
-use chowderbell::{entries, Time, TimeBuf, ISO_SIZE, MAX_SIZE};
+use chowderbell::{entries, Refusal, Time, TimeBuf, UnknownNumber, HEADER_MAX, ISO_LENGTH};
 
 #[test]
 fn header() {
@@ -23,8 +23,8 @@ fn header() {
             assert_eq!(time.size(), text.len(), "{time:?}");
         }
     }
-    assert_eq!(Time::MIN.size(), MAX_SIZE);
-    // size has an answer also where the offset is too wide
+    assert_eq!(Time::MIN.size(), HEADER_MAX);
+    // size has an answer also if the offset is too wide
     assert_eq!(Time::new(10, i32::MIN).size(), 8);
 }
 
@@ -48,7 +48,7 @@ fn iso() {
 #[test]
 fn rooms_of_every_length() {
     let time = Time::new(-1745582210, -7200);
-    for length in 0..=MAX_SIZE + 1 {
+    for length in 0..=HEADER_MAX + 1 {
         let mut room = vec![b'.'; length];
         let header = b"-1745582210 -0200";
         let wanted = if length < header.len() { Err(Room) } else { Ok(header.len()) };
@@ -59,7 +59,7 @@ fn rooms_of_every_length() {
 
         let mut room = vec![b'.'; length];
         let iso = b"1914-09-08T10:03:10-02:00";
-        let wanted = if length < ISO_SIZE { Err(Room) } else { Ok(ISO_SIZE) };
+        let wanted = if length < ISO_LENGTH { Err(Room) } else { Ok(ISO_LENGTH) };
         assert_eq!(time.write_iso(&mut room), wanted, "room of {length}");
         let written = wanted.unwrap_or(0);
         assert_eq!(room[..written], iso[..written], "room of {length}");
@@ -77,7 +77,7 @@ fn a_refusal_leaves_zeros() {
     assert_eq!((seconds, offset), (0, 0));
     assert_eq!(entries::write_header(0, 360000, &mut [0; 30], &mut length), 7);
     assert_eq!(length, 0);
-    // any value but 0 says that the current time is there
+    // any value but 0 means that there is a current time
     assert_eq!(entries::relative(b"now", 255, 1, 2, &mut seconds, &mut offset), 0);
     assert_eq!((seconds, offset), (1, 2));
 }
@@ -86,6 +86,11 @@ fn a_refusal_leaves_zeros() {
 fn refusals_have_numbers_and_words() {
     for (number, refusal) in [NotAscii, Form, Missing, Current, Pairs, Range, Offset, Room].into_iter().enumerate() {
         assert_eq!(usize::from(refusal.number()), number + 1);
+        assert_eq!(Refusal::try_from(refusal.number()), Ok(refusal));
         assert!(!refusal.to_string().is_empty());
+    }
+    for number in [0, 9, 255] {
+        assert_eq!(Refusal::try_from(number), Err(UnknownNumber(number)));
+        assert_eq!(UnknownNumber(number).to_string(), format!("{number} is not the number of a refusal"));
     }
 }

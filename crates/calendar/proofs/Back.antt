@@ -11,7 +11,7 @@ use Rattle.calendar.specs.declared.Found.the-variants.{At, Nothing}
 use Rattle.calendar.proofs.Cycle.{firstDay-le}
 use Rattle.calendar.proofs.Dates.{monthOf-of-IsDate}
 
-pub monthsBack-of-IsDate : (t n : ℕ) {m k : ℕ} → IsDate (t / 86400) m k → monthsBack t n ≡ (firstDay (m - n) + k) * 86400 + t % 86400
+monthsBack-of-IsDate : (t n : ℕ) {m k : ℕ} → IsDate (t / 86400) m k → monthsBack t n ≡ (firstDay (m - n) + k) * 86400 + t % 86400
 unfolding monthsBack
 monthsBack-of-IsDate t n {m} {k} p =
     let e : t / 86400 - firstDay m ≡ k = omega arith in

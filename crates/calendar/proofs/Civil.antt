@@ -17,7 +17,7 @@ use Rattle.calendar.proofs.Lengths.{firstDay-suc}
 use Rattle.calendar.proofs.Cycle.{le-of-firstDay, lt-of-firstDay-in-range}
 use Rattle.calendar.proofs.Dates.{IsDate-monthOf}
 
-pub yearCount-lt : (y : ℤ) → negsuc 9998 ≤ℤ y → y ≤ℤ pos 9999 → yearCount y < 20000
+yearCount-lt : (y : ℤ) → negsuc 9998 ≤ℤ y → y ≤ℤ pos 9999 → yearCount y < 20000
 yearCount-lt y l h =
     let up : pos 0 ≤ℤ (y +ℤ pos 10000) = omega (ints, add-parts y (pos 10000)) in
     let e : pos (yearCount y) ≡ y +ℤ pos 10000 = pos-natAbs (y +ℤ pos 10000) (yes-nonNeg up) in

@@ -18,7 +18,7 @@ use Rattle.calendar.proofs.Walk.{cycle, cycle-at}
 
 -- ---- the same calendar 400 years on
 
-pub leap-add-400 : (y : ℕ) → leap (y + 400) ≡ leap y
+leap-add-400 : (y : ℕ) → leap (y + 400) ≡ leap y
 unfolding leap
 leap-add-400 y =
     let a : (y + 400) % 4 ≡ y % 4 = omega arith in
@@ -26,7 +26,7 @@ leap-add-400 y =
     let c : (y + 400) % 400 ≡ y % 400 = omega arith in
     rw (a, b, c)
 
-pub monthLength-add-4800 : (m : ℕ) → monthLength (m + 4800) ≡ monthLength m
+monthLength-add-4800 : (m : ℕ) → monthLength (m + 4800) ≡ monthLength m
 unfolding monthLength
 monthLength-add-4800 m =
     let a : (m + 4800) / 12 ≡ m / 12 + 400 = omega arith in
@@ -74,11 +74,11 @@ firstDay-by-cycle m =
 -- ---- one pass along a cycle
 
 -- the days from 1 March of a year that divides by 400 to the first of a month: whole years y, and m months from March
-abbrev pub sinceMarch : ℕ → ℕ → ℕ
+abbrev sinceMarch : ℕ → ℕ → ℕ
 sinceMarch y m = y * 365 + y / 4 - y / 100 + y / 400 + (153 * m + 2) / 5
 
 -- of month k, from the March that comes 4,798 months before month 0
-abbrev pub fromMarch : ℕ → ℕ
+abbrev fromMarch : ℕ → ℕ
 fromMarch k = sinceMarch ((k + 4798) / 12) ((k + 4798) % 12)
 
 near : ℕ → ℕ → Bool

@@ -19,7 +19,7 @@ use Rattle.calendar.proofs.Cycle.{yearStart-mul-400, yearStart-add-400,
 
 -- ---- a day has one date
 
-pub IsDate-of-between : (d m : ℕ) → firstDay m ≤ d → d < firstDay (suc m) → IsDate d m (d - firstDay m)
+IsDate-of-between : (d m : ℕ) → firstDay m ≤ d → d < firstDay (suc m) → IsDate d m (d - firstDay m)
 IsDate-of-between d m a b = record { sum = omega arith; within = omega (arith, firstDay-suc m) }
 
 pub IsDate-month-unique : {d m k n j : ℕ} → IsDate d m k → IsDate d n j → m ≡ n
@@ -98,7 +98,7 @@ IsDate-month-lt {d} {m} p h = lt-of-firstDay-in-range m d (omega arith) h
 
 -- ---- the estimate of a day's month, as the code has it
 
-abbrev pub estimate : ℕ → ℕ
+abbrev estimate : ℕ → ℕ
 estimate d = (d + 3) * 1600 / 48699
 
 pub IsDate-estimate : (d : ℕ) → firstDay (estimate d) ≤ d → IsDate d (estimate d) (d - firstDay (estimate d))

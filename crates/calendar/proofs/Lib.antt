@@ -1,6 +1,6 @@
 -- The laws of the calendar, each file over those before it. Lengths: years and months one after the other. Walk: a test along the
 -- months. Cycle: 400 years, first days by rule, and their order. Dates: a day's one date. Back: months earlier. Civil: signed
--- years. Theorems: what document 01 promises. Examples: its facts, computed.
+-- years. Theorems: what RULES 3 promises. Examples: its facts, computed.
 -- Assumes nothing.
 pub mod Lengths
 pub mod Walk

@@ -1,10 +1,10 @@
--- What document 01, "Calendar", promises, over the definitions of specs/; the contracts carry it to the code. In order: first
--- days strictly rise; four hundred years have 146,097 days; the leap rule with a signed year; 1 January 1970 is day 0; date to
+-- What RULES 3 promises of the calendar, over the definitions of specs/; the contracts carry it to the code. In order: four
+-- hundred years have 146,097 days; the leap rule with a signed year; 1 January 1970 is day 0; date to
 -- day and day to date undo each other over the years -9999 to 9999; a day has exactly one date. Last, that the counts which the
 -- code answers with are those of the signed definitions.
 -- Assumes nothing.
 use mathlib.Core.Path.{_≡_, _∙_, refl, sym, ap}
-use Prim.Native.Nat.{ℕ, zero, suc, _+_, _-_, _/_, _%_, _<_}
+use Prim.Native.Nat.{ℕ, zero, suc, _+_, _-_, _/_, _%_}
 use native.Mathlib.Omega.{arith}
 use lib.Dec.{eqb, eqb·suc-zero}
 use lib.IntN.{ℤ, pos, negsuc, natAbs, _+ℤ_, _-ℤ_}
@@ -15,13 +15,10 @@ use Rattle.calendar.specs.Calendar.{leap, lengths, yearLength, yearStart
 use Rattle.calendar.specs.Dates.{dateOf, dayNumber}
 use Rattle.calendar.specs.Civil.{Civil, yearCount, monthCount, IsCivil, civilDay, civilDate}
 use Rattle.calendar.specs.declared.Found.the-variants.{At}
-use Rattle.calendar.proofs.Cycle.{firstDay-lt, firstDay-add-4800}
+use Rattle.calendar.proofs.Cycle.{firstDay-add-4800}
 use Rattle.calendar.proofs.Dates.{IsDate-month-unique, IsDate-day-unique, monthOf-of-IsDate}
 use Rattle.ints.proofs.Parts.{natAbs-add-sub, natAbs-sub-add}
 use Rattle.calendar.proofs.Civil.{IsDate-of-IsCivil, exists-of-IsCivil, civilDate-sub, civilDay-civilAt, IsCivil-civilAt}
-
-pub first-days-rise : (m n : ℕ) → m < n → firstDay m < firstDay n
-first-days-rise = firstDay-lt
 
 pub cycle-has-146097-days : (m : ℕ) → firstDay (m + 4800) ≡ firstDay m + 146097
 cycle-has-146097-days = firstDay-add-4800

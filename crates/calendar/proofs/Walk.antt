@@ -28,13 +28,13 @@ walk-getD-from f (y ∷ ys) m t (suc k) h =
     rw (add-suc, ← suc-add)
     (walk-getD-from f ys (suc m) (rw firstDay-suc (and-yes (f m (firstDay m) y) (walk f (suc m) (firstDay m + monthLength m) ys) t .1)) k (le-of-suc-le-suc h))
 
-pub walk-getD : (f : ℕ → ℕ → ℕ → Bool) (ys : List ℕ) → T (walk f 0 0 ys) → (k : ℕ) → k < length ys → T (f k (firstDay k) (getD ys k 0))
+walk-getD : (f : ℕ → ℕ → ℕ → Bool) (ys : List ℕ) → T (walk f 0 0 ys) → (k : ℕ) → k < length ys → T (f k (firstDay k) (getD ys k 0))
 walk-getD f ys t k h =
     let z : T (walk f 0 (firstDay 0) ys) = rw firstDay-zero t in
     rw zero-add at (walk-getD-from f ys 0 z k h)
 
 -- the test of the table: an entry is its month's first day
-abbrev pub isFirst : ℕ → ℕ → ℕ → Bool
+abbrev isFirst : ℕ → ℕ → ℕ → Bool
 isFirst m x y = eqb y x
 
 pub IsMonths-of-walk : {t : List ℕ} → T (walk isFirst 0 0 t) → IsMonths t

@@ -1,4 +1,4 @@
--- Document 01, "Calendar" and, for the rule, "Reading relative dates": a local time some months earlier. The day of the month and
+-- RULES 7.9, in the counts of the calendar: a local time some months earlier. The day of the month and
 -- the clock are kept, and surplus days run into the next month: 31 May goes to "31 April", which is 1 May. Times are seconds from
 -- day 0: day 0 is 1 January of year -10000; 1 January 1970 is day 4,371,953, so that its midnight is second 377,736,739,200.
 -- Assumes nothing.

@@ -1,4 +1,4 @@
--- Document 01, "Calendar": leap years, the lengths of months, the first day of a month, and the month of a day. Years are counted
+-- RULES 3.1, 3.2: leap years, the lengths of months, the first day of a month, and the month of a day. Years are counted
 -- from year -10000, which divides by 400, so that the leap rule is as written; months from its January, twelve to a year; days
 -- from its 1 January. Day 0 is 1 January of year -10000; 1 January 1970 is day 4,371,953, and falls in month 143,640. Signed
 -- years are in Civil.

@@ -1,4 +1,4 @@
--- Document 01, "Calendar": dates with a signed year, a month from 1 and a day from 1, over the years -9999 to 9999, and signed
+-- RULES 3.4: dates with a signed year, a month from 1 and a day from 1, over the years -9999 to 9999, and signed
 -- days: day 0 is 1 January 1970. They are the counts of Calendar, moved: there day 0 is 1 January of year -10000, and
 -- 1 January 1970 is day 4,371,953. Nothing is meant of years before -10000.
 -- Assumes nothing.

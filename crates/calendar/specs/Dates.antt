@@ -1,4 +1,4 @@
--- Document 01, "Calendar": the date of a day, the day of a date, and which dates there are. Counts are those of Calendar: day 0
+-- RULES 3.4: the date of a day, the day of a date, and which dates there are. Counts are those of Calendar: day 0
 -- is 1 January of year -10000; 1 January 1970 is day 4,371,953. There are dates to the end of year 9999, year 19999 by count.
 -- Assumes nothing.
 use mathlib.Core.Bool.{Bool, cond, _&&_}

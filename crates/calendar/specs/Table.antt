@@ -1,7 +1,7 @@
--- Document 01, "Calendar": the table of 4,800 first days, 0, 31, 60, and last 146066. Entry k is the first day of month k,
+-- RULES 3.3: the table of 4,800 first days, 0, 31, 60, and last 146066. Entry k is the first day of month k,
 -- counted from a January of a year that divides by 400: day 0 is 1 January of year -10000; 1 January 1970 is day 4,371,953:
--- 29 cycles of 146,097 days, and entry 4440, which is 135,140. Who lends no table lends the empty list: first days beyond what is
--- lent come from the leap rule.
+-- 29 cycles of 146,097 days, and entry 4440, which is 135,140. A caller without a table passes the empty list:
+-- first days beyond the end of the list are computed by the leap rule.
 -- Assumes nothing.
 use mathlib.Core.Path.{_≡_}
 use mathlib.Core.List.{List}

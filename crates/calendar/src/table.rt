@@ -1,7 +1,8 @@
 // The month table: the first days of the 4,800 months of four hundred years, from a January of a
-// year that divides by 400. `months` alone names it, since a constant array is built on the stack
-// wherever it is named: who asks many times builds it once, and lends it to the functions of the
-// crate.
+// year that divides by 400. Only `months` names it, because a constant array is built on the stack
+// wherever it is named. A caller that makes many calls builds the table once and passes it to them.
+ghost use mathlib.Core.Path.{_≡_};
+ghost use lib.ListN.{length};
 ghost use Rattle.calendar.specs.Table.{IsMonths};
 
 const MONTHS: [u32; 4800] = [
@@ -4807,9 +4808,10 @@ const MONTHS: [u32; 4800] = [
     146066,
 ];
 
-// The table, to be lent: entry k is the first day of month k.
+// The table: entry k is the first day of month k.
 pub fn months() -> [u32; 4800]
-    ensures { λ r. ⌜ IsMonths r ⌝ }
+    ensures entries { λ r. ⌜ IsMonths r ⌝ }
+    ensures length { λ r. ⌜ length r ≡ 4800 ⌝ }
 {
     MONTHS
 }

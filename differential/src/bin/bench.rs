@@ -6,6 +6,8 @@ use std::time::Instant;
 
 use chowderbell::entries;
 use differential::oracle::{self, Form, Now};
+use differential::side::Ours;
+use differential::texts::NOON;
 use gix_date::parse::{TimeBuf, visible};
 
 const HELP: &str = "\
@@ -19,17 +21,17 @@ nanoseconds for one call, the best of N rounds (default 40), in which the two si
   --names   the rows of the first table
   --run     make N passes over the 64 inputs of a row by one side and print nothing: for counting instructions";
 
-/// 31 May 2021, noon.
-const NOW: (i64, i32) = (1622462400, 3600);
-/// Nanoseconds that one round of one side is to take.
+/// The current time: seconds and offset.
+const NOW: (i64, i32) = (NOON, 3600);
+/// How many nanoseconds one round of one side should take.
 const ROUND: f64 = 2e6;
-/// The inputs of a row: several of a kind, so that no branch is learned by heart.
+/// How many inputs a row has. They differ, so that the processor cannot learn the branches of one input.
 const INPUTS: i64 = 64;
 
 /// One pass of one side over all inputs of a row.
 type Pass<'a> = Box<dyn FnMut() + 'a>;
 
-/// Something to be measured: both sides, on the same inputs.
+/// A measurement: both sides, on the same inputs.
 struct Row<'a> {
     name: String,
     inputs: usize,
@@ -38,7 +40,7 @@ struct Row<'a> {
 }
 
 impl Row<'_> {
-    /// Nanoseconds for one call, of gix-date and of ours: the best of `rounds`, in turns.
+    /// Nanoseconds for one call, of gix-date and of ours: the best of `rounds`. The sides take turns.
     fn measure(&mut self, rounds: u32) -> (f64, f64) {
         let counts = (passes(&mut self.gix), passes(&mut self.ours));
         let mut least = (f64::MAX, f64::MAX);
@@ -56,7 +58,7 @@ fn passes(pass: &mut Pass) -> u64 {
     ((ROUND / once) as u64).clamp(1, 1_000_000)
 }
 
-/// The nanoseconds of one pass, over `count` of them.
+/// The nanoseconds of one pass, the mean over `count` passes.
 fn time_of(count: u64, pass: &mut Pass) -> f64 {
     let start = Instant::now();
     for _ in 0..count {
@@ -69,17 +71,11 @@ fn time_of(count: u64, pass: &mut Pass) -> f64 {
 fn our_answer(form: Form, text: &[u8]) -> (u8, i64, i32) {
     let (mut seconds, mut offset) = (0, 0);
     let (now, zone) = black_box(NOW);
-    let number = match form {
-        Form::Header => entries::header(text, &mut seconds, &mut offset),
-        Form::Raw => entries::raw(text, &mut seconds, &mut offset),
-        Form::Iso => entries::iso(text, &mut seconds, &mut offset),
-        Form::Relative => entries::relative(text, 1, now, zone, &mut seconds, &mut offset),
-        Form::Any => entries::any(text, 1, now, zone, &mut seconds, &mut offset),
-    };
+    let number = Ours::call(form, text, (1, now, zone), &mut seconds, &mut offset);
     (number, seconds, offset)
 }
 
-/// A reader on some texts. Both sides must read them alike.
+/// A reader on some texts. Both sides must give the same answers.
 fn reader<'a>(name: &str, form: Form, texts: Vec<String>) -> Row<'a> {
     let current = Now::at(NOW.0, NOW.1);
     for text in &texts {
@@ -113,7 +109,7 @@ fn reader<'a>(name: &str, form: Form, texts: Vec<String>) -> Row<'a> {
     }
 }
 
-/// The readers on texts as they are met.
+/// The readers on common texts.
 fn readers<'a>() -> Vec<Row<'a>> {
     let seconds = |k: i64| 1745582210 - k * 12_345_678;
     let offset = |k: i64| ["+0200", "-0500", "+0000", "+0530"][(k % 4) as usize];
@@ -159,7 +155,7 @@ fn readers<'a>() -> Vec<Row<'a>> {
     ]
 }
 
-/// The header writer and `size`, on times as a history has them, and on 19 digits.
+/// The header writer and `size`, on common times and on seconds of 19 digits.
 fn writers<'a>() -> Vec<Row<'a>> {
     let met = |k: i64| (1745582210 - k * 12_345_678, [7200, -18000, 0, 19800][(k % 4) as usize]);
     let long = |k: i64| (-5_000_000_000_000_000_000 + k * 12_345_678, met(k).1);
@@ -344,14 +340,14 @@ fn tables(rounds: u32, chosen: &[&str]) {
     }
 }
 
-/// Nanoseconds, to three digits or so.
+/// Nanoseconds, to about three digits.
 fn shown(time: f64) -> String {
     if time < 100.0 { format!("{time:.1}") } else { format!("{time:.0}") }
 }
 
-/// The kind of machine, as it tells.
+/// The model of the processor.
 fn processor() -> String {
-    let told = std::fs::read_to_string("/proc/cpuinfo").unwrap_or_default();
-    let model = told.lines().find_map(|line| line.strip_prefix("model name")?.split_once(": "));
+    let info = std::fs::read_to_string("/proc/cpuinfo").unwrap_or_default();
+    let model = info.lines().find_map(|line| line.strip_prefix("model name")?.split_once(": "));
     model.map_or("an unknown processor", |(_, model)| model).to_string()
 }

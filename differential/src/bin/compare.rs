@@ -72,7 +72,7 @@ fn main() -> ExitCode {
     }
 }
 
-/// Each planted mistake, with the suite that finds it and the smallest input that shows it.
+/// Prints, for each planted mistake, the suite that finds it and the smallest input that shows it.
 fn planted(size: Size) -> ExitCode {
     let mut missed = 0;
     for mistake in MISTAKES {

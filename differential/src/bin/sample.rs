@@ -1,10 +1,10 @@
 //! Writes a fixed sample of gix-date's answers as lines of `whenread`: `gix-date.in` and `gix-date.out`.
 //!
-//! Only answers that gix-date itself determines are taken: ASCII texts of at most 32 pairs, a current time that is missing
-//! or in range. gix-date says no more than "read" or "not read", so the number of a refusal is taken from which reader
-//! said so: 2 where the text is not of the form (for a relative text, where `relative::parse` answers `None`), and where it
-//! is relative and leads to no time, 3 without a current time, provided that gix-date reads the text from some current
-//! time, and 6 with one.
+//! Only answers that gix-date itself determines are taken: ASCII texts of at most 32 pairs, with a current time that is
+//! missing or in range. gix-date says only "read" or "not read", so the number of a refusal follows from what refused:
+//! - 2 if the text is not of the form, which for a relative text means that `relative::parse` returns `None`;
+//! - 3 if the text is relative and there is no current time, provided that gix-date reads it from some current time;
+//! - 6 if the text is relative and there is a current time.
 
 use std::collections::HashSet;
 use std::io::Write as _;
@@ -13,13 +13,13 @@ use std::process::ExitCode;
 
 use differential::oracle::{self, Answer, By, FORMS, Form, MAX_OFFSET, MAX_SECONDS, MIN_SECONDS, Now};
 use differential::rng::Rng;
-use differential::texts::{self, TELLING};
+use differential::texts::{self, NOON, TELLING};
 
 const HELP: &str = "\
 Usage: sample FOLDER
 Write FOLDER/gix-date.in, lines for whenread, and FOLDER/gix-date.out, the answers of gix-date 0.18.1 to them.";
 
-/// How many lines of each form, besides the telling texts, answer each number.
+/// How many lines to take for each form and each number, besides the telling texts.
 const QUOTAS: [(Form, &[(u8, usize)]); 5] = [
     (Form::Header, &[(0, 360), (2, 300)]),
     (Form::Raw, &[(0, 400), (2, 260)]),
@@ -28,17 +28,17 @@ const QUOTAS: [(Form, &[(u8, usize)]); 5] = [
     (Form::Any, &[(0, 380), (2, 160), (3, 50), (6, 70)]),
 ];
 
-/// The lines, none twice.
+/// The lines, each of them once.
 struct Sample {
     lines: Vec<(String, Answer)>,
     seen: HashSet<String>,
 }
 
 impl Sample {
-    /// The answer, if gix-date determines it and the text can stand in a line.
+    /// The answer, if gix-date determines it and the text fits into a line.
     fn determined(form: Form, text: &[u8], now: &Now) -> Option<Answer> {
-        let can_stand = text.iter().all(|byte| (1..128).contains(byte) && *byte != b'\n') && text.len() <= 700;
-        if !can_stand {
+        let fits = text.iter().all(|byte| (1..128).contains(byte) && *byte != b'\n') && text.len() <= 700;
+        if !fits {
             return None;
         }
         let (answer, by) = oracle::wanted(form, text, now);
@@ -46,6 +46,7 @@ impl Sample {
         (by == By::Rust && (answer.number != 3 || from_somewhere())).then_some(answer)
     }
 
+    /// Adds a line. Returns whether it is new.
     fn add(&mut self, form: Form, text: &[u8], now: &Now, answer: Answer) -> bool {
         let current = match now.time {
             Some((seconds, offset)) => format!("{seconds}\t{offset}"),
@@ -90,7 +91,7 @@ fn now_for(form: Form, rng: &mut Rng) -> Now {
 fn sample() -> Vec<(String, Answer)> {
     let mut sample = Sample { lines: Vec::new(), seen: HashSet::new() };
     let mut rng = Rng::new(1, "sample");
-    let noon = Now::at(1622462400, 3600);
+    let noon = Now::at(NOON, 3600);
     for form in FORMS {
         for text in TELLING {
             let now = if matches!(form, Form::Relative | Form::Any) { noon.clone() } else { Now::missing() };
@@ -99,7 +100,7 @@ fn sample() -> Vec<(String, Answer)> {
             }
         }
     }
-    // up to the most pairs that are read, and a count beyond that is dropped
+    // up to the most pairs that are read, also with a count after them, which is dropped
     for form in [Form::Relative, Form::Any] {
         for (pair, count, tail) in
             [("1 day ", 31, ""), ("1 day ", 32, ""), ("1 x ", 32, "ago"), ("1 month ", 32, "7"), ("2 ", 64, "ago")]

@@ -9,7 +9,7 @@ use Rattle.calendar.proofs.first_day.Tie as tie
 returns : tie.Need-returns
 returns c =
     let m = c .before .before .args .m in
-    omega (arith, c .entry .ensures, firstDay-by-cycle m, firstDay-in-range m (c .before .before .pre .1))
+    omega (arith, c .first-day-in-cycle .ensures, firstDay-by-cycle m, firstDay-in-range m (c .before .before .pre .1))
 
 add-result : tie.Need-add-result
 add-result c = omega (arith, returns c .1)

@@ -1,10 +1,10 @@
--- `calendar::entry` meets its contract: what the table has is the first day, and beyond it the rule answers.
+-- `calendar::first_day_in_cycle` meets its contract: what the table has is the first day, and beyond it the rule answers.
 -- Assumes nothing.
 use native.Mathlib.Omega.{arith}
 use borrow.Author.Needs.{needs}
 use Rattle.calendar.proofs.Cycle.{firstDay-upper}
-use Rattle.calendar.proofs.entry.Statement.{statement}
-use Rattle.calendar.proofs.entry.Tie as tie
+use Rattle.calendar.proofs.first_day_in_cycle.Statement.{statement}
+use Rattle.calendar.proofs.first_day_in_cycle.Tie as tie
 
 -- the table goes as far as month k
 returns : tie.Need-returns
@@ -13,8 +13,8 @@ returns c = c .before .before .before .pre .0 .entry _ (c .before .if1 .taken)
 cast-result : tie.Need-cast-result
 cast-result c = omega (arith, returns c, firstDay-upper (c .before .before .before .args .k))
 
-pub entry-spec : {M : Type 1} → statement M
-entry-spec =
+pub first-day-in-cycle-spec : {M : Type 1} → statement M
+first-day-in-cycle-spec =
     tie.close
     (tie.spec
     (λ c. search needs)
