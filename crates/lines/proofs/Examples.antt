@@ -1,4 +1,4 @@
--- Document 01's words on `whenread`, computed: each line of a table stands under the words that it shows. In order: what lines ask; a text
+-- Document 01's words on `whenread`, computed: the words are above the rows that show them. In order: what lines ask; a text
 -- that keeps its tabs; answer lines. What lines an input has is shown in `text`.
 -- Assumes nothing.
 use Prim.Native.Nat.{ℕ}
@@ -8,7 +8,7 @@ use mathlib.Core.List.{List, [], _∷_, _++_}
 use lib.IntN.{pos, negsuc}
 use Rattle.text.specs.Bytes.{isDigit, same}
 use Rattle.text.specs.Quote.{bytes}
-use Rattle.text.specs.Decimal.{decimalBefore, decimalBy, signedBefore}
+use Rattle.text.specs.Decimal.{digitsUpTo, decimal, signed}
 use Rattle.text.specs.Lines.{tab, newline}
 use Rattle.text.specs.Number.{signedOf, fitSigned, unsignedOf, digitsOf, readFrom}
 use Rattle.text.specs.Places.{firstPlace, has, run}
@@ -67,10 +67,10 @@ further-tabs = refl
 
 -- number, seconds, offset: the document's first answer, and the least numbers
 first-answer : rowBytes (record { number = 0; seconds = pos 1745582210; offset = pos 7200 }) ≡ bytes "0" ++ tab ∷ bytes "1745582210" ++ tab ∷ bytes "7200" ++ newline ∷ []
-unfolding rowBytes decimalBefore decimalBy signedBefore
+unfolding rowBytes decimal digitsUpTo signed
 first-answer = refl
 
 least-answer : rowBytes (record { number = 0; seconds = negsuc 9223372036854775807; offset = negsuc 2147483647 })
     ≡ bytes "0" ++ tab ∷ bytes "-9223372036854775808" ++ tab ∷ bytes "-2147483648" ++ newline ∷ []
-unfolding rowBytes decimalBefore decimalBy signedBefore
+unfolding rowBytes decimal digitsUpTo signed
 least-answer = refl

@@ -1,32 +1,31 @@
 -- The line of a row. In order: its bytes in front of others; how many they are; its six pieces, put one in front of the other.
 -- Assumes nothing.
 use mathlib.Core.Path.{_≡_, refl, sym, ap, _∙_}
-use mathlib.Core.List.{List, [], _∷_, _++_}
+use mathlib.Core.List.{List, [], _∷_, _++_, append-assoc}
 use Prim.Native.Nat.{ℕ, _+_, _-_, _≤_}
 use native.Mathlib.Omega.{arith}
 use lib.IntN.{ℤ}
 use lib.ListN.{length, take, drop, length-append}
 use Rattle.text.specs.Decimal.{decimal, decimalBefore, signed, signedBefore}
-use Rattle.text.proofs.Decimals.{decimalBefore-app, decimalBefore-append}
-use Rattle.text.proofs.Signed.{signedBefore-app, length-signedBefore}
 use Rattle.text.proofs.Putting.{put-put}
 use Rattle.lines.specs.Rows.{rowBytes}
 use Rattle.lines.specs.declared.print.Row.{Row}
 
-rowBytes-app : (x : Row) (t : List ℕ) → rowBytes x ++ t ≡ decimalBefore (x .number) (9 ∷ signedBefore (x .seconds) (9 ∷ signedBefore (x .offset) (10 ∷ t)))
-unfolding rowBytes
-rowBytes-app x t =
-    sym (decimalBefore-app (x .number) (9 ∷ signedBefore (x .seconds) (9 ∷ signedBefore (x .offset) (10 ∷ []))) t)
-    ∙ ap (λ (v : List ℕ). decimalBefore (x .number) (9 ∷ v)) (sym (signedBefore-app (x .seconds) (9 ∷ signedBefore (x .offset) (10 ∷ [])) t))
-    ∙ ap (λ (v : List ℕ). decimalBefore (x .number) (9 ∷ signedBefore (x .seconds) (9 ∷ v))) (sym (signedBefore-app (x .offset) (10 ∷ []) t))
+rowBytes-append : (x : Row) (t : List ℕ) → rowBytes x ++ t ≡ decimalBefore (x .number) (9 ∷ signedBefore (x .seconds) (9 ∷ signedBefore (x .offset) (10 ∷ t)))
+unfolding rowBytes decimalBefore signedBefore
+rowBytes-append x t =
+    let n = decimal (x .number) in
+    let s = signed (x .seconds) in
+    let o = signed (x .offset) in
+    append-assoc (n ++ 9 ∷ s ++ 9 ∷ o) (10 ∷ []) t ∙ append-assoc (n ++ 9 ∷ s) (9 ∷ o) (10 ∷ t) ∙ append-assoc n (9 ∷ s) (9 ∷ (o ++ 10 ∷ t))
 
 pub length-rowBytes : (x : Row) → length (rowBytes x) ≡ length (decimal (x .number)) + length (signed (x .seconds)) + length (signed (x .offset)) + 3
 unfolding rowBytes
 length-rowBytes x =
-    let o = signedBefore (x .offset) (10 ∷ []) in
-    let s = signedBefore (x .seconds) (9 ∷ o) in
-    let n : length (decimalBefore (x .number) (9 ∷ s)) ≡ length (decimal (x .number)) + length (9 ∷ s) = ap length (decimalBefore-append (x .number) (9 ∷ s)) ∙ length-append (decimal (x .number)) (9 ∷ s) in
-    omega (arith, n, length-signedBefore (x .seconds) (9 ∷ o), length-signedBefore (x .offset) (10 ∷ []))
+    let n = decimal (x .number) in
+    let s = signed (x .seconds) in
+    let o = signed (x .offset) in
+    omega (arith, length-append (n ++ 9 ∷ s ++ 9 ∷ o) (10 ∷ []), length-append (n ++ 9 ∷ s) (9 ∷ o), length-append n (9 ∷ s))
 
 -- from its end to its front; s and o are the machine's seconds and offset
 pub row-put : (x : Row) (l r₁ r₂ r₃ r₄ r₅ r₆ : List ℕ) (s o : ℤ) (end a b : ℕ) → s ≡ x .seconds → o ≡ x .offset → end ≡ length (rowBytes x) → end ≤ length l
@@ -49,4 +48,4 @@ row-put x l r₁ r₂ r₃ r₄ r₅ r₆ s o end a b es eo en k e₁ pa e₂ e�
     let s₄ = put-put (signedBefore s) l (9 ∷ t₂) r₃ r₄ (a - 1 - length (signed s)) b (a - 1) s₃ e₄ (sym pb) (omega arith) (omega arith) in
     let s₅ = put-put (λ (t : List ℕ). 9 ∷ t) l t₃ r₄ r₅ (b - 1) (b - 1) b s₄ e₅ refl (omega arith) (omega arith) in
     put-put (decimalBefore (x .number)) l (9 ∷ t₃) r₅ r₆ (b - 1 - length (decimal (x .number))) 0 (b - 1) s₅ e₆ (omega arith) (omega arith) (omega arith)
-    ∙ (λ i. decimalBefore (x .number) (9 ∷ signedBefore (es i) (9 ∷ signedBefore (eo i) t₁))) ∙ sym (rowBytes-app x (drop end l))
+    ∙ (λ i. decimalBefore (x .number) (9 ∷ signedBefore (es i) (9 ∷ signedBefore (eo i) t₁))) ∙ sym (rowBytes-append x (drop end l))

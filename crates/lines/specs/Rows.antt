@@ -2,15 +2,15 @@
 -- Assumes nothing.
 use Prim.Native.Nat.{ℕ}
 use mathlib.Core.Bool.{cond}
-use mathlib.Core.List.{List, [], _∷_}
+use mathlib.Core.List.{List, [], _∷_, _++_}
 use lib.ListN.{length}
-use Rattle.text.specs.Decimal.{decimalBefore, signedBefore}
+use Rattle.text.specs.Decimal.{decimal, signed}
 use Rattle.text.specs.Lines.{tab, newline}
 use Rattle.text.specs.Room.{fits}
 use Rattle.lines.specs.declared.print.Row.{Row}
 
 unfoldable pub rowBytes : Row → List ℕ
-rowBytes r = decimalBefore (r .number) (tab ∷ signedBefore (r .seconds) (tab ∷ signedBefore (r .offset) (newline ∷ [])))
+rowBytes r = decimal (r .number) ++ tab ∷ signed (r .seconds) ++ tab ∷ signed (r .offset) ++ newline ∷ []
 
 -- how many of these bytes a room takes: all, or none if they do not fit
 abbrev pub writtenIn : List ℕ → List ℕ → ℕ

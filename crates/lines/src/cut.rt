@@ -1,5 +1,5 @@
-// A buffer cut into lines, and what is kept of it. Whoever reads an input piece by piece into a buffer answers the lines that have
-// their end, keeps what is left at the front, and reads on behind it.
+// A buffer cut into lines, and what is kept of it. To answer an input that is read piece by piece into a buffer: answer the lines that
+// have their end (`answer_lines`), move what is left to the front (`keep`), and read on behind it.
 ghost use mathlib.Core.Path.{_≡_};
 ghost use mathlib.Core.List.{[], _++_};
 ghost use Prim.Native.Nat.{_≤_, _<_};
@@ -19,7 +19,7 @@ pub struct Step {
 }
 
 // Answers the lines of `s` that have their end, from the first on, one answer after the other from the front of `out`, up to the
-// first that does not fit. Bytes beyond the answers stay. Where nothing is taken, though `out` has 64 bytes, no line has its end.
+// first that does not fit. Bytes beyond the answers stay. If nothing is taken, though `out` has 64 bytes, no line has its end.
 pub fn answer_lines(s: &[u8], out: &mut [u8]) -> Step
     ensures { λ r. ⌜ r ≡ stepOf (now (s .entry)) (length (now (out .entry))) ⌝ }
     ensures { λ _. ⌜ now (out .exit) ≡ roomAfterStep (now (s .entry)) (now (out .entry)) ⌝ }
@@ -63,8 +63,8 @@ fn answer_at(months: &[u32], line: &[u8], at: usize, out: &mut [u8]) -> usize
     crate::answer_with(months, line, &mut out[at..])
 }
 
-// Moves the bytes from `from` up to `end`, the start of a line that has no end yet, to the front of a buffer, and hands back how many
-// were moved. Of a line that is too long no more are kept than show that it is; what follows of it may then be read behind them.
+// Moves the bytes from `from` up to `end`, the start of a line that has no end yet, to the front of a buffer, and returns how many
+// were moved. Of a line that is too long only 4,097 bytes are kept, which show that it is; the rest of it may be read behind them.
 pub fn keep(buffer: &mut [u8], from: usize, end: usize) -> usize
     ensures { λ r. ⌜ r ≡ length (kept (heldPart (now (buffer .entry)) from end)) ⌝ }
     ensures { λ r. ⌜ now (buffer .exit) ≡ kept (heldPart (now (buffer .entry)) from end) ++ drop r (now (buffer .entry)) ⌝ }

@@ -1,4 +1,4 @@
-// The layout of a line: four fields with tabs between, of which the last keeps further tabs. A line is handed over without its end.
+// The layout of a line: four fields with tabs between, of which the last keeps further tabs. A line is given without its end.
 ghost use mathlib.Core.Path.{_≡_};
 ghost use mathlib.Core.Bool.{cond};
 ghost use Rattle.text.specs.Bytes.{same};

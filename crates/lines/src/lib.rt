@@ -52,7 +52,7 @@ fn row_of(months: &[u32], line: &[u8]) -> Row
     match asked {
         Line::Asks(form, current, at) => {
             let text = places::from(line, at);
-            told(parse_as(months, form, text, current))
+            row_for(parse_as(months, form, text, current))
         }
         Line::Wrong => Row {
             number: WRONG_LAYOUT,
@@ -76,7 +76,7 @@ fn parse_as(months: &[u32], form: Form, text: &[u8], current: Now) -> Answer
 }
 
 // An answer's number, seconds and offset.
-fn told(a: Answer) -> Row
+fn row_for(a: Answer) -> Row
     ensures { λ r. ⌜ r ≡ rowAt a ⌝ }
 {
     match a {

@@ -10,7 +10,7 @@ returns c = let at-parse = c .before in
     let at-text = at-parse .before in
     let at-asked = at-text .before .before in
     let at-line = at-asked .before .before in
-    row-asked (at-line .before .before .before .args .line .now) _ _ _ _ _ _ _ (at-line .parse-line .ensures) (at-asked .asked .given .1) (at-text .from .ensures) (at-parse .parse-as .ensures) (c .told .ensures)
+    row-asked (at-line .before .before .before .args .line .now) _ _ _ _ _ _ _ (at-line .parse-line .ensures) (at-asked .asked .given .1) (at-text .from .ensures) (at-parse .parse-as .ensures) (c .row-for .ensures)
 
 returns-2 : tie.Need-returns-2
 returns-2 c = let at-line = c .before .before in row-wrong (at-line .before .before .before .args .line .now) _ (at-line .parse-line .ensures) (c .enum-told .given .1)

@@ -1,4 +1,4 @@
--- `lines::cut::answer_at` meets its contract: the part from `at` on is lent, and comes back behind what stands before it.
+-- `lines::cut::answer_at` meets its contract: the part from `at` on is borrowed, and what comes before it stays.
 -- Assumes nothing.
 use mathlib.Core.Path.{_∙_, ap}
 use native.Mathlib.Omega.{arith}
