@@ -10,7 +10,7 @@ use borrow.Author.Tests.{ltb-true, ltb-false}
 use lib.Dec.{ltb, eqb}
 use lib.ListN.{length, take, drop, length-drop}
 use lib.Seq.{drop-drop, length-take-le}
-use Rattle.text.specs.Lines.{tab, newline, rest, linesOf, ontoFirst, endedLines, takenBy}
+use Rattle.text.specs.Lines.{tab, newline, rest, linesOf, ontoFirst, endedLines, takenBy, left}
 use Rattle.text.specs.Places.{firstPlace}
 use Rattle.text.specs.Words.{onto}
 use Rattle.text.proofs.FirstPlaces.{firstPlace-here, firstPlace-later}
@@ -51,11 +51,11 @@ linesOf-cut (b ∷ s) z (suc e) p h =
     (λ y. rw (y, linesOf-cut s z e (omega (arith, firstPlace-later newline b s y)) (omega arith)))
 
 -- ---- no line is ended
-pub headOf : List (List ℕ) → List ℕ
+unfoldable pub headOf : List (List ℕ) → List ℕ
 headOf [] = []
 headOf (l ∷ ls) = l
 
-pub tailOf : List (List ℕ) → List (List ℕ)
+unfoldable pub tailOf : List (List ℕ) → List (List ℕ)
 tailOf [] = []
 tailOf (l ∷ ls) = ls
 
@@ -88,9 +88,6 @@ endedLines-take (suc k) (b ∷ s) h =
     (λ y. rw y (ap (ontoFirst b) (endedLines-take k s (ontoFirst-nil b (endedLines s) (rw y at h)))))
 
 -- ---- what is left after the ended lines: no line in it is ended
-pub left : List ℕ → List ℕ
-left s = drop (takenBy (endedLines s)) s
-
 left-none : (s : List ℕ) → endedLines s ≡ [] → endedLines (left s) ≡ []
 unfolding left takenBy
 left-none s e = ap (λ (ls : List (List ℕ)). endedLines (drop (takenBy ls) s)) e ∙ e

@@ -40,3 +40,7 @@ endedLines (b ∷ s) = let ls = endedLines s in cond (eqb b newline) ([] ∷ ls)
 unfoldable pub takenBy : List (List ℕ) → ℕ
 takenBy [] = 0
 takenBy (l ∷ ls) = length l + 1 + takenBy ls
+
+-- what is left behind the lines that have their end
+unfoldable pub left : List ℕ → List ℕ
+left s = drop (takenBy (endedLines s)) s
