@@ -58,5 +58,6 @@ pub fn up_to(s: &[u8], at: usize) -> &[u8]
 pub fn before(s: &[u8], b: u8) -> &[u8]
     ensures { λ r. ⌜ now r ≡ beforeOf b (now (s .entry)) ⌝ }
 {
-    up_to(s, first_place(s, b))
+    let i = first_place(s, b);
+    &s[..i]
 }

@@ -2,7 +2,6 @@
 ghost use mathlib.Core.Path.{_≡_};
 ghost use Rattle.text.specs.Trim.{trimStart, trimEnd, trim};
 use crate::bytes;
-use crate::places;
 use crate::scan;
 use crate::scan::Class;
 
@@ -15,7 +14,8 @@ pub fn trimmed(s: &[u8]) -> &[u8]
 fn trimmed_start(s: &[u8]) -> &[u8]
     ensures { λ r. ⌜ now r ≡ trimStart (now (s .entry)) ⌝ }
 {
-    places::from(s, scan::past(s, 0, Class::Space))
+    let i = scan::past(s, 0, Class::Space);
+    &s[i..]
 }
 
 fn trimmed_end(s: &[u8]) -> &[u8]
