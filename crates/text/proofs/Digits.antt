@@ -18,7 +18,7 @@ use Rattle.text.proofs.Numbers.{digit-range, isDigit-of-le}
 
 -- ---- what a digit is not
 -- bytes that a test tells apart
-pub eqb-of-test : (t : ℕ → Bool) (b x : ℕ) → t b ≡ true → t x ≡ false → eqb b x ≡ false
+eqb-of-test : (t : ℕ → Bool) (b x : ℕ) → t b ≡ true → t x ≡ false → eqb b x ≡ false
 eqb-of-test t b x p q = ne-eqb b x (λ e. false≢true (sym q ∙ ap t (sym e) ∙ p))
 
 pub isSign-of-digit : (b : ℕ) → isDigit b ≡ true → isSign b ≡ false

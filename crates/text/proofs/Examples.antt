@@ -12,7 +12,7 @@ use Rattle.text.specs.Trim.{trim, trimEnd, trimStart}
 use Rattle.text.specs.Words.{separator, words, pieces, full}
 use Rattle.text.specs.Number.{readFrom, digitsOf, unsignedOf, signedOf, fit, fitSigned}
 use Rattle.text.specs.Lines.{linesOf, endedLines}
-use Rattle.text.specs.Decimal.{decimalBy, decimalBefore, decimal, signedBefore, signed}
+use Rattle.text.specs.Decimal.{digitsUpTo, decimal, signed}
 use Rattle.text.specs.Room.{fits, fitBoth, roomAfter}
 use Rattle.text.specs.declared.words.Separator.the-variants.{Space, Mark}
 use Rattle.text.specs.declared.number.Number.the-variants.{Value, Not}
@@ -108,12 +108,12 @@ unfolding firstPlace lastPlace lastWhere run
 first-and-last = (refl, refl, refl, refl)
 
 -- "plain decimal"
-plain-decimal : decimal 1745582210 ≡ bytes "1745582210" × decimal 0 ≡ bytes "0"
-unfolding decimal decimalBefore decimalBy
-plain-decimal = (refl, refl)
+plain-decimal : decimal 1745582210 ≡ bytes "1745582210" × decimal 10 ≡ bytes "10" × decimal 0 ≡ bytes "0"
+unfolding decimal digitsUpTo
+plain-decimal = (refl, refl, refl)
 
-signed-decimal : signed (negsuc 4) ≡ bytes "-5" × signed (pos 5) ≡ bytes "5"
-unfolding signed signedBefore decimalBefore decimalBy
+signed-decimal : signed (negsuc (2 ^ 63 - 1)) ≡ bytes "-9223372036854775808" × signed (pos 5) ≡ bytes "5"
+unfolding signed decimal digitsUpTo
 signed-decimal = (refl, refl)
 
 -- lines: a last line may lack its end, and after the last newline no line begins

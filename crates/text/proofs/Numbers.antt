@@ -110,12 +110,12 @@ least-le-pos : (half n : ℕ) → leZ (negℤ (pos half)) (pos n) ≡ true
 least-le-pos zero n = le-leb 0 n (omega arith)
 least-le-pos (suc h) n = refl
 
-pub fitSigned-plus : (half : ℕ) (x : Number) → 0 < half → fitSigned half (plus x) ≡ plus (fit (half - 1) x)
+fitSigned-plus : (half : ℕ) (x : Number) → 0 < half → fitSigned half (plus x) ≡ plus (fit (half - 1) x)
 unfolding fit fitSigned
 fitSigned-plus half (Value n) h = rw (least-le-pos half n, leb-pred n half h) (by-test (ltb n half) (λ e. rw e) (λ e. rw e))
 fitSigned-plus half Not h = refl
 
-pub fitSigned-minus : (half : ℕ) (x : Number) → 0 < half → fitSigned half (minus x) ≡ minus (fit half x)
+fitSigned-minus : (half : ℕ) (x : Number) → 0 < half → fitSigned half (minus x) ≡ minus (fit half x)
 unfolding fit fitSigned
 fitSigned-minus zero x h = absurd (not-suc-le-zero h)
 fitSigned-minus (suc h) (Value zero) p = rw (lt-ltb 0 (suc h) p, le-leb 0 (suc h) (omega arith))
@@ -145,7 +145,7 @@ readFrom-below (b ∷ s) v =
     rw e (Below-le (readFrom (10 * v + (b - 48)) s) (omega arith) (readFrom-below s (10 * v + (b - 48)))))
     (λ e. rw e tt)
 
-pub digitsOf-below : (s : List ℕ) → Below (10 ^ length s) (digitsOf s)
+digitsOf-below : (s : List ℕ) → Below (10 ^ length s) (digitsOf s)
 unfolding digitsOf
 digitsOf-below [] = tt
 digitsOf-below (b ∷ s) = Below-le (readFrom 0 (b ∷ s)) (omega arith) (readFrom-below (b ∷ s) 0)
@@ -208,7 +208,7 @@ fit-take limit s h = fit-of-length limit (take 2 s) (omega (arith, pow-length-ta
 
 -- ---- the sign and the digits that open a text
 -- digits alone
-pub signedOf-leading : (s : List ℕ) → signedOf (leading isDigit s) ≡ plus (digitsOf (leading isDigit s))
+signedOf-leading : (s : List ℕ) → signedOf (leading isDigit s) ≡ plus (digitsOf (leading isDigit s))
 unfolding signedOf unsignedOf digitsOf run
 signedOf-leading [] = refl
 signedOf-leading (b ∷ s) =

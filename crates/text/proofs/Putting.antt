@@ -18,10 +18,10 @@ set-put l e b p h =
     let i : e - 1 < length l = omega arith in
     set-split l (e - 1) b i ∙ ap (λ (n : ℕ). take (e - 1) l ++ b ∷ drop n l) k
 
-pub take-put : (j e : ℕ) (l t : List ℕ) → j ≤ e → e ≤ length l → take j (take e l ++ t) ≡ take j l
+take-put : (j e : ℕ) (l t : List ℕ) → j ≤ e → e ≤ length l → take j (take e l ++ t) ≡ take j l
 take-put j e l t h k = let n : j ≤ length (take e l) = omega (arith, length-take-le e l k) in take-append-le j (take e l) t n ∙ take-take j e l h
 
-pub drop-put : (e : ℕ) (l t : List ℕ) → e ≤ length l → drop e (take e l ++ t) ≡ t
+drop-put : (e : ℕ) (l t : List ℕ) → e ≤ length l → drop e (take e l ++ t) ≡ t
 drop-put e l t k = drop-at (take e l) t e (length-take-le e l k)
 
 -- the digits of n in front of e
@@ -29,7 +29,7 @@ abbrev pub put : ℕ → ℕ → List ℕ → List ℕ
 put n e l = take (e - length (decimal n)) l ++ decimalBefore n (drop e l)
 
 -- the last digit first: what is left to put are the others, in front of it
-pub put-of-le : (n e : ℕ) (l : List ℕ) → 10 ≤ n → length (decimal n) ≤ e → e ≤ length l
+put-of-le : (n e : ℕ) (l : List ℕ) → 10 ≤ n → length (decimal n) ≤ e → e ≤ length l
     → put n e l ≡ put (n / 10) (e - 1) (take (e - 1) l ++ (48 + n % 10) ∷ drop e l)
 put-of-le n e l h k i =
     let d : length (decimal n) ≡ length (decimal (n / 10)) + 1 = length-decimal-of-le n h in
@@ -41,7 +41,7 @@ put-of-le n e l h k i =
 pub put-of-lt : (n e : ℕ) (l : List ℕ) → n < 10 → put n e l ≡ take (e - 1) l ++ (48 + n) ∷ drop e l
 put-of-lt n e l h = rw (length-decimal-of-lt n h, decimalBefore-of-lt n (drop e l) h)
 
-pub length-put : (l : List ℕ) (e b : ℕ) → 0 < e → e ≤ length l → length (take (e - 1) l ++ b ∷ drop e l) ≡ length l
+length-put : (l : List ℕ) (e b : ℕ) → 0 < e → e ≤ length l → length (take (e - 1) l ++ b ∷ drop e l) ≡ length l
 length-put l e b p h = ap length (sym (set-put l e b p h)) ∙ length-set l (e - 1) b
 
 -- two bytes, one after the other

@@ -12,8 +12,12 @@ use borrow.Author.Tests.{ltb-true, ltb-false, lt-ltb, le-ltb}
 use lib.Dec.{ltb, eqb}
 use lib.ListN.{length, getD, take, drop, length-drop, drop-of-length-le, take-append-drop}
 use lib.Seq.{drop-drop, length-take-le}
-use Rattle.text.specs.Places.{run, leading, past, firstPlace, has, lastWhere, lastPlace, opensWith}
+use Rattle.text.specs.Places.{run, leading, no, past, firstPlace, has, lastWhere, lastPlace, opensWith}
 use Rattle.text.proofs.Lists.{by-test, drop-cons-add-one, drop-sub-one}
+
+not-not : (t : Bool) → t ≡ not (not t)
+not-not true = refl
+not-not false = refl
 
 pub run-le-length : (p : ℕ → Bool) (s : List ℕ) → run p s ≤ length s
 unfolding run
@@ -41,6 +45,10 @@ module _ (p : ℕ → Bool) (s : List ℕ) (i : ℕ) where
   pub past-of-length-le : length s ≤ i → past p s i ≡ i
   unfolding past run
   past-of-length-le h = rw (drop-of-length-le s h) (omega arith)
+
+  -- a byte that is not of the bytes without p is one that p holds of
+  pub past-no-no : past p s i ≡ past (no (no p)) s i
+  past-no-no = λ j. past (λ b. not-not (p b) j) s i
 
   pub drop-past : drop (run p (drop i s)) (drop i s) ≡ drop (past p s i) s
   unfolding past

@@ -6,11 +6,12 @@ use mathlib.Core.Path.{_≡_, refl, sym, ap, _∙_}
 use mathlib.Core.Bool.{Bool, true, false, cond}
 use mathlib.Core.List.{List, [], _∷_, _++_, reverse, reverse-append, reverse-cons, reverse-reverse}
 use Prim.Native.Nat.{ℕ, _≤_, _<_}
-use native.Mathlib.Nat.{le-refl}
+use native.Mathlib.Nat.{le-refl, zero-add}
 use native.Mathlib.Omega.{arith}
 use borrow.Author.Tests.{lt-leb}
-use lib.ListN.{length}
+use lib.ListN.{length, drop}
 use Rattle.text.specs.Bytes.{isSpace, isAlphanumeric}
+use Rattle.text.specs.Places.{run, past}
 use Rattle.text.specs.Trim.{trimStart, trimEnd, trim}
 use Rattle.text.specs.Words.{separator, words}
 use Rattle.text.specs.declared.words.Separator.{Separator}
@@ -27,7 +28,13 @@ trimEnd-snoc s b = rw (reverse-append s (b ∷ [])) (go (isSpace b))
     go true = refl
     go false = reverse-cons b (reverse s) ∙ rw reverse-reverse
 
-pub length-trimStart-le : (s : List ℕ) → length (trimStart s) ≤ length s
+-- what is left past the white space that opens it
+pub trimStart-past : (s : List ℕ) → trimStart s ≡ drop (past isSpace s 0) s
+unfolding trimStart run past
+trimStart-past [] = refl
+trimStart-past (b ∷ s) = by-test (isSpace b) (λ e. rw (e, zero-add) (rw zero-add at (trimStart-past s))) (λ e. rw e)
+
+length-trimStart-le : (s : List ℕ) → length (trimStart s) ≤ length s
 unfolding trimStart
 length-trimStart-le [] = le-refl 0
 length-trimStart-le (b ∷ s) = by-test (isSpace b) (λ e. rw e (omega (arith, length-trimStart-le s))) (λ e. rw e (le-refl _))

@@ -4,13 +4,13 @@
 -- Assumes nothing.
 use mathlib.Core.Path.{_≡_, refl, sym, ap, _∙_}
 use mathlib.Core.Bool.{Bool}
-use mathlib.Core.List.{List, [], _∷_, cons≢nil}
+use mathlib.Core.List.{List, [], _∷_}
 use Prim.Native.Nat.{ℕ, zero, suc, _-_, _≤_, _<_}
 use native.Mathlib.Nat.{not-suc-le-zero}
 use native.Mathlib.Omega.{arith}
 use lib.ListN.{length, getD, take, drop}
 use denote.Ref.{RefT, now}
-use Rattle.text.specs.Words.{separator, pieces, full, words, takeWord}
+use Rattle.text.specs.Words.{separator, words, takeWord}
 use Rattle.text.specs.Walk.{startOf, nextOf, movedTo, passed, walk}
 use Rattle.text.specs.declared.words.Separator.{Separator}
 use Rattle.text.specs.declared.words.Span.{Span}
@@ -45,7 +45,7 @@ module _ (p : ℕ → Bool) where
   passed-of-Word (suc k) s at x r h e = let m : suc k - 1 ≡ k = omega arith in rw (e, m)
 
   -- past n words the words without the first n are left
-  pub words-drop-passed : (n : ℕ) (s : List ℕ) (at : ℕ) → words p (drop (passed p n s at) s) ≡ drop n (words p (drop at s))
+  words-drop-passed : (n : ℕ) (s : List ℕ) (at : ℕ) → words p (drop (passed p n s at) s) ≡ drop n (words p (drop at s))
   unfolding passed
   words-drop-passed zero s at = refl
   words-drop-passed (suc n) s at =
@@ -65,18 +65,6 @@ getD-words p n s left at t l a e =
     let first : words p left ≡ listed p left t = words-takeWord p left 0 t (rw a at e) in
     let rest : words p left ≡ drop n (words p s) = rw l (words-drop-passed p n s 0) in
     sym (getD-drop (words p s) n) ∙ ap (λ (ws : List (List ℕ)). getD ws 0 []) (sym rest ∙ first)
-
--- no word is empty, so an empty answer says that there are n words or fewer
-length-full-of-getD-nil : (ws : List (List ℕ)) (n : ℕ) → getD (full ws) n [] ≡ [] → length (full ws) ≤ n
-unfolding full
-length-full-of-getD-nil [] n e = omega arith
-length-full-of-getD-nil ([] ∷ ws) n e = length-full-of-getD-nil ws n e
-length-full-of-getD-nil ((b ∷ w) ∷ ws) zero e = absurd (cons≢nil e)
-length-full-of-getD-nil ((b ∷ w) ∷ ws) (suc n) e = omega (arith, length-full-of-getD-nil ws n e)
-
-pub length-words-of-getD-nil : (p : ℕ → Bool) (s : List ℕ) (n : ℕ) → getD (words p s) n [] ≡ [] → length (words p s) ≤ n
-unfolding words
-length-words-of-getD-nil p s n e = length-full-of-getD-nil (pieces p s) n e
 
 -- ---- the promise
 module _ (by : Separator) where

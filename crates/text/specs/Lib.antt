@@ -1,8 +1,9 @@
 -- Document 01, "Words and numbers", and what its other sections say of bytes. In order: what a byte is; quoted text as bytes;
--- places; trimming; words; a walker of words; lines and fields; numbers; decimal digits; what a room holds after a call.
+-- places; classes of bytes; trimming; words; a walker of words; lines and fields; numbers; decimal digits; what a room holds after a call.
 pub mod Bytes
 pub mod Quote
 pub mod Places
+pub mod Scan
 pub mod Trim
 pub mod Words
 pub mod Walk

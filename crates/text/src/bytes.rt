@@ -1,7 +1,7 @@
 // What a byte is, and what a text is made of. The tests are written with `&` and `|`: they have no branch, and compute as
 // their definitions do.
 ghost use mathlib.Core.Path.{_≡_};
-ghost use Rattle.text.specs.Bytes.{isSpace, isDigit, isSign, isAlphanumeric, lowerOf, ascii, same as sameBytes, sameLetters};
+ghost use Rattle.text.specs.Bytes.{isSpace, isDigit, isSign, isAlphanumeric, isPlain, lowerOf, ascii, same as sameBytes, sameLetters};
 
 // White space: bytes 9 to 13, byte 11 among them, and 32.
 pub fn is_space(b: u8) -> bool
@@ -13,29 +13,39 @@ pub fn is_space(b: u8) -> bool
 pub fn is_digit(b: u8) -> bool
     ensures { λ r. ⌜ r ≡ isDigit b ⌝ }
 {
-    (48 <= b) & (b <= 57)
+    (b'0' <= b) & (b <= b'9')
 }
 
 pub fn is_sign(b: u8) -> bool
     ensures { λ r. ⌜ r ≡ isSign b ⌝ }
 {
-    (b == 43) | (b == 45)
+    (b == b'+') | (b == b'-')
 }
 
 pub fn is_alphanumeric(b: u8) -> bool
     ensures { λ r. ⌜ r ≡ isAlphanumeric b ⌝ }
 {
-    (48 <= b) & (b <= 57) | ((65 <= b) & (b <= 90) | (97 <= b) & (b <= 122))
+    (b'0' <= b) & (b <= b'9') | ((b'A' <= b) & (b <= b'Z') | (b'a' <= b) & (b <= b'z'))
+}
+
+// A plain byte of a word: no white space, no `:`, below 128. Nearly all are above 32, where there is no white space.
+pub fn is_plain(b: u8) -> bool
+    ensures { λ r. ⌜ r ≡ isPlain b ⌝ }
+{
+    if 32 < b {
+        return (b != b':') & (b < 128);
+    }
+    !is_space(b)
 }
 
 // A capital letter becomes a small one; any other byte stays.
 pub fn lower(b: u8) -> u8
     ensures { λ r. ⌜ r ≡ lowerOf b ⌝ }
 {
-    if b < 65 {
+    if b < b'A' {
         return b;
     }
-    if 90 < b {
+    if b'Z' < b {
         return b;
     }
     b + 32

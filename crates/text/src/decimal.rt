@@ -8,8 +8,8 @@ ghost use lib.IntN.{natAbs};
 ghost use lib.ListN.{length, take, drop};
 ghost use Rattle.text.specs.Decimal.{decimal, decimalBefore, signed, signedBefore, twoBefore};
 
-// How many digits n has, in fives: few comparisons find how many fives stand behind the first digits, which are counted. Zero has
-// one digit.
+// How many digits n has: a few comparisons find how many groups of five follow the first digits, and `up_to_five` counts those. Zero
+// has one digit.
 pub fn count_digits(n: u64) -> usize
     ensures { λ r. ⌜ (r ≡ length (decimal n)) × (1 ≤ r) × (r ≤ 20) ⌝ }
 {
@@ -25,7 +25,7 @@ pub fn count_digits(n: u64) -> usize
     15 + up_to_five(n / 1000000000000000)
 }
 
-// The times of our day have ten digits, so the test for five comes first.
+// Today's times have ten digits, so the test for five comes first.
 fn up_to_five(n: u64) -> usize
     requires { ⌜ n < 100000 ⌝ }
     ensures { λ r. ⌜ (r ≡ length (decimal n)) × (1 ≤ r) × (r ≤ 5) ⌝ }
@@ -67,7 +67,7 @@ pub fn signed_width(z: i64) -> usize
     n
 }
 
-// The digits of n in front of `end`, two at a time: half as many divisions, of which each waits for the one before.
+// The digits of n in front of `end`, two at a time: that takes half as many divisions, and each has to wait for the one before.
 pub fn put_decimal(n: u64, end: usize, room: &mut [u8]) -> usize
     requires { ⌜ (length (decimal n) ≤ end) × (end ≤ length (now room)) ⌝ }
     ensures { λ r. ⌜ r ≡ end - length (decimal n) ⌝ }
@@ -123,5 +123,5 @@ fn digit(d: u64) -> u8
     requires { ⌜ d < 10 ⌝ }
     ensures { λ r. ⌜ r ≡ 48 + d ⌝ }
 {
-    48 + (d as u8)
+    b'0' + (d as u8)
 }

@@ -4,6 +4,7 @@ pub mod bytes;
 pub mod decimal;
 pub mod number;
 pub mod places;
+pub mod scan;
 pub mod trim;
 pub mod walker;
 pub mod words;

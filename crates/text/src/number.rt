@@ -12,6 +12,8 @@ ghost use Rattle.text.specs.Number.{digitsOf, unsignedOf, signedOf, fit,
 ghost use Rattle.text.specs.Number.{AtMost, LeadsWith};
 ghost use Rattle.text.specs.declared.number.Number.the-variants.{Value, Not};
 use crate::bytes;
+use crate::scan;
+use crate::scan::Class;
 
 pub enum Number {
     Value(u64),
@@ -30,7 +32,7 @@ pub fn unsigned_number(s: &[u8], limit: u64) -> Number
     if s.len() == 0 {
         return Number::Not;
     }
-    if s[0] == 43 {
+    if s[0] == b'+' {
         return digits(s, 1, limit);
     }
     digits(s, 0, limit)
@@ -76,12 +78,12 @@ pub fn leading_number(s: &[u8], from: usize, limit: u64) -> Leading
     while i < s.len() {
         let b = s[i];
         if bytes::is_digit(b) {
-            let d = wide(b - 48);
+            let d = wide(b - b'0');
             if has_room(v, d, limit) {
                 v = 10 * v + d;
                 i += 1;
             } else {
-                let end = past_digits(s, i);
+                let end = scan::past(s, i, Class::Digit);
                 return Leading {
                     number: Number::Not,
                     end,
@@ -94,7 +96,7 @@ pub fn leading_number(s: &[u8], from: usize, limit: u64) -> Leading
     read_up_to(from, i, v)
 }
 
-// Whether v with the digit d behind it is at most the limit. One comparison tells, but for the last digits before the limit.
+// Whether v with the digit d behind it is at most the limit. One comparison decides it, except for the last digits before the limit.
 fn has_room(v: u64, d: u64, limit: u64) -> bool
     requires { ⌜ d < 10 ⌝ }
     ensures { λ r. ⌜ r ≡ leb (10 * v + d) limit ⌝ }
@@ -126,21 +128,6 @@ fn read_up_to(from: usize, end: usize, v: u64) -> Leading
     }
 }
 
-// Past the digits from `at`.
-fn past_digits(s: &[u8], at: usize) -> usize
-    ensures { λ r. ⌜ r ≡ past isDigit (now (s .entry)) at ⌝ }
-{
-    let mut i = at;
-    while i < s.len() {
-        if bytes::is_digit(s[i]) {
-            i += 1;
-        } else {
-            return i;
-        }
-    }
-    i
-}
-
 fn wide(b: u8) -> u64
     ensures { λ r. ⌜ r ≡ b ⌝ }
 {
@@ -170,7 +157,7 @@ pub fn leading_integer(s: &[u8], from: usize, half: u64) -> LeadingInteger
     let signed = bytes::is_sign(b);
     let read = leading_number(s, past_sign(from, signed), half);
     let n = read.number;
-    let number = with_sign(b == 45, n, half);
+    let number = with_sign(b == b'-', n, half);
     LeadingInteger {
         number,
         end: read.end,
@@ -188,7 +175,7 @@ fn past_sign(at: usize, signed: bool) -> usize
     at
 }
 
-// Half of the width is a number only below 0.
+// Of a width of w bits, 2 to the w - 1 fits only with a minus sign.
 fn with_sign(below: bool, n: Number, half: u64) -> Integer
     requires { ⌜ AtMost half n × (0 < half) × (half ≤ 2 ^ 63) ⌝ }
     ensures { λ r. ⌜ r ≡ signedBy half below n ⌝ }
@@ -207,7 +194,7 @@ fn with_sign(below: bool, n: Number, half: u64) -> Integer
     }
 }
 
-// v below 0. The least number is not had by negating: the largest is one short of it.
+// -v. Negating `v as i64` would overflow at 2 to the 63.
 fn minus_i64(v: u64) -> i64
     requires { ⌜ v ≤ 2 ^ 63 ⌝ }
     ensures { λ r. ⌜ r ≡ negℤ (pos v) ⌝ }

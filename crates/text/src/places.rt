@@ -5,7 +5,7 @@ ghost use Prim.Native.Nat.{_≤_};
 ghost use lib.ListN.{length, take, drop};
 ghost use Rattle.text.specs.Places.{has as hasOf, firstPlace, before as beforeOf};
 
-// Whether b stands anywhere. The loop does not stop there: without a way out the compiler tests many bytes at once.
+// Whether b is in the text. The loop does not stop at the first one: without an early exit the compiler tests many bytes at once.
 pub fn has(s: &[u8], b: u8) -> bool
     ensures { λ r. ⌜ r ≡ hasOf b (now (s .entry)) ⌝ }
 {

@@ -2,6 +2,9 @@
 ghost use mathlib.Core.Path.{_≡_};
 ghost use Rattle.text.specs.Trim.{trimStart, trimEnd, trim};
 use crate::bytes;
+use crate::places;
+use crate::scan;
+use crate::scan::Class;
 
 pub fn trimmed(s: &[u8]) -> &[u8]
     ensures { λ r. ⌜ now r ≡ trim (now (s .entry)) ⌝ }
@@ -12,15 +15,7 @@ pub fn trimmed(s: &[u8]) -> &[u8]
 fn trimmed_start(s: &[u8]) -> &[u8]
     ensures { λ r. ⌜ now r ≡ trimStart (now (s .entry)) ⌝ }
 {
-    let mut i = 0;
-    while i < s.len() {
-        if bytes::is_space(s[i]) {
-            i += 1;
-        } else {
-            return &s[i..];
-        }
-    }
-    &s[..0]
+    places::from(s, scan::past(s, 0, Class::Space))
 }
 
 fn trimmed_end(s: &[u8]) -> &[u8]

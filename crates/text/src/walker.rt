@@ -1,7 +1,7 @@
-// A walker of words keeps the text and its place, so that whoever holds one needs no text beside it. It gives the same words as the
-// reader by value, `words::Words`, which does its scanning. A step: `next` gives the bounds of a word and the reader past it, `word`
-// the bytes, `moved` hands the walker back past the word. What parts words is told at each step, as the reader is told.
-// `after_words` and `nth_word` have plain parameters: who calls them meets no walker.
+// A walker of words keeps the text and its place, so that its owner needs no text beside it. It gives the same words as the reader by
+// value, `words::Words`, which does its scanning. A step: `next` gives the bounds of a word and the reader past it, `word` the bytes,
+// and `moved` returns the walker past the word. The separator is a parameter of each step, as it is of the reader's.
+// `after_words` and `nth_word` have plain parameters: their callers need not know the walker.
 ghost use mathlib.Core.Path.{_≡_};
 ghost use mathlib.Core.List.{[]};
 ghost use lib.ListN.{drop, getD};

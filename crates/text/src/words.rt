@@ -3,7 +3,8 @@
 ghost use mathlib.Core.Path.{_≡_};
 ghost use Rattle.text.specs.Places.{no, past, part};
 ghost use Rattle.text.specs.Words.{separator, takeWord};
-use crate::bytes;
+use crate::scan;
+use crate::scan::Class;
 
 // From `start` up to `end`, which is not in it.
 pub struct Span {
@@ -33,15 +34,6 @@ pub fn within(s: &[u8], p: Span) -> &[u8]
 pub enum Separator {
     Space,
     Mark,
-}
-
-fn separates(by: Separator, b: u8) -> bool
-    ensures { λ r. ⌜ r ≡ separator by b ⌝ }
-{
-    match by {
-        Separator::Space => bytes::is_space(b),
-        Separator::Mark => !bytes::is_alphanumeric(b),
-    }
 }
 
 pub struct Words {
@@ -79,28 +71,18 @@ impl Words {
 pub fn word_start(s: &[u8], at: usize, by: Separator) -> usize
     ensures { λ r. ⌜ r ≡ past (separator by) (now (s .entry)) at ⌝ }
 {
-    let mut i = at;
-    while i < s.len() {
-        if separates(by, s[i]) {
-            i += 1;
-        } else {
-            return i;
-        }
+    match by {
+        Separator::Space => scan::past(s, at, Class::Space),
+        Separator::Mark => scan::past(s, at, Class::Mark),
     }
-    i
 }
 
 // Past the bytes from `at` that part no words.
 fn word_end(s: &[u8], at: usize, by: Separator) -> usize
     ensures { λ r. ⌜ r ≡ past (no (separator by)) (now (s .entry)) at ⌝ }
 {
-    let mut i = at;
-    while i < s.len() {
-        if separates(by, s[i]) {
-            return i;
-        } else {
-            i += 1;
-        }
+    match by {
+        Separator::Space => scan::past(s, at, Class::NotSpace),
+        Separator::Mark => scan::past(s, at, Class::Alphanumeric),
     }
-    i
 }

@@ -21,7 +21,7 @@ use Rattle.text.proofs.Signed.{length-signed-le}
 use Rattle.text.proofs.Lists.{by-test}
 use Rattle.text.proofs.Digits.{tens, ones}
 use Rattle.text.specs.Bytes.{isDigit, isSign}
-use Rattle.text.specs.Decimal.{decimalBy, decimalBefore, signed, signedBefore}
+use Rattle.text.specs.Decimal.{digitsUpTo, decimal, signed}
 use Rattle.text.specs.Quote.{bytes}
 use Rattle.time.specs.Clock.{clockOf, localOf}
 use Rattle.time.specs.Header.{sizeOf, headerBytes, headerWritten, signByte, wholeMinutes}
@@ -59,7 +59,7 @@ size-at-most-26 z f = omega (arith, length-signed-le z (natAbs-le-of-SFits z f))
 
 -- and the least of them takes 26
 pub size-of-the-least : sizeOf (negsuc (2 ^ 63 - 1)) ≡ 26
-unfolding sizeOf signed signedBefore decimalBefore decimalBy
+unfolding sizeOf signed decimal digitsUpTo
 size-of-the-least = refl
 
 -- so 26 bytes are room enough: what is refused there is an offset too wide

@@ -88,7 +88,7 @@ returns c =
     let at-loop = at-wide .before .before .before .before .before in
     let a = at-loop .before .before .args in (
       sym (over (a .s .now) (a .from) _ _ (at-loop .loop .i + 1) (more at-wide) (leb-false _ _ (sym (c .before .before .has-room .ensures) ∙ c .before .if2 .left))),
-      c .past-digits .ensures ∙ sym (at-loop .loop .inv .1),
+      c .past .ensures ∙ sym (at-loop .loop .inv .1),
     )
 
 -- a byte that is no digit

@@ -1,45 +1,16 @@
--- `text::words::word_start` meets its contract. The invariant: the place past the separators from i is that from `at`.
+-- `text::words::word_start` meets its contract.
 -- Assumes nothing.
-use Rattle.text.specs.Places.{past}
-use mathlib.Core.Path.{_≡_, refl, sym, _∙_}
-use Prim.Native.Nat.{_-_}
-use lib.ListN.{length}
-use Rattle.text.specs.Words.{separator}
-use Rattle.text.proofs.Runs.{past-of-true, past-of-false, past-of-length-le}
 use borrow.Author.Needs.{needs}
 use Rattle.text.proofs.words.word_start.Statement.{statement}
 use Rattle.text.proofs.words.word_start.Tie as tie
 
-abbrev Inv-loop : tie.InvT-loop
-Inv-loop s at by i₀ i = past (separator by) s at ≡ past (separator by) s i
+returns : tie.Need-returns
+returns c = rw (c .before .enum-told .given .1) (c .past .ensures)
 
-abbrev μ-loop : tie.MeasureT-loop
-μ-loop s at by i₀ i = length s - i
-
-loop-again : tie.Need-loop-again Inv-loop μ-loop
-loop-again c =
-    let at-test = c .before .before .before in
-    at-test .before .loop .inv ∙ past-of-true _ _ _ (at-test .loop-test .taken) (sym (c .before .separates .ensures) ∙ c .if1 .taken)
-
-returns : tie.Need-returns Inv-loop μ-loop
-returns c =
-    let at-test = c .before .before .before in
-    sym (at-test .before .loop .inv ∙ past-of-false _ _ _ (at-test .loop-test .taken) (sym (c .before .separates .ensures) ∙ c .if1 .left))
-
-returns-2 : tie.Need-returns-2 Inv-loop μ-loop
-returns-2 c = sym (c .before .loop .inv ∙ past-of-length-le _ _ _ (c .loop-test .left))
+returns-2 : tie.Need-returns-2
+returns-2 c = rw (c .before .enum-told2 .given .1) (c .past2 .ensures)
 
 pub word-start-spec : {M : Type 1} → statement M
 word-start-spec =
     tie.close
-    (tie.spec
-    Inv-loop
-    μ-loop
-    (λ c. refl)
-    (λ c. search needs)
-    (λ c κs. search needs)
-    (λ c. search needs)
-    (λ c. search needs)
-    loop-again
-    returns
-    returns-2)
+    (tie.spec (λ c. search needs) (λ c κs. search needs) (λ c. search needs) (λ c κs. search needs) returns returns-2)

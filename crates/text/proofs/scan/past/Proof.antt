@@ -1,36 +1,36 @@
--- `text::number::past_digits` meets its contract. The invariant: the place past the digits from i is that from `at`.
+-- `text::scan::past` meets its contract. The invariant: the place past the run from i is that from `at`.
 -- Assumes nothing.
+use Rattle.text.specs.Places.{past}
 use mathlib.Core.Path.{_≡_, refl, sym, _∙_}
 use Prim.Native.Nat.{_-_}
 use lib.ListN.{length}
-use Rattle.text.specs.Bytes.{isDigit}
-use Rattle.text.specs.Places.{past}
+use Rattle.text.specs.Scan.{isOf}
 use Rattle.text.proofs.Runs.{past-of-true, past-of-false, past-of-length-le}
 use borrow.Author.Needs.{needs}
-use Rattle.text.proofs.number.past_digits.Statement.{statement}
-use Rattle.text.proofs.number.past_digits.Tie as tie
+use Rattle.text.proofs.scan.past.Statement.{statement}
+use Rattle.text.proofs.scan.past.Tie as tie
 
 abbrev Inv-loop : tie.InvT-loop
-Inv-loop s at i₀ i = past isDigit s at ≡ past isDigit s i
+Inv-loop s at class i₀ i = past (isOf class) s at ≡ past (isOf class) s i
 
 abbrev μ-loop : tie.MeasureT-loop
-μ-loop s at i₀ i = length s - i
+μ-loop s at class i₀ i = length s - i
 
 loop-again : tie.Need-loop-again Inv-loop μ-loop
 loop-again c =
     let at-test = c .before .before .before in
-    at-test .before .loop .inv ∙ past-of-true _ _ _ (at-test .loop-test .taken) (sym (c .before .is-digit .ensures) ∙ c .if1 .taken)
+    at-test .before .loop .inv ∙ past-of-true _ _ _ (at-test .loop-test .taken) (sym (c .before .is-of .ensures) ∙ c .if1 .taken)
 
 returns : tie.Need-returns Inv-loop μ-loop
 returns c =
     let at-test = c .before .before .before in
-    sym (at-test .before .loop .inv ∙ past-of-false _ _ _ (at-test .loop-test .taken) (sym (c .before .is-digit .ensures) ∙ c .if1 .left))
+    sym (at-test .before .loop .inv ∙ past-of-false _ _ _ (at-test .loop-test .taken) (sym (c .before .is-of .ensures) ∙ c .if1 .left))
 
 returns-2 : tie.Need-returns-2 Inv-loop μ-loop
 returns-2 c = sym (c .before .loop .inv ∙ past-of-length-le _ _ _ (c .loop-test .left))
 
-pub past-digits-spec : {M : Type 1} → statement M
-past-digits-spec =
+pub past-spec : {M : Type 1} → statement M
+past-spec =
     tie.close
     (tie.spec
     Inv-loop
