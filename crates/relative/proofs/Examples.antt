@@ -7,13 +7,14 @@ use Prim.Native.String.{String}
 use mathlib.Core.Path.{_≡_, refl}
 use mathlib.Core.List.{List, [], _∷_, _++_}
 use native.Mathlib.Omega.{arith}
-use lib.IntN.{pos, negsuc}
+use lib.IntN.{ℤ, pos, negsuc}
 use Rattle.text.specs.Bytes.{isSpace, isDigit, isAlphanumeric, lowerOf, ascii, sameLetters}
 use Rattle.text.specs.Trim.{trim, trimEnd, trimStart}
 use Rattle.text.specs.Words.{words, pieces, full}
 use Rattle.text.specs.Number.{digitsOf, readFrom, fit}
 use Rattle.text.specs.Quote.{bytes}
 use Rattle.calendar.specs.Calendar.{leap, lengths, monthLength, yearLength, yearStart, total, firstDay, spanOf, yearOf, monthOf}
+use Rattle.calendar.specs.Civil.{Civil}
 use Rattle.time.specs.Answers.{timeAt}
 use Rattle.time.specs.Rows.{Row, reads, AllRight}
 use Rattle.time.specs.Range.{secondsInRange, offsetInRange, timeInRange}
@@ -26,7 +27,7 @@ use Rattle.relative.specs.Words.{wordsOf, spelled, countOf, singular, un
 use Rattle.relative.specs.Pairs.{pairsFrom, agoFrom, known}
 use Rattle.relative.specs.Steps.{monthStart, monthsEarlier, landing, landed, step, steps}
 use Rattle.relative.specs.Joined.{waitsFrom, Whole}
-use Rattle.relative.specs.Months.{OnePair}
+use Rattle.relative.specs.Months.{monthDays, earlierDate, OnePair}
 use Rattle.relative.specs.declared.pair.Unit.the-variants.{Months}
 use Rattle.relative.specs.Examples.{read, at, may, marked}
 use Rattle.relative.specs.Relative.{maxPairs, from, namedOf, byPairs, relativeOf}
@@ -112,6 +113,16 @@ other-examples =
 months-below-0 : (monthStart (negsuc 0) ≡ negsuc 30) × (monthStart (negsuc 4799) ≡ negsuc 146096)
 unfolding monthStart firstDay yearStart yearLength total lengths leap
 months-below-0 = (refl, refl)
+
+-- dates some months earlier: 31 May 2021, 29 February 2020, and 31 January of year -10000, whose month before is below 0
+abbrev on : ℤ → ℕ → ℕ → Civil
+on y m k = record { year = y; month = m; day = k }
+
+dates-earlier : (earlierDate (on (pos 2021) 5 31) 1 ≡ on (pos 2021) 5 1)
+    × (earlierDate (on (pos 2020) 2 29) 12 ≡ on (pos 2019) 3 1)
+    × (earlierDate (on (negsuc 9999) 1 31) 2 ≡ on (negsuc 10000) 12 1)
+unfolding earlierDate monthDays monthLength lengths leap
+dates-earlier = (refl, refl, refl)
 
 -- ---- texts that the theorems speak of
 three-months : OnePair (bytes "3 months ago") 3 (Months 1)

@@ -32,7 +32,7 @@ pub maxPairs-le-places : maxPairs ≤ places
 maxPairs-le-places = omega arith
 
 -- ---- a unit as a number
-pub unitAt-codeOf : (u : PairUnit) → Coded u → unitAt (codeOf u) ≡ u
+unitAt-codeOf : (u : PairUnit) → Coded u → unitAt (codeOf u) ≡ u
 unfolding unitAt codeOf
 unitAt-codeOf (Seconds k) h = rw (ne-eqb k 0 (λ e. omega arith), le-leb k 1000000 (h .1))
 unitAt-codeOf (Months k) h =

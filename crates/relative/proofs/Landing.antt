@@ -48,36 +48,15 @@ monthStart-negsuc j =
     let n : ℕ = (j / 4800 + 1) * 146097 in
     parts-le _ _ (omega (arith, a, b, firstDay-zero, add-parts (pos (firstDay (4799 - j % 4800))) (negℤ (pos n)), up-neg (pos n), dn-neg (pos n)))
 
--- 4,800 months have 146,097 days, before month 0 as after it
-pub monthStart-sub-4800 : (m : ℤ) → monthStart (m -ℤ pos 4800) ≡ monthStart m -ℤ pos 146097
-unfolding monthStart
-monthStart-sub-4800 (pos m) =
-    by-test (leb 4800 m)
-    (λ e.
-    let h = leb-true 4800 m e in
-    let f : firstDay m ≡ firstDay (m - 4800) + 146097 = let g : m - 4800 + 4800 ≡ m = omega arith in rw g at (firstDay-add-4800 (m - 4800)) in
-    rw (pos-sub m 4800 h) (parts-eq _ _ (omega (arith, add-parts (pos (firstDay m)) (negsuc 146096)))))
-    (λ e.
-    let h = leb-false 4800 m e in
-    let f : 4799 - (4800 - suc m) % 4800 ≡ m = omega arith in
-    let g : ((4800 - suc m) / 4800 + 1) * 146097 ≡ 146097 = omega arith in
-    rw (pos-sub-lt m 4800 h, f, g))
-monthStart-sub-4800 (negsuc j) =
-    let a : (suc (j + 4799)) % 4800 ≡ j % 4800 = omega arith in
-    let b : ((suc (j + 4799)) / 4800 + 1) * 146097 ≡ (j / 4800 + 1) * 146097 + 146097 = omega arith in
-    let n : ℕ = (j / 4800 + 1) * 146097 in
-    let d : ℤ = pos (firstDay (4799 - j % 4800)) in
-    rw (a, b) (parts-eq _ _ (omega (arith, add-parts (d -ℤ pos n) (negsuc 146096), add-parts d (negℤ (pos n)), add-parts d (negℤ (pos (n + 146097))), up-neg (pos n), dn-neg (pos n), up-neg (pos (n + 146097)), dn-neg (pos (n + 146097)))))
-
 -- the local clock, counted from 0
-pub local-of : (i : Instant) → InRange i → localSeconds (timeOf i) ≡ i .seconds + i .offset - 93600
+local-of : (i : Instant) → InRange i → localSeconds (timeOf i) ≡ i .seconds + i .offset - 93600
 local-of i r =
     let s : ℤ = since1970 (i .seconds) in
     let o : ℤ = pos (i .offset) -ℤ pos 93600 in
     omega (arith, r .early, one-dn (s +ℤ o +ℤ pos 377736739200), natAbs-parts (s +ℤ o +ℤ pos 377736739200), add-parts (s +ℤ o) (pos 377736739200), add-parts s o, add-parts (pos (i .seconds)) (negsuc 377736739199), add-parts (pos (i .offset)) (negsuc 93599))
 
 -- where the calendar has a month n before, the landing is the calendar's
-pub monthsEarlier-is : (x : Time) (n : ℕ) → n ≤ monthOf (localSeconds x / 86400) → monthsEarlier x n ≡ pos (monthsBack (localSeconds x) n) -ℤ pos 377736739200 -ℤ x .offset
+monthsEarlier-is : (x : Time) (n : ℕ) → n ≤ monthOf (localSeconds x / 86400) → monthsEarlier x n ≡ pos (monthsBack (localSeconds x) n) -ℤ pos 377736739200 -ℤ x .offset
 unfolding monthsEarlier monthsBack monthStart
 monthsEarlier-is x n h = rw (pos-sub (monthOf (localSeconds x / 86400)) n h)
 

@@ -22,8 +22,8 @@ use Rattle.relative.specs.declared.pair.Pair.{Pair}
 abbrev pub localSeconds : Time → ℕ
 localSeconds x = natAbs (x .seconds +ℤ x .offset +ℤ pos 377736739200)
 
--- the first day of a month, of those before month 0 too: 4,800 months have 146,097 days (`monthStart-sub-4800` says that the second
--- clause keeps this)
+-- the first day of a month, also before month 0: the calendar repeats every 4,800 months, which have 146,097 days
+-- (`monthStart-add-one`: every month begins where the one before it ends)
 unfoldable pub monthStart : ℤ → ℤ
 monthStart (pos m) = pos (firstDay m)
 monthStart (negsuc m) = pos (firstDay (4799 - m % 4800)) -ℤ pos ((m / 4800 + 1) * 146097)
