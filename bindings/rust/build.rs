@@ -1,6 +1,6 @@
-//! Finds the proved library, `libdates.a`, and has it linked.
+//! Finds the proved library, `libchowderbell.a`, and has it linked.
 //!
-//! It is looked for in the folder that `CHOWDERBELL_LIB_DIR` names, and otherwise where `rt staticlib dates`
+//! It is looked for in the folder that `CHOWDERBELL_LIB_DIR` names, and otherwise where `rt staticlib chowderbell`
 //! writes it: `target/staticlib` at the top of this repository.
 
 use std::path::PathBuf;
@@ -15,7 +15,7 @@ fn main() {
             here.join("../../target/staticlib")
         }
     };
-    let library = folder.join("libdates.a");
+    let library = folder.join("libchowderbell.a");
     println!("cargo:rerun-if-changed={}", library.display());
     // documentation needs no library
     if env::var_os("DOCS_RS").is_some() {
@@ -23,9 +23,9 @@ fn main() {
     }
     if !library.is_file() {
         eprintln!("chowderbell: there is no {}", library.display());
-        eprintln!("chowderbell: make it by `rt staticlib dates` at the top of the repository, or name its folder in CHOWDERBELL_LIB_DIR");
+        eprintln!("chowderbell: make it by `rt staticlib chowderbell` at the top of the repository, or name its folder in CHOWDERBELL_LIB_DIR");
         process::exit(1);
     }
     println!("cargo:rustc-link-search=native={}", folder.display());
-    println!("cargo:rustc-link-lib=static=dates");
+    println!("cargo:rustc-link-lib=static=chowderbell");
 }

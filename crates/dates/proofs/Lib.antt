@@ -1,3 +1,3 @@
--- Laws. In order: "any" by the step that settles it; the examples marked P of document 01, together.
+-- In order: "any" as its steps in turn; the examples marked to be proved together.
 pub mod Steps
 pub mod Examples

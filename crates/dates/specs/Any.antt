@@ -1,5 +1,6 @@
 -- Document 01, "Any": `@` first: the rest as raw, else as a 64-bit number at offset 0. Failing that, the whole text: a 64-bit number of
--- at least 100000000; the ISO forms; relative, whose refusal other than 2 stands; raw; else 2.
+-- at least 100000000; the ISO forms; relative, whose refusal other than 2 stands; raw; else 2. The limits of raw are a parameter, fixed
+-- by rule 1 in the contracts.
 -- Assumes nothing.
 use Prim.Native.Nat.{ℕ, _-_, _^_}
 use Prim.Native.Char.{code}
@@ -18,25 +19,25 @@ use Rattle.time.specs.declared.Refusal.{Refusal}
 use Rattle.time.specs.declared.Refusal.the-variants.{NotAscii, Form, Missing, Current, Pairs, Range, Offset, Room}
 use Rattle.time.specs.declared.Answer.{Answer}
 use Rattle.time.specs.declared.Answer.the-variants.{Time, Refused}
-use Rattle.header.specs.Raw.{rawOf, rule1}
+use Rattle.header.specs.Raw.{Limits, rawOf}
 use Rattle.iso.specs.Iso.{isoOf}
 use Rattle.relative.specs.Relative.{maxPairs, relativeOf}
 
--- any refusal but 2
-abbrev pub isOther : Refusal → Bool
-isOther Form = false
-isOther NotAscii = true
-isOther Missing = true
-isOther Current = true
-isOther Pairs = true
-isOther Range = true
-isOther Offset = true
-isOther Room = true
+-- the refusals that end the search: 1, 3, 4, 5, 6. After a 2 the next form is tried. 7 and 8 are no reader's
+abbrev pub settles : Refusal → Bool
+settles Form = false
+settles NotAscii = true
+settles Missing = true
+settles Current = true
+settles Pairs = true
+settles Range = true
+settles Offset = true
+settles Room = true
 
--- an answer stands unless it is 2
+-- a time ends the search too
 abbrev pub isSettled : Answer → Bool
 isSettled (Time t) = true
-isSettled (Refused r) = isOther r
+isSettled (Refused r) = settles r
 
 -- failing that
 abbrev pub orElse : Answer → Answer → Answer
@@ -51,21 +52,21 @@ unfoldable pub numberFrom : ℤ → List ℕ → Answer
 numberFrom least s = numbered least (fitSigned (2 ^ 63) (signedOf s))
 
 -- behind `@`: the rest as raw, else as a 64-bit number at offset 0; the least of those is -2^63
-unfoldable pub markedOf : List ℕ → Answer
-markedOf s = orElse (rawOf rule1 s) (numberFrom (negsuc (2 ^ 63 - 1)) s)
+unfoldable pub markedOf : Limits → List ℕ → Answer
+markedOf l s = orElse (rawOf l s) (numberFrom (negsuc (2 ^ 63 - 1)) s)
 
 -- `@` first
-unfoldable pub atOf : List ℕ → Answer
-atOf [] = Refused Form
-atOf (b ∷ s) = cond (eqb b (code "@")) (markedOf s) (Refused Form)
+unfoldable pub atOf : Limits → List ℕ → Answer
+atOf l [] = Refused Form
+atOf l (b ∷ s) = cond (eqb b (code "@")) (markedOf l s) (Refused Form)
 
 -- failing that, the whole text: a 64-bit number of at least 100000000
-unfoldable pub plainOf : List ℕ → Answer
-plainOf s = orElse (atOf s) (numberFrom (pos 100000000) s)
+unfoldable pub plainOf : Limits → List ℕ → Answer
+plainOf l s = orElse (atOf l s) (numberFrom (pos 100000000) s)
 
 -- then the ISO forms; relative; raw. 1 first
-unfoldable pub anyOf : List ℕ → Now → Answer
-anyOf s now =
+unfoldable pub anyOf : Limits → List ℕ → Now → Answer
+anyOf l s now =
     cond (ascii s)
-    (orElse (plainOf s) (orElse (isoOf s) (orElse (relativeOf maxPairs s now) (rawOf rule1 s))))
+    (orElse (plainOf l s) (orElse (isoOf s) (orElse (relativeOf maxPairs s now) (rawOf l s))))
     (Refused NotAscii)

@@ -1,3 +1,3 @@
--- Document 01, "Any"; and the current time as the entries for C take it.
+-- Document 01, "Any"; the examples marked to be proved together.
 pub mod Any
-pub mod Entries
+pub mod Examples

@@ -1,28 +1,26 @@
-// Dates as Git writes them and people type them: the face that callers see. "Any" tries the forms one after the other; the entries
-// for C are in `entries`.
-pub mod entries;
-
+// Dates as Git writes them and people type them, in any form: the forms are tried one after the other.
 ghost use mathlib.Core.Path.{_≡_};
 ghost use Rattle.calendar.specs.Table.{IsMonths};
-ghost use Rattle.dates.specs.Any.{isOther, isSettled, numbered as numberedOf, markedOf, plainOf, anyOf};
+ghost use Rattle.header.specs.Raw.{rule1};
+ghost use Rattle.dates.specs.Any.{settles as settlesOf, isSettled, numbered as numberedOf, markedOf, plainOf, anyOf};
 use text::number::Integer;
 use time::Answer;
 use time::Now;
 use time::Refusal;
 use time::Time;
 
-// Reads a date in any form. A relative one is told from the current time, and only it looks at that.
+// Reads a date in any form. Only a relative date uses the current time.
 pub fn parse(s: &[u8], current: Now) -> Answer
-    ensures { λ r. ⌜ r ≡ anyOf (now (s .entry)) current ⌝ }
+    ensures { λ r. ⌜ r ≡ anyOf rule1 (now (s .entry)) current ⌝ }
 {
     parse_with(&[], s, current)
 }
 
-// The same with the table of months lent, or a part that opens it, for callers that read many texts. Each step tells a byte of 128
-// or more by itself, so it is not looked for here.
+// The same with a table of months, or a leading part of it, for callers that read many texts. There is no test for bytes of 128 or
+// more here: each step makes its own.
 pub fn parse_with(months: &[u32], s: &[u8], current: Now) -> Answer
     requires { ⌜ IsMonths (now months) ⌝ }
-    ensures { λ r. ⌜ r ≡ anyOf (now (s .entry)) current ⌝ }
+    ensures { λ r. ⌜ r ≡ anyOf rule1 (now (s .entry)) current ⌝ }
 {
     let plain = parse_plain(s);
     if is_settled(plain) {
@@ -39,14 +37,15 @@ pub fn parse_with(months: &[u32], s: &[u8], current: Now) -> Answer
     header::raw::parse_raw(s)
 }
 
-// What looks at no calendar: `@` and raw or a number, or a number large enough to be no count. What opens with `@` is no number.
+// The forms that need no calendar: `@` with raw or a number behind it, or else a number too large to be the count of a relative date.
+// A text that opens with `@` is no number, so only one of the two is tried.
 fn parse_plain(s: &[u8]) -> Answer
-    ensures { λ r. ⌜ r ≡ plainOf (now (s .entry)) ⌝ }
+    ensures { λ r. ⌜ r ≡ plainOf rule1 (now (s .entry)) ⌝ }
 {
     if s.len() == 0 {
         return Answer::Refused(Refusal::Form);
     }
-    if s[0] == 64 {
+    if s[0] == b'@' {
         return parse_marked(&s[1..]);
     }
     numbered(
@@ -55,9 +54,9 @@ fn parse_plain(s: &[u8]) -> Answer
     )
 }
 
-// What stands behind `@`.
+// Reads what follows `@`.
 fn parse_marked(s: &[u8]) -> Answer
-    ensures { λ r. ⌜ r ≡ markedOf (now (s .entry)) ⌝ }
+    ensures { λ r. ⌜ r ≡ markedOf rule1 (now (s .entry)) ⌝ }
 {
     let raw = header::raw::parse_raw(s);
     if is_settled(raw) {
@@ -82,18 +81,19 @@ fn numbered(least: i64, n: Integer) -> Answer
     Answer::Time(Time::new(z, 0))
 }
 
-// Whether an answer stands: any but the refusal that the text is not of the form asked.
+// Whether an answer ends the search: a time does, and a refusal that settles.
 fn is_settled(a: Answer) -> bool
     ensures { λ r. ⌜ r ≡ isSettled a ⌝ }
 {
     match a {
         Answer::Time(_) => true,
-        Answer::Refused(r) => is_other(r),
+        Answer::Refused(r) => settles(r),
     }
 }
 
-fn is_other(r: Refusal) -> bool
-    ensures { λ b. ⌜ b ≡ isOther r ⌝ }
+// The refusals that end the search: 1, 3, 4, 5, 6. After a 2 the next form is tried. No reader answers 7 or 8.
+fn settles(r: Refusal) -> bool
+    ensures { λ b. ⌜ b ≡ settlesOf r ⌝ }
 {
     match r {
         Refusal::Form => false,

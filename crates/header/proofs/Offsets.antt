@@ -1,33 +1,29 @@
--- An offset's word. In order: its length; how large a field is, so that nothing is lost at any width and no sum wraps; two
--- digits; which way its tests go; the same integer, in bits.
+-- An offset's word. In order: its length; how large a field is, so that no sum wraps; two digits; which way its tests go.
 -- Assumes nothing.
-use mathlib.Core.Path.{_≡_, refl, sym, ap, _∙_}
-use mathlib.Core.Bool.{Bool, true, false, false≢true}
-use mathlib.Core.List.{List, [], _∷_}
+use mathlib.Core.Path.{_≡_}
+use mathlib.Core.Bool.{Bool, true, false}
+use mathlib.Core.List.{List}
 use Prim.Native.Nat.{ℕ, _+_, _-_, _*_, _^_, _≤_, _<_}
 use native.Mathlib.Omega.{arith}
-use native.Mathlib.Nat.{pow-le-pow-right}
-use borrow.Author.Tests.{eqb-true, eq-eqb, ne-eqb}
+use borrow.Author.Tests.{eqb-true}
 use lib.Dec.{eqb}
 use lib.IntN.{ℤ, pos, negsuc, natAbs}
-use lib.ListN.{length, take, drop, getD, length-take}
-use mir.Syntax.{Width}
-use mir.Val.{SFits, ofZ, toZ}
-use mir.ValLaws.{toZ-ofZ}
+use lib.ListN.{length, take, drop, getD}
 use Rattle.ints.specs.Range.{In}
-use Rattle.ints.proofs.Parts.{parts-le, natAbs-parts}
+use Rattle.ints.proofs.Machine.{In-of-natAbs}
 use Rattle.text.specs.Bytes.{isDigit, isSign}
-use Rattle.text.specs.Number.{readFrom, digitsOf, signedOf, unsignedOf, fit, fitSigned, plus}
+use Rattle.text.specs.Number.{signedOf, unsignedOf, plus}
 use Rattle.text.specs.declared.number.Number.{Number}
 use Rattle.text.specs.declared.number.Number.the-variants.{Value, Not}
 use Rattle.text.specs.declared.number.Integer.{Integer}
 use Rattle.text.specs.declared.number.Integer.the-variants.{Is, NotOne}
-use Rattle.text.proofs.Lists.{by-test, drop-cons-add-one}
-use Rattle.text.proofs.Numbers.{digit-range, Short, Below, signedOf-short, unsignedOf-below, fitSigned-of-length, fit-of-length}
+use Rattle.text.proofs.Lists.{by-test, take-two-drop}
+use Rattle.text.proofs.Digits.{unsignedOf-two-digits}
+use Rattle.text.proofs.Numbers.{Short, Below, signedOf-short, unsignedOf-below, pow-length-take, fit-take}
 use Rattle.text.proofs.Texts.{signedOf-of-unsignedOf}
-use Rattle.header.specs.Offset.{fiveOrSeven, fieldOf, lastField, together, fieldsOf, Small, AllSmall}
+use Rattle.header.specs.Offset.{fiveOrSeven, fieldOf, lastField, together, fieldsOf}
 use Rattle.header.specs.Header.{headerOffset}
-use Rattle.header.specs.Raw.{eqZ}
+use Rattle.header.specs.Held.{Small, AllSmall}
 use Rattle.header.specs.declared.offset.Field.{Field}
 use Rattle.header.specs.declared.offset.Field.the-variants.{Signed, Byte}
 use Rattle.header.specs.declared.offset.Fields.{Fields}
@@ -39,22 +35,12 @@ le-of-fiveOrSeven n e = by-test (eqb n 5) (λ a. omega (arith, eqb-true n 5 a)) 
 
 -- ---- how large a field is
 -- two bytes' number is below 100 in size
-pow-length-take : (s : List ℕ) → 10 ^ length (take 2 s) ≤ 100
-pow-length-take s = let h : length (take 2 s) ≤ 2 = omega (arith, length-take 2 s) in pow-le-pow-right {n = 10} (omega arith) h
-
--- so any width that holds 100 reads a field whole
-pub fitSigned-take : (half : ℕ) (s : List ℕ) → 100 ≤ half → fitSigned half (signedOf (take 2 s)) ≡ signedOf (take 2 s)
-fitSigned-take half s h = fitSigned-of-length half (take 2 s) (omega (arith, pow-length-take s))
-
-pub fit-take : (limit : ℕ) (s : List ℕ) → 99 ≤ limit → fit limit (unsignedOf (take 2 s)) ≡ unsignedOf (take 2 s)
-fit-take limit s h = fit-of-length limit (take 2 s) (omega (arith, pow-length-take s))
-
 abbrev TwoBytes : Integer → Type 0
 TwoBytes (Is z) = In (negsuc 98) (pos 99) z
 TwoBytes NotOne = Unit {0}
 
 two-bytes : (z : ℤ) → natAbs z < 100 → TwoBytes (Is z)
-two-bytes z h = record { low = parts-le _ _ (omega (arith, natAbs-parts z)); high = parts-le _ _ (omega (arith, natAbs-parts z)) }
+two-bytes z h = In-of-natAbs 99 z (omega arith)
 
 fieldOf-two-bytes : (by : Field) (w : List ℕ) (at : ℕ) → TwoBytes (fieldOf by w at)
 unfolding fieldOf
@@ -84,15 +70,8 @@ module _ (w : List ℕ) (at : ℕ) (h : at + 2 ≤ length w) (x : isDigit (getD 
   abbrev twoDigits : ℕ
   twoDigits = 10 * (getD w at 0 - 48) + (getD w (at + 1) 0 - 48)
 
-  two-bytes-are : take 2 (drop at w) ≡ getD w at 0 ∷ getD w (at + 1) 0 ∷ []
-  two-bytes-are = rw (drop-cons-add-one w at (omega arith), drop-cons-add-one w (at + 1) (omega arith))
-
   unsignedOf-digits : unsignedOf (take 2 (drop at w)) ≡ Value twoDigits
-  unfolding unsignedOf digitsOf readFrom
-  unsignedOf-digits =
-      let d = digit-range (getD w at 0) x in
-      let n : 10 * (10 * 0 + (getD w at 0 - 48)) + (getD w (at + 1) 0 - 48) ≡ twoDigits = omega arith in
-      rw (two-bytes-are, ne-eqb (getD w at 0) 43 (λ e. omega arith), x, y) (ap Value n)
+  unsignedOf-digits = rw (take-two-drop w at h) (unsignedOf-two-digits (getD w at 0) (getD w (at + 1) 0) x y)
 
   pub fieldOf-of-digits : (by : Field) → fieldOf by w at ≡ Is (pos twoDigits)
   unfolding fieldOf
@@ -127,28 +106,3 @@ module _ (by : Field) (w : List ℕ) where
 pub headerOffset-all-small : (w : List ℕ) → AllSmall (headerOffset w)
 unfolding headerOffset
 headerOffset-all-small w = by-test (isDigit (getD w 1 0)) (λ d. rw d (fieldsOf-all-small Signed w)) (λ d. rw d tt)
-
-pub headerOffset-small : (w : List ℕ) (f : Fields) → headerOffset w ≡ Offset f → Small f
-headerOffset-small w f e = rw e at (headerOffset-all-small w)
-
--- ---- the same integer
-eqZ-refl : (z : ℤ) → eqZ z z ≡ true
-eqZ-refl (pos n) = eq-eqb n n refl
-eqZ-refl (negsuc n) = eq-eqb n n refl
-
-pub eqZ-true : (a b : ℤ) → eqZ a b ≡ true → a ≡ b
-eqZ-true (pos a) (pos b) e = ap pos (eqb-true a b e)
-eqZ-true (pos a) (negsuc b) e = absurd (false≢true e)
-eqZ-true (negsuc a) (pos b) e = absurd (false≢true e)
-eqZ-true (negsuc a) (negsuc b) e = ap negsuc (eqb-true a b e)
-
--- the machine compares bits
-pub eqb-ofZ : (w : Width) (a b : ℤ) → SFits w a → SFits w b → eqb (ofZ w a) (ofZ w b) ≡ eqZ a b
-eqb-ofZ w a b f g =
-    by-test (eqZ a b) (λ e. rw (eqZ-true a b e, eqZ-refl b) (eq-eqb (ofZ w b) (ofZ w b) refl))
-    (λ e.
-    by-test (eqb (ofZ w a) (ofZ w b))
-    (λ d.
-    let same : a ≡ b = sym (toZ-ofZ w a f) ∙ ap (toZ w) (eqb-true _ _ d) ∙ toZ-ofZ w b g in
-    absurd (false≢true (sym e ∙ ap (λ (z : ℤ). eqZ z b) same ∙ eqZ-refl b)))
-    (λ d. d ∙ sym e))

@@ -2,34 +2,36 @@
 -- each is reached, beside any seconds (`header-offset-reached`), by a text whose fields are digits alone. So signs inside the
 -- fields reach nothing new.
 -- Assumes nothing.
-use mathlib.Core.Path.{_≡_, refl, ap, _∙_}
+use mathlib.Core.Path.{_≡_, refl, _∙_}
+use mathlib.Core.Bool.{true, false}
 use mathlib.Core.List.{List, [], _∷_}
 use Prim.Native.Nat.{ℕ, suc, _+_, _-_, _*_, _/_, _≤_, _<_, min}
 use native.Mathlib.Omega.{arith}
-use lib.IntN.{ℤ, pos, negsuc, negℤ, natAbs}
+use lib.IntN.{ℤ, pos, negsuc, natAbs}
 use Rattle.ints.specs.Range.{In}
 use Rattle.ints.proofs.Parts.{le-parts, parts-le, natAbs-parts, one-up, one-dn}
 use Rattle.ints.proofs.Machine.{in-add, in-mul, in-neg}
 use Rattle.text.specs.Bytes.{isSpace, isSign, ascii}
 use Rattle.text.specs.Places.{has}
 use Rattle.text.specs.Words.{words}
-use Rattle.text.specs.Decimal.{twoBefore}
+use Rattle.text.specs.Decimal.{signedBefore, twoBefore}
 use Rattle.text.specs.declared.number.Integer.{Integer}
 use Rattle.text.specs.declared.number.Integer.the-variants.{Is, NotOne}
 use Rattle.text.proofs.Lists.{by-test}
 use Rattle.text.proofs.Decimals.{Between}
 use Rattle.time.specs.Answers.{timeAt}
-use Rattle.time.specs.Header.{secondsBefore, signByte}
+use Rattle.time.specs.Header.{signByte}
 use Rattle.time.specs.declared.Time.{Time}
 use Rattle.time.specs.declared.Answer.{Answer}
 use Rattle.time.specs.declared.Answer.the-variants.{Time as At, Refused}
-use Rattle.header.specs.Offset.{onlyWord, offsetOf, Small}
-use Rattle.header.specs.Header.{headerOf, headerOfWords, headerTime, headerOffset, offsetOrZero, secondsOf}
+use Rattle.header.specs.Offset.{onlyWord, offsetOf}
+use Rattle.header.specs.Held.{Small, AllSmall}
+use Rattle.header.specs.Header.{headerOf, headerOfWords, headerTime, headerOffset, secondsOf}
 use Rattle.header.specs.declared.offset.Fields.{Fields}
 use Rattle.header.specs.declared.offset.Parsed.{Parsed}
 use Rattle.header.specs.declared.offset.Parsed.the-variants.{Offset, NoOffset}
-use Rattle.header.proofs.Offsets.{headerOffset-small}
-use Rattle.header.proofs.ReadBack.{Seconds64, offsetIn, twoBefore-between, offsetIn-seven, headerOf-secondsBefore}
+use Rattle.header.proofs.Offsets.{headerOffset-all-small}
+use Rattle.header.proofs.ReadBack.{Seconds64, signByte-between, two-between, offsetOf-fieldsAre, headerOffset-seven, headerOf-signedBefore}
 
 -- from -362439, `-999999`, to 362439
 abbrev pub HeaderOffset : ℤ → Type 0
@@ -45,25 +47,19 @@ offsetOf-in f p =
     let sum = in-add (in-add (in-mul 3600 (p .hours-in)) (in-mul 60 (p .minutes-in))) (p .seconds-in) in
     by-test (f .minus) (λ e. rw e (in-neg sum)) (λ e. rw e sum)
 
-offsetIn-in : (w : List ℕ) → HeaderOffset (offsetIn w)
-offsetIn-in w = go (headerOffset w) refl
-  where
-    go : (p : Parsed) → headerOffset w ≡ p → HeaderOffset (offsetOrZero p)
-    go (Offset f) e = offsetOf-in f (headerOffset-small w f e)
-    go NoOffset e = zero-in
-
 abbrev Within : Answer → Type 0
 Within (At t) = HeaderOffset (t .offset)
 Within (Refused r) = Unit {0}
 
+headerTime-within : (i : Integer) (p : Parsed) → AllSmall p → Within (headerTime i p)
+headerTime-within (Is z) (Offset f) h = offsetOf-in f h
+headerTime-within (Is z) NoOffset h = zero-in
+headerTime-within NotOne p h = tt
+
 headerOfWords-within : (ws : List (List ℕ)) → Within (headerOfWords ws)
 unfolding headerOfWords
 headerOfWords-within [] = tt
-headerOfWords-within (w ∷ ws) = go (secondsOf w)
-  where
-    go : (i : Integer) → Within (headerTime i (headerOffset (onlyWord ws)))
-    go (Is z) = offsetIn-in (onlyWord ws)
-    go NotOne = tt
+headerOfWords-within (w ∷ ws) = headerTime-within (secondsOf w) (headerOffset (onlyWord ws)) (headerOffset-all-small (onlyWord ws))
 
 headerOf-within : (s : List ℕ) → Within (headerOf s)
 unfolding headerOf
@@ -99,34 +95,27 @@ abbrev pub sevenBytes : ℤ → List ℕ
 sevenBytes o = signByte o ∷ twoBefore (hoursIn (natAbs o)) (twoBefore (minutesIn (natAbs o)) (twoBefore (secondsIn (natAbs o)) []))
 
 abbrev pub headerWith : ℤ → ℤ → List ℕ
-headerWith z o = secondsBefore z (32 ∷ sevenBytes o)
-
-signByte-between : (o : ℤ) → (33 ≤ signByte o) × (signByte o ≤ 57)
-unfolding signByte
-signByte-between (pos n) = (omega arith, omega arith)
-signByte-between (negsuc n) = (omega arith, omega arith)
-
-clock-between : (h m x : ℕ) → h < 100 → m < 100 → x < 100 → Between 33 57 (twoBefore h (twoBefore m (twoBefore x [])))
-clock-between h m x j k l = two h (twoBefore m (twoBefore x [])) j (two m (twoBefore x []) k (two x [] l tt))
-  where
-    two : (h : ℕ) (t : List ℕ) → h < 100 → Between 33 57 t → Between 33 57 (twoBefore h t)
-    two h t = twoBefore-between 33 57 (omega arith) (omega arith) h t
+headerWith z o = signedBefore z (32 ∷ sevenBytes o)
 
 sevenBytes-between : (o : ℤ) → natAbs o ≤ 362439 → Between 33 57 (sevenBytes o)
 sevenBytes-between o h =
     let b = signByte-between o in
-    (b .0, b .1, clock-between (hoursIn (natAbs o)) (minutesIn (natAbs o)) (secondsIn (natAbs o)) (omega arith) (omega arith) (seconds-lt (natAbs o) h))
+    let n = natAbs o in (
+      b .0,
+      b .1,
+      two-between (hoursIn n) (twoBefore (minutesIn n) (twoBefore (secondsIn n) [])) (omega arith)
+          (two-between (minutesIn n) (twoBefore (secondsIn n) []) (omega arith) (two-between (secondsIn n) [] (seconds-lt n h) tt)),
+    )
 
-offsetIn-sevenBytes : (o : ℤ) → natAbs o ≤ 362439 → offsetIn (sevenBytes o) ≡ o
+read-sevenBytes : (z o : ℤ) → natAbs o ≤ 362439 → headerTime (Is z) (headerOffset (sevenBytes o)) ≡ At (timeAt z o)
 unfolding signByte isSign
-offsetIn-sevenBytes (pos n) h =
-    offsetIn-seven 43 (hoursIn n) (minutesIn n) refl (omega arith) (omega arith) (secondsIn n) (seconds-lt n h) ∙ ap pos (clock-is n h)
-offsetIn-sevenBytes (negsuc n) h =
-    offsetIn-seven 45 (hoursIn (suc n)) (minutesIn (suc n)) refl (omega arith) (omega arith) (secondsIn (suc n)) (seconds-lt (suc n) h)
-    ∙ ap (λ (v : ℕ). negℤ (pos v)) (clock-is (suc n) h)
+read-sevenBytes z (pos n) h =
+    rw (headerOffset-seven 43 (hoursIn n) (minutesIn n) refl (omega arith) (omega arith) (secondsIn n) (seconds-lt n h), offsetOf-fieldsAre false (hoursIn n) (minutesIn n) (secondsIn n) n (clock-is n h))
+read-sevenBytes z (negsuc n) h =
+    rw (headerOffset-seven 45 (hoursIn (suc n)) (minutesIn (suc n)) refl (omega arith) (omega arith) (secondsIn (suc n)) (seconds-lt (suc n) h), offsetOf-fieldsAre true (hoursIn (suc n)) (minutesIn (suc n)) (secondsIn (suc n)) (suc n) (clock-is (suc n) h))
 
 -- every offset from -362439 to 362439 is some header's, beside any seconds of 64 bits
 pub header-offset-reached : (z o : ℤ) → Seconds64 z → HeaderOffset o → headerOf (headerWith z o) ≡ At (timeAt z o)
 header-offset-reached z o r p =
     let h : natAbs o ≤ 362439 = omega (arith, le-parts (p .low), le-parts (p .high), natAbs-parts o, one-up o, one-dn o) in
-    rw (offsetIn-sevenBytes o h) at (headerOf-secondsBefore z (sevenBytes o) r (omega arith) (sevenBytes-between o h))
+    headerOf-signedBefore z (sevenBytes o) r (omega arith) (sevenBytes-between o h) ∙ read-sevenBytes z o h

@@ -20,12 +20,13 @@ use Rattle.text.specs.declared.number.Integer.{Integer}
 use Rattle.text.specs.declared.number.Integer.the-variants.{Is, NotOne}
 use Rattle.text.proofs.Lists.{by-test}
 use Rattle.text.proofs.Runs.{has-nil}
+use Rattle.text.proofs.Numbers.{fit-take}
 use Rattle.header.specs.Offset.{fiveOrSeven, fieldOf, lastField, together, fieldsOf}
 use Rattle.header.specs.declared.offset.Field.the-variants.{Signed, Byte}
 use Rattle.header.specs.declared.offset.Fields.{Fields}
 use Rattle.header.specs.declared.offset.Parsed.the-variants.{Offset, NoOffset}
 use Rattle.text.proofs.Texts.{not-has-cons, not-has-cut, no-colon-of-between, between-of-unsignedOf, signedOf-of-unsignedOf}
-use Rattle.header.proofs.Offsets.{fit-take, fieldsOf-of-tests, fieldsOf-of-length, fieldsOf-of-sign}
+use Rattle.header.proofs.Offsets.{fieldsOf-of-tests, fieldsOf-of-length, fieldsOf-of-sign}
 
 -- ---- fields
 -- a field that is an unsigned number is the same signed number, and has no `:` in it

@@ -1,5 +1,5 @@
 -- The form that every commit's date has: a number, and behind it a space, a sign, four digits, and nothing more. In order: its bytes; the
--- fields in them, which are numbers of either kind; where the walk's scans stop in it; what the readers answer.
+-- fields in them, which are numbers of either kind; where the scans of a pass stop in it; what the readers answer.
 -- Assumes nothing.
 use mathlib.Core.Path.{_≡_, refl, sym, ap, _∙_}
 use mathlib.Core.Bool.{Bool, true, false, _&&_}
@@ -7,30 +7,29 @@ use mathlib.Core.List.{List, []}
 use Prim.Native.Nat.{ℕ, _+_, _-_, _*_, _≤_}
 use native.Mathlib.Omega.{arith}
 use borrow.Author.Tests.{eqb-true, eq-eqb, ne-eqb, le-ltb, not-true}
-use lib.Dec.{eqb, ltb}
+use lib.Dec.{eqb}
 use lib.IntN.{pos}
 use lib.ListN.{length, drop, getD, length-drop, drop-of-length-le}
 use lib.Seq.{take-all, take-nil, getD-drop}
-use Rattle.text.specs.Bytes.{isSpace, isDigit, isSign, ascii}
+use Rattle.text.specs.Bytes.{isSpace, isDigit, isSign, isPlain, ascii}
 use Rattle.text.specs.Places.{past, has, part}
-use Rattle.text.specs.declared.number.Integer.{Integer}
-use Rattle.text.specs.declared.number.Integer.the-variants.{Is, NotOne}
 use Rattle.text.specs.declared.number.LeadingInteger.{LeadingInteger}
-use Rattle.time.specs.declared.Answer.the-variants.{Refused}
-use Rattle.time.specs.declared.Refusal.the-variants.{Form}
 use Rattle.text.proofs.Lists.{by-test, both}
-use Rattle.text.proofs.Runs.{run-le-length, past-le-length, past-of-true, past-of-false, past-of-length-le, has-nil}
+use Rattle.text.proofs.Runs.{run-le-length, past-le-length, past-of-true, past-of-false, past-of-length-le, le-past, has-drop-nil}
 use Rattle.text.proofs.Numbers.{numeral-le-run}
-use Rattle.header.specs.Offset.{fiveOrSeven, lastField, fieldsOf, Small}
+use Rattle.text.proofs.Plain.{isPlain-of-isSign, isPlain-of-isDigit, no-space-of-isSign, ascii-drop-nil}
+use Rattle.header.specs.Offset.{fiveOrSeven, lastField, fieldsOf}
 use Rattle.header.specs.Header.{headerOffset, headerTime, headerOf}
 use Rattle.header.specs.Raw.{Limits, rawTime, rawOf}
-use Rattle.header.specs.Walk.{isPlain, spanOf, Opened, isUsual, usualOf, Walks}
+use Rattle.header.specs.Held.{Small, LeadsWithNumber, isUsual, usualOf, endsAt, spanOf, WordsRead}
 use Rattle.header.specs.declared.offset.Field.{Field}
 use Rattle.header.specs.declared.offset.Field.the-variants.{Signed, Byte}
 use Rattle.header.specs.declared.offset.Fields.{Fields}
 use Rattle.header.specs.declared.offset.Parsed.the-variants.{Offset, NoOffset}
 use Rattle.header.specs.declared.walk.Walked.the-variants.{Words}
-use Rattle.header.proofs.Walking.{isPlain-of-isSign, isPlain-of-isDigit, no-space-of-isSign, Placed, ascii-kept, has-kept, Opens-of-Placed, headerOf-of-Words, rawOf-of-Words}
+use Rattle.header.proofs.FirstWord.{endsAt-of-lt, endsAt-of-le}
+use Rattle.header.proofs.Pass.{firstEnd, second, secondEnd, third, ascii-kept, has-kept, FirstWords-of-pass}
+use Rattle.header.proofs.Readers.{fieldsOf-nil, headerOffset-nil, headerOf-of-words, rawOf-of-words}
 use Rattle.header.proofs.Offsets.{fieldOf-of-digits, fieldsOf-of-tests, fieldsOf-small}
 
 -- ---- its bytes
@@ -71,7 +70,7 @@ module _ (s : List ℕ) (at : ℕ) where
   usualOf-of-length n = rw (ne-eqb (length s) (at + 6) n)
 
   -- where there are fields there is that form
-  pub usual-told : (f : Fields) → usualOf s at ≡ Offset f → Usual s at × (fieldsOf Byte (drop (at + 1) s) ≡ Offset f)
+  usual-told : (f : Fields) → usualOf s at ≡ Offset f → Usual s at × (fieldsOf Byte (drop (at + 1) s) ≡ Offset f)
   unfolding usualOf isUsual
   usual-told f e =
       by-test (isUsual s at)
@@ -118,12 +117,9 @@ module _ (s : List ℕ) (at : ℕ) (u : Usual s at) where
   headerOffset-of-usual = rw (ap isDigit (byte 1 2 (omega arith)) ∙ u .hours .0) (fieldsOf-of-usual Signed ∙ sym (fieldsOf-of-usual Byte))
 
   -- ---- where the scans stop
-  part-is : part s (spanOf (at + 1) (at + 6)) ≡ word
-  part-is = let n : length word ≤ at + 6 - (at + 1) = omega (arith, length-word) in take-all (at + 6 - (at + 1)) word n
-
-  first-end-is : past isPlain s at ≡ at
+  firstEnd-is : past isPlain s at ≡ at
   unfolding isPlain isSpace
-  first-end-is = past-of-false isPlain s at (omega (arith, u .length-is)) (ap isPlain (u .space))
+  firstEnd-is = past-of-false isPlain s at (omega (arith, u .length-is)) (ap isPlain (u .space))
 
   second-is : past isSpace s at ≡ at + 1
   unfolding isSpace
@@ -131,8 +127,8 @@ module _ (s : List ℕ) (at : ℕ) (u : Usual s at) where
       past-of-true isSpace s at (omega (arith, u .length-is)) (ap isSpace (u .space))
       ∙ past-of-false isSpace s (at + 1) (omega (arith, u .length-is)) (not-true _ (no-space-of-isSign _ (u .sign)))
 
-  second-end-is : past isPlain s (at + 1) ≡ at + 6
-  second-end-is =
+  secondEnd-is : past isPlain s (at + 1) ≡ at + 6
+  secondEnd-is =
       on 1 2 (omega arith) (omega arith) (isPlain-of-isSign _ (u .sign)) ∙ on 2 3 (omega arith) (omega arith) (isPlain-of-isDigit _ (u .hours .0))
       ∙ on 3 4 (omega arith) (omega arith) (isPlain-of-isDigit _ (u .hours .1))
       ∙ on 4 5 (omega arith) (omega arith) (isPlain-of-isDigit _ (u .minutes .0))
@@ -142,7 +138,17 @@ module _ (s : List ℕ) (at : ℕ) (u : Usual s at) where
       on : (i j : ℕ) → at + i + 1 ≡ at + j → j ≤ 6 → isPlain (getD s (at + i) 0) ≡ true → past isPlain s (at + i) ≡ past isPlain s (at + j)
       on i j n h e = past-of-true isPlain s (at + i) (omega (arith, u .length-is)) e ∙ ap (past isPlain s) n
 
-module _ (s : List ℕ) (r : LeadingInteger) (l : Opened s r) where
+  third-is : third s at ≡ at + 6
+  third-is = rw (firstEnd-is, second-is, secondEnd-is) (past-of-length-le isSpace s (at + 6) (omega (arith, u .length-is)))
+
+  word-is : part s (spanOf (second s at) (secondEnd s at)) ≡ word
+  word-is = rw (firstEnd-is, second-is, secondEnd-is) (take-all (at + 6 - (at + 1)) word (omega (arith, length-word)))
+
+  ends : endsAt s at ≡ true
+  unfolding isSpace
+  ends = endsAt-of-lt s at (omega (arith, u .length-is)) ∙ ap isSpace (u .space)
+
+module _ (s : List ℕ) (r : LeadingInteger) (l : LeadsWithNumber s r) where
   pub end-le-length : r .end ≤ length s
   end-le-length =
       let first = past isSpace s 0 in
@@ -150,72 +156,48 @@ module _ (s : List ℕ) (r : LeadingInteger) (l : Opened s r) where
       omega (arith, l .end-is, n, run-le-length isPlain (drop first s), length-drop first s, past-le-length isSpace s 0 (omega arith))
 
   -- the number is the first word, and past the second word there is nothing left
-  module _ (second second-end third : ℕ) (p : Placed s (past isSpace s 0) (r .end) (r .end) second second-end third) (n : length s ≤ third) where
-    nothing-left : drop third s ≡ []
-    nothing-left = drop-of-length-le s {i = third} n
+  words-read : endsAt s (r .end) ≡ true → length s ≤ third s (r .end)
+      → WordsRead s (Words (record { number = r .number; whole = true; «offset_word» = spanOf (second s (r .end)) (secondEnd s (r .end)); colon = false }))
+  words-read e n = (ascii-is, rw (e, le-ltb (third s (r .end)) (length s) n, has-is) at (FirstWords-of-pass s r l ascii-is))
+    where
+      ascii-is : ascii s ≡ true
+      ascii-is = ascii-kept s r l ∙ ascii-drop-nil s (third s (r .end)) n
 
-    ascii-is : ascii s ≡ true
-    unfolding ascii
-    ascii-is = ascii-kept _ _ _ _ _ _ _ p ∙ rw nothing-left
-
-    has-is : has 58 s ≡ false
-    has-is = has-kept _ _ _ _ _ _ _ p ∙ rw nothing-left (has-nil 58)
-
-    walks : Walks s (Words (record { seconds = r .number; whole = true; second = spanOf second second-end }))
-    walks =
-        let same : eqb (r .end) (r .end) ≡ true = eq-eqb (r .end) (r .end) refl in
-        let done : ltb third (length s) ≡ false = le-ltb third (length s) n in
-        (ascii-is, has-is, rw (same, done) at (Opens-of-Placed s ascii-is has-is _ _ _ _ _ _ p r l (r .number) (rw same)))
-
-  usual-walks : Usual s (r .end) → Walks s (Words (record { seconds = r .number; whole = true; second = spanOf (r .end + 1) (r .end + 6) }))
-  usual-walks u =
-      walks (r .end + 1) (r .end + 6) (r .end + 6)
-      (record {
-        first-is = refl;
-        o-is = l .end-is;
-        first-end-is = sym (first-end-is s (r .end) u);
-        second-is = sym (second-is s (r .end) u);
-        second-end-is = sym (second-end-is s (r .end) u);
-        third-is = sym (past-of-length-le isSpace s (r .end + 6) (omega (arith, u .length-is)));
-      })
-      (omega (arith, u .length-is))
+      has-is : has 58 s ≡ false
+      has-is = has-kept s r l ∙ has-drop-nil 58 s (third s (r .end)) n
 
   -- ---- what the readers answer
   module _ (f : Fields) (e : usualOf s (r .end) ≡ Offset f) where
+    told : Usual s (r .end) × (fieldsOf Byte (drop (r .end + 1) s) ≡ Offset f)
+    told = usual-told s (r .end) f e
+
     pub usual-small : Small f
-    usual-small = fieldsOf-small Byte (drop (r .end + 1) s) f (usual-told s (r .end) f e .1)
+    usual-small = fieldsOf-small Byte (drop (r .end + 1) s) f (told .1)
+
+    usual-read : WordsRead s (Words (record { number = r .number; whole = true; «offset_word» = spanOf (second s (r .end)) (secondEnd s (r .end)); colon = false }))
+    usual-read = words-read (ends s (r .end) (told .0)) (omega (arith, third-is s (r .end) (told .0), told .0 .length-is))
 
     pub headerOf-of-usual : headerOf s ≡ headerTime (r .number) (Offset f)
-    headerOf-of-usual =
-        let t = usual-told s (r .end) f e in
-        headerOf-of-Words s _ (usual-walks (t .0)) ∙ rw (part-is s (r .end) (t .0), headerOffset-of-usual s (r .end) (t .0), t .1)
+    headerOf-of-usual = headerOf-of-words s _ usual-read refl ∙ rw (word-is s (r .end) (told .0), headerOffset-of-usual s (r .end) (told .0), told .1)
 
     pub rawOf-of-usual : (limits : Limits) → rawOf limits s ≡ rawTime limits (r .number) (Offset f)
-    rawOf-of-usual limits =
-        let t = usual-told s (r .end) f e in
-        rawOf-of-Words s _ (usual-walks (t .0)) limits ∙ rw (part-is s (r .end) (t .0), t .1)
+    rawOf-of-usual limits = rawOf-of-words s _ usual-read limits ∙ rw (word-is s (r .end) (told .0), told .1)
 
   -- a number alone has no second word
   module _ (e : r .end ≡ length s) where
-    alone-walks : Walks s (Words (record { seconds = r .number; whole = true; second = spanOf (r .end) (r .end) }))
-    alone-walks =
-        let done : length s ≤ r .end = omega arith in
-        let there : (q : ℕ → Bool) → r .end ≡ past q s (r .end) = λ q. sym (past-of-length-le q s (r .end) done) in
-        walks (r .end) (r .end) (r .end)
-        (record { first-is = refl; o-is = l .end-is; first-end-is = there isPlain; second-is = there isSpace; second-end-is = there isPlain; third-is = there isSpace })
-        done
+    second-le : length s ≤ second s (r .end)
+    second-le = omega (arith, le-past isPlain s (r .end), le-past isSpace s (firstEnd s (r .end)))
 
-    no-second : part s (spanOf (r .end) (r .end)) ≡ []
-    no-second = rw (drop-of-length-le s {i = r .end} (omega arith)) (take-nil (r .end - r .end))
+    alone-read : WordsRead s (Words (record { number = r .number; whole = true; «offset_word» = spanOf (second s (r .end)) (secondEnd s (r .end)); colon = false }))
+    alone-read =
+        words-read (endsAt-of-le s (r .end) (omega arith))
+        (omega (arith, second-le, le-past isPlain s (second s (r .end)), le-past isSpace s (secondEnd s (r .end))))
+
+    no-second : part s (spanOf (second s (r .end)) (secondEnd s (r .end))) ≡ []
+    no-second = rw (drop-of-length-le s {i = second s (r .end)} second-le) (take-nil (secondEnd s (r .end) - second s (r .end)))
 
     pub headerOf-of-alone : headerOf s ≡ headerTime (r .number) NoOffset
-    unfolding headerOffset isDigit
-    headerOf-of-alone = headerOf-of-Words s _ alone-walks ∙ rw no-second
+    headerOf-of-alone = headerOf-of-words s _ alone-read refl ∙ rw (no-second, headerOffset-nil)
 
-    pub rawOf-of-alone : (limits : Limits) → rawOf limits s ≡ Refused Form
-    unfolding fieldsOf fiveOrSeven
-    rawOf-of-alone limits = rawOf-of-Words s _ alone-walks limits ∙ rw no-second (none (r .number))
-      where
-        none : (n : Integer) → rawTime limits n NoOffset ≡ Refused Form
-        none (Is z) = refl
-        none NotOne = refl
+    pub rawOf-of-alone : (limits : Limits) → rawOf limits s ≡ rawTime limits (r .number) NoOffset
+    rawOf-of-alone limits = rawOf-of-words s _ alone-read limits ∙ rw (no-second, fieldsOf-nil)

@@ -5,7 +5,7 @@ use Prim.Native.Nat.{ℕ, _^_}
 use Prim.Native.Char.{code}
 use mathlib.Core.Bool.{cond}
 use mathlib.Core.List.{List, [], _∷_}
-use lib.IntN.{ℤ, pos}
+use lib.IntN.{pos}
 use lib.ListN.{getD}
 use Rattle.text.specs.Bytes.{isSpace, isDigit, ascii}
 use Rattle.text.specs.Places.{has, leading}
@@ -17,7 +17,7 @@ use Rattle.time.specs.Answers.{timeAt}
 use Rattle.time.specs.declared.Answer.{Answer}
 use Rattle.time.specs.declared.Answer.the-variants.{Time, Refused}
 use Rattle.time.specs.declared.Refusal.the-variants.{NotAscii, Form}
-use Rattle.header.specs.Offset.{onlyWord, fieldsOf, offsetOf}
+use Rattle.header.specs.Offset.{onlyWord, fieldsOf, readTime}
 use Rattle.header.specs.declared.offset.Field.the-variants.{Signed}
 use Rattle.header.specs.declared.offset.Parsed.{Parsed}
 use Rattle.header.specs.declared.offset.Parsed.the-variants.{Offset, NoOffset}
@@ -39,14 +39,10 @@ secondsOf w = orElse (number64 w) (number64 (leading isDigit w))
 unfoldable pub headerOffset : List ℕ → Parsed
 headerOffset w = cond (isDigit (getD w 1 0)) (fieldsOf Signed w) NoOffset
 
--- otherwise the offset is 0, not a refusal
-abbrev pub offsetOrZero : Parsed → ℤ
-offsetOrZero (Offset f) = offsetOf f
-offsetOrZero NoOffset = pos 0
-
--- no number: 2
+-- no number is 2; no offset, or a bad one, is offset 0 and not a refusal
 abbrev pub headerTime : Integer → Parsed → Answer
-headerTime (Is s) p = Time (timeAt s (offsetOrZero p))
+headerTime (Is s) (Offset f) = Time (readTime s f)
+headerTime (Is s) NoOffset = Time (timeAt s (pos 0))
 headerTime NotOne p = Refused Form
 
 -- no word is 2; no second word, or a third word, gives offset 0

@@ -7,13 +7,14 @@ use Prim.Native.Char.{code}
 use mathlib.Core.Bool.{Bool, cond, _&&_, _||_}
 use mathlib.Core.List.{List, [], _∷_}
 use lib.Dec.{eqb}
-use lib.IntN.{ℤ, pos, negsuc, negℤ, _+ℤ_, _*ℤ_}
+use lib.IntN.{ℤ, pos, negℤ, _+ℤ_, _*ℤ_}
 use lib.ListN.{length, take, drop, getD}
-use Rattle.ints.specs.Range.{In}
 use Rattle.text.specs.Bytes.{isSign}
 use Rattle.text.specs.Number.{signedOf, unsignedOf, fit, plus}
 use Rattle.text.specs.declared.number.Integer.{Integer}
 use Rattle.text.specs.declared.number.Integer.the-variants.{Is, NotOne}
+use Rattle.time.specs.Answers.{timeAt}
+use Rattle.time.specs.declared.Time.{Time}
 use Rattle.header.specs.declared.offset.Field.{Field}
 use Rattle.header.specs.declared.offset.Field.the-variants.{Signed, Byte}
 use Rattle.header.specs.declared.offset.Fields.{Fields}
@@ -54,19 +55,13 @@ fieldsOf by w =
     NoOffset
 
 -- the fields in seconds
-abbrev pub sumOf : Fields → ℤ
+abbrev sumOf : Fields → ℤ
 sumOf f = f .hours *ℤ pos 3600 +ℤ f .minutes *ℤ pos 60 +ℤ f .seconds
 
 -- what they mean: a sign before the fields is a sign of the offset, and turns the whole sum
 unfoldable pub offsetOf : Fields → ℤ
 offsetOf f = cond (f .minus) (negℤ (sumOf f)) (sumOf f)
 
--- numbers of two bytes, which is all that `seconds_of` has to add up
-pub record Small (f : Fields) : Type 0 where
-  pub hours-in : In (negsuc 98) (pos 99) (f .hours)
-  pub minutes-in : In (negsuc 98) (pos 99) (f .minutes)
-  pub seconds-in : In (negsuc 98) (pos 99) (f .seconds)
-
-abbrev pub AllSmall : Parsed → Type 0
-AllSmall (Offset f) = Small f
-AllSmall NoOffset = Unit {0}
+-- the time that seconds and the fields beside them give
+abbrev pub readTime : ℤ → Fields → Time
+readTime s f = timeAt s (offsetOf f)

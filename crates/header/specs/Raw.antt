@@ -2,20 +2,19 @@
 -- anchors: `5 +1445` is 5 at offset 53100, and `5 ++5+0` is 5 at offset 18000.
 -- Assumes nothing.
 use Prim.Native.Nat.{ℕ}
-use mathlib.Core.Bool.{Bool, false, cond, _&&_, _||_}
+use mathlib.Core.Bool.{Bool, cond, _&&_, _||_}
 use mathlib.Core.List.{List, [], _∷_}
-use lib.Dec.{eqb}
-use lib.IntN.{ℤ, pos, negsuc}
+use lib.IntN.{ℤ, pos}
 use lib.Signed.{leZ}
+use Rattle.ints.specs.Equal.{eqZ}
 use Rattle.text.specs.Bytes.{isSpace, ascii}
 use Rattle.text.specs.Words.{words}
 use Rattle.text.specs.declared.number.Integer.{Integer}
 use Rattle.text.specs.declared.number.Integer.the-variants.{Is, NotOne}
-use Rattle.time.specs.Answers.{timeAt}
 use Rattle.time.specs.declared.Answer.{Answer}
 use Rattle.time.specs.declared.Answer.the-variants.{Time, Refused}
 use Rattle.time.specs.declared.Refusal.the-variants.{NotAscii, Form}
-use Rattle.header.specs.Offset.{onlyWord, fieldsOf, offsetOf}
+use Rattle.header.specs.Offset.{onlyWord, fieldsOf, readTime}
 use Rattle.header.specs.Header.{number64}
 use Rattle.header.specs.declared.offset.Field.the-variants.{Byte}
 use Rattle.header.specs.declared.offset.Fields.{Fields}
@@ -23,13 +22,6 @@ use Rattle.header.specs.declared.offset.Parsed.{Parsed}
 use Rattle.header.specs.declared.offset.Parsed.the-variants.{Offset, NoOffset}
 use Rattle.header.specs.declared.raw.Rule.{Rule}
 use Rattle.header.specs.declared.raw.Rule.the-variants.{One}
-
--- the same integer
-abbrev pub eqZ : ℤ → ℤ → Bool
-eqZ (pos a) (pos b) = eqb a b
-eqZ (pos a) (negsuc b) = false
-eqZ (negsuc a) (pos b) = false
-eqZ (negsuc a) (negsuc b) = eqb a b
 
 -- which hours and which minutes are let through
 pub record Limits : Type 0 where
@@ -54,7 +46,7 @@ allows l f = l .hours (f .hours) && l .minutes (f .minutes) && eqZ (f .seconds) 
 
 -- 2 unless both are read, and the limits let the fields through
 abbrev pub rawTime : Limits → Integer → Parsed → Answer
-rawTime l (Is s) (Offset f) = cond (allows l f) (Time (timeAt s (offsetOf f))) (Refused Form)
+rawTime l (Is s) (Offset f) = cond (allows l f) (Time (readTime s f)) (Refused Form)
 rawTime l (Is s) NoOffset = Refused Form
 rawTime l NotOne p = Refused Form
 

@@ -1,60 +1,60 @@
 // The dates of commits: the header reader, `1745582210 +0200`, and in `raw` the stricter one. Each
 // answers for every text, of any length and any bytes, in one pass from front to end, and copies no
-// part of it. The form that every commit has is told right behind its number; only a text of another
-// form has the six bytes of that test read again.
+// part of it. The usual form (number, space, sign, four digits) is recognised as soon as the number
+// ends. Any other text reads those six bytes twice.
 mod offset;
 pub mod raw;
 mod walk;
 
 ghost use mathlib.Core.Path.{_≡_};
+ghost use Rattle.time.specs.declared.Answer.the-variants.{Time as At};
 ghost use Rattle.header.specs.Header.{headerOffset, headerTime, headerOf};
-ghost use Rattle.header.specs.Offset.{AllSmall};
-ghost use Rattle.header.specs.Walk.{Opened};
+ghost use Rattle.header.specs.Held.{AllSmall, LeadsWithNumber};
 use crate::offset::Field;
 use crate::offset::Parsed;
 use crate::walk::Walked;
 use text::bytes;
 use text::number::Integer;
 use text::number::LeadingInteger;
+use text::words;
 use time::Answer;
 use time::Refusal;
 use time::Time;
 
 // A header date. 1 for a byte of 128 or more, then 2 for a `:` anywhere and for a first word that
-// gives no number. A bad or surplus second word is no refusal: it gives offset 0. Of a number alone, and
-// in the form that every commit has, nothing more is asked of the words.
+// gives no number. A bad or surplus second word is no refusal: it gives offset 0. A number alone and the
+// usual form need no further look at the words.
 pub fn parse_header(s: &[u8]) -> Answer
     ensures { λ r. ⌜ r ≡ headerOf (now (s .entry)) ⌝ }
 {
     let opening = walk::open(s);
-    let seconds = opening.number;
+    let number = opening.number;
     let end = opening.end;
     if end == s.len() {
-        return header_time(seconds, Parsed::NoOffset);
+        return header_time(number, Parsed::NoOffset);
     }
     let usual = offset::usual_fields(s, end);
     let Parsed::Offset(f) = usual else {
         return parse_other(s, opening);
     };
-    header_time(seconds, Parsed::Offset(f))
+    header_time(number, Parsed::Offset(f))
 }
 
-// A text of any other form goes the whole walk, on from the number.
+// A text of any other form: all its words are read.
 fn parse_other(s: &[u8], opening: LeadingInteger) -> Answer
-    requires { ⌜ Opened (now s) opening ⌝ }
+    requires { ⌜ LeadsWithNumber (now s) opening ⌝ }
     ensures { λ r. ⌜ r ≡ headerOf (now (s .entry)) ⌝ }
 {
-    let walked = walk::walk(s, opening);
-    match walked {
-        Walked::NotAscii => Answer::Refused(Refusal::NotAscii),
-        Walked::Colon => Answer::Refused(Refusal::Form),
-        Walked::Words(first) => {
-            let seconds = first.seconds;
-            let second = first.second;
-            let parsed = parse_offset(text::words::within(s, second));
-            header_time(seconds, parsed)
-        }
+    let walked = walk::read_words(s, opening);
+    let Walked::Words(first) = walked else {
+        return Answer::Refused(Refusal::NotAscii);
+    };
+    if first.colon {
+        return Answer::Refused(Refusal::Form);
     }
+    let number = first.number;
+    let word = first.offset_word;
+    header_time(number, parse_offset(words::within(s, word)))
 }
 
 // No number is 2; no offset is 0.
@@ -66,9 +66,16 @@ fn header_time(n: Integer, p: Parsed) -> Answer
         return Answer::Refused(Refusal::Form);
     };
     match p {
-        Parsed::Offset(f) => Answer::Time(Time::new(z, offset::seconds_of(f))),
-        Parsed::NoOffset => Answer::Time(Time::new(z, 0)),
+        Parsed::Offset(f) => Answer::Time(offset::read_time(z, f)),
+        Parsed::NoOffset => without_offset(Time::new(z, 0)),
     }
+}
+
+// A header whose offset is missing or bad is not refused: it is the time at offset 0.
+fn without_offset(t: Time) -> Answer
+    ensures { λ r. ⌜ r ≡ At t ⌝ }
+{
+    Answer::Time(t)
 }
 
 // A digit has to follow the sign; a text of fewer than two bytes has none there.

@@ -2,18 +2,19 @@
 // fields: hours, minutes, perhaps seconds. The readers differ in the numbers that a field may be. The
 // word of every commit, a sign and four digits, is read in one step.
 ghost use mathlib.Core.Path.{_≡_};
-ghost use mathlib.Core.Bool.{_&&_};
+ghost use mathlib.Core.Bool.{true, _&&_};
 ghost use Prim.Native.Nat.{_+_, _-_, _*_, _≤_};
 ghost use lib.IntN.{pos};
 ghost use lib.ListN.{length};
 ghost use Rattle.text.specs.Bytes.{isDigit};
 ghost use Rattle.text.specs.Number.{plus, AtMost};
-ghost use Rattle.header.specs.Walk.{usualOf};
-ghost use Rattle.header.specs.Offset.{fiveOrSeven, fieldOf, lastField, fieldsOf, offsetOf, Small};
+ghost use Rattle.header.specs.Offset.{fiveOrSeven, fieldOf, lastField, fieldsOf, offsetOf, readTime};
+ghost use Rattle.header.specs.Held.{Small, usualOf};
 use text::bytes;
 use text::number;
 use text::number::Integer;
 use text::number::Number;
+use time::Time;
 
 // What a field may be: a signed number, so `-5` is one; or an unsigned one of 8 bits, which `+5` is
 // and `-5` is not.
@@ -35,8 +36,9 @@ pub enum Parsed {
     NoOffset,
 }
 
-// The tail that every commit's date has behind its number: a space, a sign, four digits, and nothing more. It holds an offset for both
-// readers, since two digits are a field of either kind. One test tells it, with no branch between its bytes; any other tail gives none.
+// The fields of the tail that every commit's date has behind its number: a space, a sign, four digits, and nothing more. Both
+// readers read the same from it, since two digits are a field of either kind. The six bytes are tested
+// without a branch between them; any other tail gives no offset.
 pub fn usual_fields(s: &[u8], at: usize) -> Parsed
     requires { ⌜ at ≤ length (now s) ⌝ }
     ensures { λ r. ⌜ r ≡ usualOf (now (s .entry)) at ⌝ }
@@ -48,11 +50,11 @@ pub fn usual_fields(s: &[u8], at: usize) -> Parsed
         let i = s[at + 3];
         let m = s[at + 4];
         let j = s[at + 5];
-        if (space == 32) & bytes::is_sign(sign) & both_digits(h, i) & both_digits(m, j) {
+        if (space == b' ') & bytes::is_sign(sign) & both_digits(h, i) & both_digits(m, j) {
             let hours = two_digits(h, i);
             let minutes = two_digits(m, j);
             return Parsed::Offset(Fields {
-                minus: sign == 45,
+                minus: sign == b'-',
                 hours,
                 minutes,
                 seconds: 0,
@@ -81,7 +83,7 @@ pub fn parse_fields(w: &[u8], by: Field) -> Parsed
                 return Parsed::NoOffset;
             };
             return Parsed::Offset(Fields {
-                minus: w[0] == 45,
+                minus: w[0] == b'-',
                 hours: h,
                 minutes: m,
                 seconds: x,
@@ -122,13 +124,13 @@ fn both_digits(tens: u8, ones: u8) -> bool
 }
 
 fn two_digits(tens: u8, ones: u8) -> i64
-    requires { ⌜ (48 ≤ tens) × (tens ≤ 57) × (48 ≤ ones) × (ones ≤ 57) ⌝ }
+    requires { ⌜ (isDigit tens ≡ true) × (isDigit ones ≡ true) ⌝ }
     ensures { λ r. ⌜ r ≡ pos (10 * (tens - 48) + (ones - 48)) ⌝ }
 {
-    (10 * (tens - 48) + (ones - 48)) as i64
+    (10 * (tens - b'0') + (ones - b'0')) as i64
 }
 
-// Seconds stand only in a word of 7 bytes, and are 0 in one of 5.
+// Only a word of 7 bytes has seconds. They are 0 in one of 5.
 fn last_field(w: &[u8], by: Field) -> Integer
     ensures { λ r. ⌜ r ≡ lastField by (now (w .entry)) ⌝ }
 {
@@ -148,8 +150,16 @@ fn widened(n: Number) -> Integer
     }
 }
 
+// The one place that makes a time from an offset's fields.
+pub fn read_time(z: i64, f: Fields) -> Time
+    requires { ⌜ Small f ⌝ }
+    ensures { λ r. ⌜ r ≡ readTime z f ⌝ }
+{
+    Time::new(z, seconds_of(f))
+}
+
 // The sign turns the whole sum, not the hours alone.
-pub fn seconds_of(f: Fields) -> i32
+fn seconds_of(f: Fields) -> i32
     requires { ⌜ Small f ⌝ }
     ensures { λ r. ⌜ r ≡ offsetOf f ⌝ }
 {

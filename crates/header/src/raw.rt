@@ -2,8 +2,7 @@
 // minutes are those of a rule.
 ghost use mathlib.Core.Path.{_≡_};
 ghost use Rattle.header.specs.Raw.{rule1, limitsOf, allows as allowsOf, rawTime, rawOf};
-ghost use Rattle.header.specs.Offset.{AllSmall};
-ghost use Rattle.header.specs.Walk.{Opened};
+ghost use Rattle.header.specs.Held.{AllSmall, LeadsWithNumber};
 use crate::offset;
 use crate::offset::Field;
 use crate::offset::Fields;
@@ -12,9 +11,9 @@ use crate::walk;
 use crate::walk::Walked;
 use text::number::Integer;
 use text::number::LeadingInteger;
+use text::words;
 use time::Answer;
 use time::Refusal;
-use time::Time;
 
 // Which hours and which minutes are let through: `limitsOf` has the limits of each.
 enum Rule {
@@ -29,42 +28,44 @@ pub fn parse_raw(s: &[u8]) -> Answer
     parse_raw_by(s, Rule::One)
 }
 
-// A number alone, and the form that every commit has, are told right behind the number, as the header reader tells them.
+// A number alone, and the form that every commit has, are recognised as soon as the number ends, as the
+// header reader does.
 fn parse_raw_by(s: &[u8], rule: Rule) -> Answer
     ensures { λ r. ⌜ r ≡ rawOf (limitsOf rule) (now (s .entry)) ⌝ }
 {
     let opening = walk::open(s);
+    let number = opening.number;
     let end = opening.end;
     if end == s.len() {
-        return Answer::Refused(Refusal::Form);
+        return raw_time(rule, number, Parsed::NoOffset);
     }
     let usual = offset::usual_fields(s, end);
     let Parsed::Offset(f) = usual else {
         return parse_other(s, opening, rule);
     };
-    let seconds = opening.number;
-    raw_time(rule, seconds, Parsed::Offset(f))
+    raw_time(rule, number, Parsed::Offset(f))
 }
 
-// A text of any other form goes the whole walk. A `:` stands in no number and in no offset.
+// A text of any other form: all its words are read. A `:` needs no test here, since no number and no
+// offset holds one.
 fn parse_other(s: &[u8], opening: LeadingInteger, rule: Rule) -> Answer
-    requires { ⌜ Opened (now s) opening ⌝ }
+    requires { ⌜ LeadsWithNumber (now s) opening ⌝ }
     ensures { λ r. ⌜ r ≡ rawOf (limitsOf rule) (now (s .entry)) ⌝ }
 {
-    let walked = walk::walk(s, opening);
-    match walked {
-        Walked::NotAscii => Answer::Refused(Refusal::NotAscii),
-        Walked::Colon => Answer::Refused(Refusal::Form),
-        Walked::Words(first) => {
-            if first.whole {
-                let seconds = first.seconds;
-                let second = first.second;
-                let parsed = offset::parse_fields(text::words::within(s, second), Field::Byte);
-                return raw_time(rule, seconds, parsed);
-            }
-            Answer::Refused(Refusal::Form)
-        }
+    let walked = walk::read_words(s, opening);
+    let Walked::Words(first) = walked else {
+        return Answer::Refused(Refusal::NotAscii);
+    };
+    if first.whole {
+        let number = first.number;
+        let word = first.offset_word;
+        return raw_time(
+            rule,
+            number,
+            offset::parse_fields(words::within(s, word), Field::Byte),
+        );
     }
+    Answer::Refused(Refusal::Form)
 }
 
 // 2 unless both are read, and the rule lets the fields through.
@@ -79,7 +80,7 @@ fn raw_time(rule: Rule, n: Integer, p: Parsed) -> Answer
         return Answer::Refused(Refusal::Form);
     };
     if allows(rule, f) {
-        return Answer::Time(Time::new(z, offset::seconds_of(f)));
+        return Answer::Time(offset::read_time(z, f));
     }
     Answer::Refused(Refusal::Form)
 }

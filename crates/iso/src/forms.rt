@@ -1,5 +1,5 @@
-// The three forms of a trimmed text, and the fields that each reads, as numbers. The calendar is not asked here, and a text of no
-// form is told by its first eleven bytes.
+// The three forms of a trimmed text, and the fields that each reads, as numbers. The calendar is not needed here, and the first
+// eleven bytes show that a text has none of the forms.
 ghost use mathlib.Core.Path.{_≡_};
 ghost use mathlib.Core.Bool.{true};
 ghost use Prim.Native.Nat.{_≤_};

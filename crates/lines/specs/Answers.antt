@@ -25,7 +25,7 @@ answerBy Header t n = headerOf t
 answerBy Raw t n = rawOf rule1 t
 answerBy Iso t n = isoOf t
 answerBy Relative t n = relativeOf maxPairs t n
-answerBy Any t n = anyOf t n
+answerBy Any t n = anyOf rule1 t n
 
 -- a refusal prints its number, 0, 0
 abbrev pub rowAt : Answer → Row

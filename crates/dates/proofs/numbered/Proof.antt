@@ -8,12 +8,6 @@ use borrow.Author.Needs.{needs}
 use Rattle.dates.proofs.numbered.Statement.{statement}
 use Rattle.dates.proofs.numbered.Tie as tie
 
-enum-known-n : tie.Need-enum-known-n
-enum-known-n c = search needs
-
-enum-told : tie.Need-enum-told
-enum-told c = search needs
-
 returns : tie.Need-returns
 returns c = rw (c .enum-told .given .1)
 
@@ -21,9 +15,6 @@ returns-2 : tie.Need-returns-2
 returns-2 c = let start = c .before .before .before .before in
     let n = c .before .before in
     rw (n .n .given .1, leZ-false (lt-yes (held w64 (n .n .given .0 .0) (c .before .known-told .given .0 .1)) (param w64 (start .fits .least)) (c .if1 .taken)))
-
-new-requires : tie.Need-new-requires
-new-requires c κs = search needs
 
 returns-3 : tie.Need-returns-3
 returns-3 c = let start = c .before .before .before .before .before in
@@ -33,4 +24,11 @@ returns-3 c = let start = c .before .before .before .before .before in
 
 pub numbered-spec : {M : Type 1} → statement M
 numbered-spec =
-    tie.close (tie.spec enum-known-n enum-told returns returns-2 new-requires returns-3)
+    tie.close
+    (tie.spec
+    (λ c. search needs)
+    (λ c. search needs)
+    returns
+    returns-2
+    (λ c κs. search needs)
+    returns-3)

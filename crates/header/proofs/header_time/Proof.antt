@@ -1,7 +1,7 @@
 -- `header::header_time` meets its contract.
 -- Assumes nothing.
 use mathlib.Core.Path.{ap}
-use mir.Syntax.{w32, w64}
+use mir.Syntax.{w64}
 use Rattle.ints.proofs.Machine.{back}
 use Rattle.time.specs.declared.Answer.the-variants.{Time}
 use borrow.Author.Needs.{needs}
@@ -11,22 +11,21 @@ use Rattle.header.proofs.header_time.Tie as tie
 returns : tie.Need-returns
 returns c = rw (c .enum-told .given .1)
 
-seconds-of-requires : tie.Need-seconds-of-requires
-seconds-of-requires c κs = rw (c .before .p .given .1) at (c .before .before .before .before .before .before .pre)
+read-time-requires : tie.Need-read-time-requires
+read-time-requires c κs = rw (c .before .p .given .1) at (c .before .before .before .before .before .before .pre)
 
 returns-2 : tie.Need-returns-2
 returns-2 c =
-    let at-p = c .before .before .before in
+    let at-p = c .before .before in
     let at-z = at-p .before .before in
     let z = back w64 (at-z .before .n .given .0 .0) (at-z .known-told .given .0 .1) in
-    let o = back w32 (c .before .seconds-of .result) (c .before .seconds-of .ok) in
-    rw (at-z .before .n .given .1, at-p .p .given .1, ← c .before .seconds-of .ensures) (ap Time (rw (z, o) at (c .new .ensures)))
+    rw (at-z .before .n .given .1, at-p .p .given .1) (ap Time (rw z at (c .read-time .ensures)))
 
 returns-3 : tie.Need-returns-3
 returns-3 c =
-    let at-z = c .before .before .before in
+    let at-z = c .before .before .before .before in
     let z = back w64 (at-z .before .n .given .0 .0) (at-z .known-told .given .0 .1) in
-    rw (at-z .before .n .given .1, c .before .enum-told2 .given .1) (ap Time (rw z at (c .new2 .ensures)))
+    rw (at-z .before .n .given .1, c .before .before .enum-told2 .given .1, c .without-offset .ensures) (ap Time (rw z at (c .before .new .ensures)))
 
 pub header-time-spec : {M : Type 1} → statement M
 header-time-spec =
@@ -36,9 +35,9 @@ header-time-spec =
     (λ c. search needs)
     returns
     (λ c. search needs)
-    seconds-of-requires
-    (λ c κs. search needs)
+    read-time-requires
     (λ c. search needs)
+    (λ c κs. search needs)
     (λ c κs. search needs)
     returns-2
     returns-3)

@@ -4,7 +4,8 @@ use lib.IntN.{ℤ, pos, negsuc, _+ℤ_, _*ℤ_}
 use mir.Syntax.{w32, w64}
 use mir.Val.{toZ, ofZ}
 use Rattle.ints.proofs.Machine.{At, known, add, times, read, fits, negated}
-use Rattle.header.specs.Offset.{offsetOf, Small}
+use Rattle.header.specs.Offset.{offsetOf}
+use Rattle.header.specs.Held.{Small}
 use Rattle.header.specs.declared.offset.Fields.{Fields}
 use Rattle.header.proofs.offset.seconds_of.Statement.{statement}
 use Rattle.header.proofs.offset.seconds_of.Tie as tie

@@ -11,11 +11,11 @@ use mir.Syntax.{w64}
 use mir.Val.{toZ, ofZ, hbits}
 use borrow.Author.Needs.{needs}
 use Rattle.ints.proofs.Machine.{back}
+use Rattle.ints.proofs.Equals.{eqb-ofZ}
 use Rattle.header.specs.Raw.{rule1, allows as allowsOf, limitsOf}
 use Rattle.header.specs.declared.offset.Fields.{Fields}
 use Rattle.header.specs.declared.raw.Rule.{Rule}
 use Rattle.header.specs.declared.raw.Rule.the-variants.{One}
-use Rattle.header.proofs.Offsets.{eqb-ofZ}
 use Rattle.header.proofs.raw.allows.Statement.{statement}
 use Rattle.header.proofs.raw.allows.Tie as tie
 

@@ -8,8 +8,8 @@ use lib.Dec.{eqb}
 use lib.IntN.{ℤ, pos}
 use mir.Syntax.{w64}
 use mir.Val.{SFits, ofZ}
-use Rattle.header.specs.Raw.{eqZ}
-use Rattle.header.proofs.Offsets.{eqb-ofZ}
+use Rattle.ints.specs.Equal.{eqZ}
+use Rattle.ints.proofs.Equals.{eqb-ofZ}
 use Rattle.header.proofs.raw.is_quarter.Statement.{statement}
 use Rattle.header.proofs.raw.is_quarter.Tie as tie
 

@@ -1,7 +1,7 @@
 -- `header::raw::raw_time` meets its contract.
 -- Assumes nothing.
 use mathlib.Core.Path.{ap}
-use mir.Syntax.{w32, w64}
+use mir.Syntax.{w64}
 use Rattle.ints.proofs.Machine.{back}
 use Rattle.time.specs.declared.Answer.the-variants.{Time}
 use borrow.Author.Needs.{needs}
@@ -14,20 +14,18 @@ returns c = rw (c .enum-told .given .1)
 returns-2 : tie.Need-returns-2
 returns-2 c = rw (c .before .before .before .n .given .1, c .enum-told2 .given .1)
 
-seconds-of-requires : tie.Need-seconds-of-requires
-seconds-of-requires c κs =
+read-time-requires : tie.Need-read-time-requires
+read-time-requires c κs =
     let at-p = c .before .before .before in
     rw (at-p .p .given .1) at (at-p .before .before .before .before .before .pre)
 
 returns-3 : tie.Need-returns-3
 returns-3 c =
-    let at-allows = c .before .before .before in
+    let at-allows = c .before .before in
     let at-p = at-allows .before .before in
     let at-z = at-p .before .before in
     let z = back w64 (at-z .before .n .given .0 .0) (at-z .known-told .given .0 .1) in
-    let o = back w32 (c .before .seconds-of .result) (c .before .seconds-of .ok) in
-    rw (at-z .before .n .given .1, at-p .p .given .1, ← at-allows .allows .ensures, c .before .before .if1 .taken, ← c .before .seconds-of .ensures)
-    (ap Time (rw (z, o) at (c .new .ensures)))
+    rw (at-z .before .n .given .1, at-p .p .given .1, ← at-allows .allows .ensures, c .before .if1 .taken) (ap Time (rw z at (c .read-time .ensures)))
 
 -- outside the limits
 returns-4 : tie.Need-returns-4
@@ -46,7 +44,6 @@ raw-time-spec =
     (λ c. search needs)
     returns-2
     (λ c κs. search needs)
-    seconds-of-requires
-    (λ c κs. search needs)
+    read-time-requires
     returns-3
     returns-4)

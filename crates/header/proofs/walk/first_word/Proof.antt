@@ -4,7 +4,7 @@ use mathlib.Core.Path.{sym}
 use native.Mathlib.Omega.{arith}
 use Rattle.text.specs.Bytes.{isSpace}
 use Rattle.text.proofs.Runs.{past-of-false, past-of-length-le}
-use Rattle.header.proofs.Walking.{isSpace-of-lt}
+use Rattle.text.proofs.Plain.{isSpace-of-lt}
 use borrow.Author.Needs.{needs}
 use Rattle.header.proofs.walk.first_word.Statement.{statement}
 use Rattle.header.proofs.walk.first_word.Tie as tie

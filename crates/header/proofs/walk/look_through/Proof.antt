@@ -1,14 +1,12 @@
 -- `header::walk::look_through` meets its contract. The invariant: what was seen so far, with what is left, tells of the whole.
 -- Assumes nothing.
 use mathlib.Core.Path.{_≡_, refl, sym, ap, _∙_}
-use mathlib.Core.Bool.{Bool, true, _&&_, _||_, and-true, or-false, and-assoc, or-assoc}
-use mathlib.Core.List.{List}
-use Prim.Native.Nat.{ℕ, _-_, _+_, _≤_, _<_}
-use lib.Dec.{ltb}
-use lib.ListN.{length, drop, getD, drop-of-length-le}
+use mathlib.Core.Bool.{Bool, _&&_, _||_, and-true, or-false, and-assoc, or-assoc}
+use Prim.Native.Nat.{_-_}
+use lib.ListN.{length, drop}
 use Rattle.text.specs.Bytes.{ascii}
 use Rattle.text.specs.Places.{has}
-use Rattle.text.proofs.Lists.{drop-cons-add-one}
+use Rattle.text.proofs.Plain.{ascii-drop-cons, ascii-drop-nil}
 use Rattle.text.proofs.Runs.{has-drop-cons, has-drop-nil}
 use borrow.Author.Needs.{needs}
 use Rattle.header.proofs.walk.look_through.Statement.{statement}
@@ -20,27 +18,18 @@ Inv-loop s from ascii₀ colon₀ i₀ all colon i = (ascii (drop from s) ≡ (a
 abbrev μ-loop : tie.MeasureT-loop
 μ-loop s from ascii₀ colon₀ i₀ all colon i = length s - i
 
-module _ (s : List ℕ) (i : ℕ) where
-  ascii-here : i < length s → ascii (drop i s) ≡ (ltb (getD s i 0) 128 && ascii (drop (i + 1) s))
-  unfolding ascii
-  ascii-here h = rw (drop-cons-add-one s i h)
-
-  ascii-end : length s ≤ i → ascii (drop i s) ≡ true
-  unfolding ascii
-  ascii-end h = rw (drop-of-length-le s h)
-
 loop-again : tie.Need-loop-again Inv-loop μ-loop
 loop-again c =
     let at-test = c .before .before in
     let l = at-test .before .loop in (
-      l .inv .0 ∙ ap (λ (x : Bool). l .ascii && x) (ascii-here _ _ (at-test .loop-test .taken)) ∙ sym (and-assoc (l .ascii) _ _),
+      l .inv .0 ∙ ap (λ (x : Bool). l .ascii && x) (ascii-drop-cons _ _ (at-test .loop-test .taken)) ∙ sym (and-assoc (l .ascii) _ _),
       l .inv .1 ∙ ap (λ (x : Bool). l .colon || x) (has-drop-cons 58 _ _ (at-test .loop-test .taken)) ∙ sym (or-assoc (l .colon) _ _),
     )
 
 returns : tie.Need-returns Inv-loop μ-loop
 returns c =
     let l = c .before .loop in (
-      sym (l .inv .0 ∙ ap (λ (x : Bool). l .ascii && x) (ascii-end _ _ (c .loop-test .left)) ∙ and-true (l .ascii)),
+      sym (l .inv .0 ∙ ap (λ (x : Bool). l .ascii && x) (ascii-drop-nil _ _ (c .loop-test .left)) ∙ and-true (l .ascii)),
       sym (l .inv .1 ∙ ap (λ (x : Bool). l .colon || x) (has-drop-nil 58 _ _ (c .loop-test .left)) ∙ or-false (l .colon)),
     )
 

@@ -1,0 +1,2 @@
+-- What the entries for C take for a current time, and what they hand out.
+pub mod Entries

@@ -1,0 +1,157 @@
+// The entries that read and write times: each reader, each writer and `size`, on numbers and byte slices. A slice is passed as a
+// pointer and a length, a result as a pointer. They keep no pointer and no state.
+ghost use mathlib.Core.Path.{_≡_};
+ghost use Rattle.text.specs.Room.{roomAfter};
+ghost use Rattle.time.specs.Answers.{timeAt, isWritten};
+ghost use Rattle.time.specs.Header.{sizeOf, headerBytes, headerWritten};
+ghost use Rattle.time.specs.Iso.{isoBytes, isoWritten};
+ghost use Rattle.header.specs.Header.{headerOf};
+ghost use Rattle.header.specs.Raw.{rawOf, rule1};
+ghost use Rattle.iso.specs.Iso.{isoOf};
+ghost use Rattle.relative.specs.Relative.{maxPairs, relativeOf};
+ghost use Rattle.dates.specs.Any.{anyOf};
+ghost use Rattle.chowderbell.specs.Entries.{nowOf, HandedOut, HandedLength};
+use time::Answer;
+use time::Now;
+use time::Time;
+use time::Written;
+
+const SUCCESS: u8 = 0;
+
+#[no_mangle]
+pub extern "C" fn chowderbell_header(text: &[u8], seconds: &mut i64, offset: &mut i32) -> u8
+    ensures { λ r. ⌜ HandedOut (headerOf (now (text .entry))) r (now (seconds .exit)) (now (offset .exit)) ⌝ }
+{
+    hand_out(header::parse_header(text), seconds, offset)
+}
+
+#[no_mangle]
+pub extern "C" fn chowderbell_raw(text: &[u8], seconds: &mut i64, offset: &mut i32) -> u8
+    ensures { λ r. ⌜ HandedOut (rawOf rule1 (now (text .entry))) r (now (seconds .exit)) (now (offset .exit)) ⌝ }
+{
+    hand_out(header::raw::parse_raw(text), seconds, offset)
+}
+
+#[no_mangle]
+pub extern "C" fn chowderbell_iso(text: &[u8], seconds: &mut i64, offset: &mut i32) -> u8
+    ensures { λ r. ⌜ HandedOut (isoOf (now (text .entry))) r (now (seconds .exit)) (now (offset .exit)) ⌝ }
+{
+    hand_out(iso::parse_git_date_format(text), seconds, offset)
+}
+
+// The current time is missing where `has_now` is 0, and is the next two numbers otherwise.
+#[no_mangle]
+pub extern "C" fn chowderbell_relative(
+    text: &[u8],
+    has_now: u8,
+    now_seconds: i64,
+    now_offset: i32,
+    seconds: &mut i64,
+    offset: &mut i32,
+) -> u8
+    ensures { λ r. ⌜ HandedOut (relativeOf maxPairs (now (text .entry)) (nowOf «has_now» «now_seconds» «now_offset»)) r (now (seconds .exit)) (now (offset .exit)) ⌝ }
+{
+    hand_out(
+        relative::parse(text, now_of(has_now, now_seconds, now_offset)),
+        seconds,
+        offset,
+    )
+}
+
+#[no_mangle]
+pub extern "C" fn chowderbell_any(
+    text: &[u8],
+    has_now: u8,
+    now_seconds: i64,
+    now_offset: i32,
+    seconds: &mut i64,
+    offset: &mut i32,
+) -> u8
+    ensures { λ r. ⌜ HandedOut (anyOf rule1 (now (text .entry)) (nowOf «has_now» «now_seconds» «now_offset»)) r (now (seconds .exit)) (now (offset .exit)) ⌝ }
+{
+    hand_out(
+        dates::parse(text, now_of(has_now, now_seconds, now_offset)),
+        seconds,
+        offset,
+    )
+}
+
+#[no_mangle]
+pub extern "C" fn chowderbell_size(seconds: i64, offset: i32) -> usize
+    ensures { λ r. ⌜ r ≡ sizeOf seconds ⌝ }
+{
+    Time::new(seconds, offset).size()
+}
+
+#[no_mangle]
+pub extern "C" fn chowderbell_write_header(
+    seconds: i64,
+    offset: i32,
+    room: &mut [u8],
+    length: &mut usize,
+) -> u8
+    ensures length { λ r. ⌜ HandedLength (headerWritten (timeAt seconds offset) (now (room .entry))) r (now (length .exit)) ⌝ }
+    ensures room { λ _. ⌜ now (room .exit) ≡ roomAfter (isWritten (headerWritten (timeAt seconds offset) (now (room .entry)))) (headerBytes (timeAt seconds offset)) (now (room .entry)) ⌝ }
+{
+    let t = Time::new(seconds, offset);
+    hand_length(t.write_to(room), length)
+}
+
+#[no_mangle]
+pub extern "C" fn chowderbell_write_iso(
+    seconds: i64,
+    offset: i32,
+    room: &mut [u8],
+    length: &mut usize,
+) -> u8
+    ensures length { λ r. ⌜ HandedLength (isoWritten (timeAt seconds offset) (now (room .entry))) r (now (length .exit)) ⌝ }
+    ensures room { λ _. ⌜ now (room .exit) ≡ roomAfter (isWritten (isoWritten (timeAt seconds offset) (now (room .entry)))) (isoBytes (timeAt seconds offset)) (now (room .entry)) ⌝ }
+{
+    let t = Time::new(seconds, offset);
+    hand_length(t.write_iso(room), length)
+}
+
+fn now_of(has_now: u8, now_seconds: i64, now_offset: i32) -> Now
+    ensures { λ r. ⌜ r ≡ nowOf «has_now» «now_seconds» «now_offset» ⌝ }
+{
+    if has_now == 0 {
+        return Now::Missing;
+    }
+    Now::At(Time::new(now_seconds, now_offset))
+}
+
+// Returns the number of a reader's answer, and stores its time: 0 at offset 0 for a refusal.
+fn hand_out(a: Answer, seconds: &mut i64, offset: &mut i32) -> u8
+    ensures { λ r. ⌜ HandedOut a r (now (seconds .exit)) (now (offset .exit)) ⌝ }
+{
+    match a {
+        Answer::Time(t) => {
+            let s = t.seconds;
+            let o = t.offset;
+            *seconds = s;
+            *offset = o;
+            SUCCESS
+        }
+        Answer::Refused(r) => {
+            *seconds = 0;
+            *offset = 0;
+            time::number_of(r)
+        }
+    }
+}
+
+// Returns the number of a writer's answer, and stores its length: 0 for a refusal.
+fn hand_length(w: Written, length: &mut usize) -> u8
+    ensures { λ r. ⌜ HandedLength w r (now (length .exit)) ⌝ }
+{
+    match w {
+        Written::Length(n) => {
+            *length = n;
+            SUCCESS
+        }
+        Written::Refused(r) => {
+            *length = 0;
+            time::number_of(r)
+        }
+    }
+}

@@ -1,0 +1,120 @@
+-- The number of the first word, by the number that leads it: the same if white space or the end follows (`number64-firstWord`); with
+-- other bytes behind it, a header's unless it has a sign (`secondsOf-firstWord`).
+-- Assumes nothing.
+use mathlib.Core.Path.{_≡_, refl, sym, ap, _∙_}
+use mathlib.Core.Bool.{Bool, true, false, cond, not, _||_}
+use mathlib.Core.List.{List, []}
+use Prim.Native.Nat.{ℕ, suc, _+_, _≤_, _<_}
+use native.Mathlib.Omega.{arith}
+use native.Mathlib.Nat.{add-sub-cancel-left}
+use borrow.Author.Tests.{eqb-true, eqb-false, ne-eqb}
+use lib.Dec.{eqb}
+use lib.ListN.{length, take, drop, getD, drop-of-length-le}
+use lib.Seq.{take-all, take-take, length-take-le, drop-drop}
+use Rattle.text.specs.Bytes.{isSpace, isSign}
+use Rattle.text.specs.Places.{run, leading, no, past}
+use Rattle.text.specs.Number.{signedOf, fitSigned, numeral}
+use Rattle.text.specs.declared.number.Integer.{Integer}
+use Rattle.text.specs.declared.number.Integer.the-variants.{Is, NotOne}
+use Rattle.text.specs.declared.number.LeadingInteger.{LeadingInteger}
+use Rattle.text.proofs.Lists.{by-test, drop-cons-add-one}
+use Rattle.text.proofs.Runs.{run-le-length, run-drop}
+use Rattle.text.proofs.Taking.{getD-words-zero}
+use Rattle.text.proofs.Numbers.{signedOf-of-numeral-lt, numeral-of-digits, numeral-le-run, numeral-leading, isSign-leading}
+use Rattle.text.proofs.Digits.{leading-of-isSign}
+use Rattle.text.proofs.Plain.{no-space-of-isSign, no-space-of-isDigit}
+use Rattle.header.specs.Header.{number64, orElse, secondsOf}
+use Rattle.header.specs.Held.{endsAt, firstWord, LeadsWithNumber}
+
+orElse-NotOne : (i : Integer) → orElse i NotOne ≡ i
+orElse-NotOne (Is z) = refl
+orElse-NotOne NotOne = refl
+
+orElse-self : (i : Integer) → orElse i i ≡ i
+orElse-self (Is z) = refl
+orElse-self NotOne = refl
+
+pub number64-nil : number64 [] ≡ NotOne
+unfolding signedOf fitSigned
+number64-nil = refl
+
+-- ---- where a word ends
+module _ (s : List ℕ) (at : ℕ) where
+  pub endsAt-of-lt : at < length s → endsAt s at ≡ isSpace (getD s at 0)
+  unfolding endsAt run
+  endsAt-of-lt h = rw (drop-cons-add-one s at h) (by-test (isSpace (getD s at 0)) (λ e. rw e) (λ e. rw e (ne-eqb (suc (run (no isSpace) (drop (at + 1) s))) 0 (λ k. omega arith))))
+
+  pub endsAt-of-le : length s ≤ at → endsAt s at ≡ true
+  unfolding endsAt run
+  endsAt-of-le h = rw (drop-of-length-le s h)
+
+-- ---- of any word
+module _ (w : List ℕ) where
+  abbrev opening : Integer
+  opening = number64 (take (numeral w) w)
+
+  abbrev Wholly : Bool → Type 0
+  Wholly true = length w ≤ numeral w
+  Wholly false = numeral w < length w
+
+  number64-by : (whole : Bool) → Wholly whole → number64 w ≡ cond whole opening NotOne
+  unfolding fitSigned
+  number64-by true h = sym (ap number64 (take-all (numeral w) w h))
+  number64-by false h = rw (signedOf-of-numeral-lt w h)
+
+  secondsOf-by : (whole : Bool) → Wholly whole → secondsOf w ≡ cond (whole || not (isSign (getD w 0 0))) opening NotOne
+  unfolding secondsOf
+  secondsOf-by whole h =
+      by-test (isSign (getD w 0 0))
+      (λ e. rw (leading-of-isSign w e, number64-nil, orElse-NotOne (number64 w), e) (signed whole h))
+      (λ e. rw (← numeral-of-digits w e, number64-by whole h, e) (unsigned whole))
+    where
+      signed : (whole : Bool) → Wholly whole → number64 w ≡ cond (whole || false) opening NotOne
+      signed true k = number64-by true k
+      signed false k = number64-by false k
+
+      unsigned : (whole : Bool) → orElse (cond whole opening NotOne) opening ≡ cond (whole || true) opening NotOne
+      unsigned true = orElse-self opening
+      unsigned false = refl
+
+-- ---- of the first word
+module _ (s : List ℕ) (r : LeadingInteger) (l : LeadsWithNumber s r) where
+  abbrev first : ℕ
+  first = past isSpace s 0
+
+  abbrev word : List ℕ
+  word = leading (no isSpace) (drop first s)
+
+  firstWord-is : firstWord s ≡ word
+  unfolding past
+  firstWord-is = getD-words-zero isSpace s 0 ∙ rw (add-sub-cancel-left (past isSpace s 0))
+
+  le-run : numeral (drop first s) ≤ run (no isSpace) (drop first s)
+  le-run = numeral-le-run (no isSpace) no-space-of-isSign no-space-of-isDigit (drop first s)
+
+  numeral-is : numeral word ≡ numeral (drop first s)
+  numeral-is = numeral-leading (no isSpace) no-space-of-isSign no-space-of-isDigit (drop first s)
+
+  opening-is : opening word ≡ r .number
+  opening-is = ap number64 (rw numeral-is (take-take _ _ (drop first s) le-run)) ∙ sym (l .number-is)
+
+  signed-is : isSign (getD word 0 0) ≡ r .signed
+  signed-is = isSign-leading (no isSpace) no-space-of-isSign no-space-of-isDigit (drop first s) ∙ sym (l .signed-is)
+
+  abbrev behind : ℕ
+  behind = run (no isSpace) (drop (r .end) s)
+
+  wholly : Wholly word (eqb behind 0)
+  wholly =
+      let n : length word ≡ run (no isSpace) (drop first s) = length-take-le _ (drop first s) (run-le-length (no isSpace) (drop first s)) in
+      let m : numeral word ≡ numeral (drop first s) = numeral-is in
+      let k : numeral (drop first s) + behind ≡ run (no isSpace) (drop first s) = rw (l .end-is, ← drop-drop (numeral (drop first s)) first s) (run-drop (no isSpace) (numeral (drop first s)) (drop first s) le-run) in
+      by-test (eqb behind 0) (λ e. rw e (omega (arith, eqb-true behind 0 e))) (λ e. rw e (omega (arith, eqb-false behind 0 e)))
+
+  pub number64-firstWord : number64 (firstWord s) ≡ cond (endsAt s (r .end)) (r .number) NotOne
+  unfolding endsAt
+  number64-firstWord = rw (firstWord-is, ← opening-is) (number64-by word (eqb behind 0) wholly)
+
+  pub secondsOf-firstWord : secondsOf (firstWord s) ≡ cond (endsAt s (r .end) || not (r .signed)) (r .number) NotOne
+  unfolding endsAt
+  secondsOf-firstWord = rw (firstWord-is, ← opening-is, ← signed-is) (secondsOf-by word (eqb behind 0) wholly)

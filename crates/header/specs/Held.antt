@@ -1,0 +1,85 @@
+-- What the code holds on the way to an answer: fields that are small enough to add up, the number that a text's first word leads
+-- with, the form that every commit has, and what one pass over a text finds. Nothing here is needed to read what `parse_header` and
+-- `parse_raw` ensure.
+-- Assumes nothing.
+use Prim.Native.Nat.{ℕ, _+_, _^_}
+use Prim.Native.Char.{code}
+use mathlib.Core.Path.{_≡_}
+use mathlib.Core.Bool.{Bool, true, false, cond, _&&_}
+use mathlib.Core.List.{List, []}
+use lib.Dec.{eqb}
+use lib.IntN.{pos, negsuc}
+use lib.ListN.{length, getD, drop}
+use Rattle.ints.specs.Range.{In}
+use Rattle.text.specs.Bytes.{isSpace, isDigit, isSign, ascii}
+use Rattle.text.specs.Places.{run, no, past, has, part}
+use Rattle.text.specs.Words.{words}
+use Rattle.text.specs.Number.{LeadsWith}
+use Rattle.text.specs.declared.number.Integer.the-variants.{NotOne}
+use Rattle.text.specs.declared.number.LeadingInteger.{LeadingInteger}
+use Rattle.text.specs.declared.words.Span.{Span}
+use Rattle.header.specs.Offset.{onlyWord, fieldsOf}
+use Rattle.header.specs.Header.{number64, secondsOf}
+use Rattle.header.specs.declared.offset.Field.the-variants.{Byte}
+use Rattle.header.specs.declared.offset.Fields.{Fields}
+use Rattle.header.specs.declared.offset.Parsed.{Parsed}
+use Rattle.header.specs.declared.offset.Parsed.the-variants.{Offset, NoOffset}
+use Rattle.header.specs.declared.walk.First.{First}
+use Rattle.header.specs.declared.walk.Walked.{Walked}
+use Rattle.header.specs.declared.walk.Walked.the-variants.{Words, NotAscii}
+
+-- fields that are numbers of two bytes, so that they add up within 32 bits
+pub record Small (f : Fields) : Type 0 where
+  pub hours-in : In (negsuc 98) (pos 99) (f .hours)
+  pub minutes-in : In (negsuc 98) (pos 99) (f .minutes)
+  pub seconds-in : In (negsuc 98) (pos 99) (f .seconds)
+
+abbrev pub AllSmall : Parsed → Type 0
+AllSmall (Offset f) = Small f
+AllSmall NoOffset = Unit {0}
+
+-- the number that the first word leads with, and where it ends
+abbrev pub LeadsWithNumber : List ℕ → LeadingInteger → Type 0
+LeadsWithNumber s r = let first = past isSpace s 0 in LeadsWith (2 ^ 63) (drop first s) first r
+
+-- the tail that every commit's date has from a place on: a space, a sign, four digits, and nothing more
+unfoldable pub isUsual : List ℕ → ℕ → Bool
+isUsual s at =
+    let byte : ℕ → ℕ = λ i. getD s (at + i) 0 in
+    eqb (length s) (at + 6)
+    && (eqb (getD s at 0) (code " ") && isSign (byte 1) && (isDigit (byte 2) && isDigit (byte 3)) && (isDigit (byte 4) && isDigit (byte 5)))
+
+-- the fields in that tail
+unfoldable pub usualOf : List ℕ → ℕ → Parsed
+usualOf s at = cond (isUsual s at) (fieldsOf Byte (drop (at + 1) s)) NoOffset
+
+-- no word goes on at a place: white space or the end is there
+unfoldable pub endsAt : List ℕ → ℕ → Bool
+endsAt s at = eqb (run (no isSpace) (drop at s)) 0
+
+abbrev pub spanOf : ℕ → ℕ → Span
+spanOf start end = record { start = start; end = end }
+
+abbrev pub nowhere : Span
+nowhere = spanOf 0 0
+
+-- the first word, and the second where there is no third; the empty text if there is none, which is neither number nor offset
+abbrev pub firstWord : List ℕ → List ℕ
+firstWord s = getD (words isSpace s) 0 []
+
+abbrev pub secondWord : List ℕ → List ℕ
+secondWord s = onlyWord (drop 1 (words isSpace s))
+
+abbrev pub hasColon : List ℕ → Bool
+hasColon s = has (code ":") s
+
+-- what one pass finds. A `:` ends each scan, so where there is one the bounds of the second word are empty
+pub record FirstWords (s : List ℕ) (f : First) : Type 0 where
+  pub number-is : f .number ≡ secondsOf (firstWord s)
+  pub whole-is : cond (f .whole) (f .number) NotOne ≡ number64 (firstWord s)
+  pub colon-is : f .colon ≡ hasColon s
+  pub offset-is : part s (f .«offset_word») ≡ cond (f .colon) [] (secondWord s)
+
+abbrev pub WordsRead : List ℕ → Walked → Type 0
+WordsRead s (Words f) = (ascii s ≡ true) × FirstWords s f
+WordsRead s NotAscii = ascii s ≡ false
