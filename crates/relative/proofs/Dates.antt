@@ -1,6 +1,7 @@
--- Months earlier, as dates (RULES 12.4). In order: each month begins where the one before it ends (`monthStart-add-one`); the instant of
--- a date, which from year -10000 on is by the calendar's day number (`secondsAt-civilDay`); the date of a time in range exists, and gives
--- the time back (`date-of-a-time-exists`, `time-of-its-date`); the landing of a pair of months (`monthsEarlier-secondsAt`).
+-- Months earlier, as dates (RULES 12.4). In order: each month begins where the one before it ends (`monthStart-add-one`); the
+-- instant of a date, which from year -10000 on is by the calendar's day number (`secondsAt-civilDay`); the date of a time in
+-- range exists, and gives the time back (`date-of-a-time-exists`, `time-of-its-date`); the landing of a pair of months
+-- (`monthsEarlier-secondsAt`).
 -- Assumes nothing.
 use mathlib.Core.Path.{_≡_, sym, ap, _∙_}
 use mathlib.Core.Bool.{true, cond}

@@ -1,5 +1,6 @@
--- RULES 7.10: a step is refused by 6 exactly when its landing, computed on whole numbers, is out of range. RULES 12.4: a text of one
--- pair of months or years goes back exactly its count of months. The contracts of `parse` and `parse_with` carry both to the code.
+-- RULES 7.10: a step is refused by 6 exactly when its landing, computed on whole numbers, is out of range. RULES 12.4: a text of
+-- one pair of months or years goes back exactly its count of months. The contracts of `parse` and `parse_with` carry both to the
+-- code.
 -- Assumes nothing.
 use mathlib.Core.Path.{_≡_, refl, ap, _∙_}
 use mathlib.Core.Logic.{_↔_}

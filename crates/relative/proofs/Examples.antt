@@ -1,5 +1,5 @@
--- What the definitions answer, computed. In order: document 01's relative dates that are to be proved together; its other examples,
--- its sentences, texts that its words might be read in two ways, and texts of many pairs; months before month 0; texts that the
+-- What the definitions answer, computed. In order: the examples that RULES 11 marks P; its other examples, the sentences of RULES
+-- 7, texts that could be read in two ways (docs/DECISIONS.md), and texts of many pairs; months before month 0; texts that the
 -- theorems speak of.
 -- Assumes nothing.
 use Prim.Native.Nat.{ℕ, zero, suc, _+_, _-_, _*_}
@@ -32,13 +32,13 @@ use Rattle.relative.specs.declared.pair.Unit.the-variants.{Months}
 use Rattle.relative.specs.Examples.{read, at, may, marked}
 use Rattle.relative.specs.Relative.{maxPairs, from, namedOf, byPairs, relativeOf}
 
--- n times a text, and an end
+-- a text repeated n times, and an end
 abbrev times : ℕ → List ℕ → List ℕ → List ℕ
 times zero s e = e
 times (suc n) s e = s ++ times n s e
 
 abbrev many : ℕ → String → String → Now → Answer
-many n t e now = relativeOf maxPairs (times n (bytes t) (bytes e)) now
+many n t e current = relativeOf maxPairs (times n (bytes t) (bytes e)) current
 
 pub marked-examples : AllRight marked
 unfolding relativeOf byPairs namedOf from steps step landed landing monthsEarlier monthStart timeInRange secondsInRange offsetInRange pairsFrom agoFrom known unitOf unitNamed singular countOf spelled wordsOf isAlphanumeric ascii sameLetters trim trimEnd trimStart isSpace lowerOf words full pieces fit digitsOf readFrom isDigit monthOf yearOf spanOf monthLength firstDay yearStart yearLength total lengths leap
@@ -46,12 +46,12 @@ marked-examples = (refl, (refl, (refl, (refl, (refl, (refl, (refl, (refl, tt))))
 
 abbrev others : List Row
 others =
-    -- document 01's other examples
+    -- RULES 11, the other examples
     reads (read (negsuc 377705023200) "0 seconds") (at (negsuc 377705023200)) ∷
     reads (read (negsuc 377705023200) "1 second") (Refused Range) ∷
     reads (read (pos 1698400800) "2 minutes ago") (at (pos 1698400680)) ∷
     reads (relativeOf maxPairs (bytes "now") Missing) (Refused NoCurrent) ∷
-    -- the sentences of "Reading relative dates" in turn
+    -- RULES 7, its sentences in turn
     reads (read may " ToDay\n") (at (pos 1622462400)) ∷
     reads (read may "YESTERDAY") (at (pos 1622376000)) ∷
     reads (read may "Ten WEEKS, one hour") (at (pos 1616410800)) ∷
@@ -67,7 +67,7 @@ others =
     reads (relativeOf maxPairs (bytes "1 day") (At (timeAt (pos 0) (pos 93600)))) (Refused Current) ∷
     -- L1: digits of any length whose value fits
     reads (read may "0000000000000000000000000000005 days") (at (pos 1622030400)) ∷
-    -- L2: `-` parts words
+    -- L2: `-` separates words
     reads (read may "-5 days") (at (pos 1622030400)) ∷
     -- L3: the mark may come first
     reads (read may "ago 5 x") (at (pos 1622462395)) ∷
@@ -135,4 +135,4 @@ two-years = record { plain = refl; pair = refl }
 
 weeks-and-day : Whole (bytes "2 weeks and 1 day")
 unfolding ascii wordsOf isAlphanumeric words full pieces pairsFrom waitsFrom known sameLetters lowerOf countOf spelled fit digitsOf readFrom isDigit unitOf unitNamed singular
-weeks-and-day = record { plain = refl; some = omega arith; told = refl; ended = refl }
+weeks-and-day = record { plain = refl; some = omega arith; units-known = refl; ended = refl }

@@ -1,5 +1,6 @@
--- RULES 12.4: the local date and clock of a time, the date some months earlier, and the instant of a date. Months are counted from
--- January of year -10000, as in the calendar, and those before it are below 0: so a date may lie as far back as a count leads.
+-- RULES 12.4: the local date and clock of a time, the date some months earlier, and the instant of a date. Months are counted
+-- from January of year -10000, as in the calendar, and those before it are below 0: so a date may lie as far back as a count
+-- leads.
 -- Assumes nothing.
 use Prim.Native.Nat.{ℕ, _+_, _-_, _/_, _%_}
 use mathlib.Core.Path.{_≡_}
