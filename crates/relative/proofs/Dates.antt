@@ -75,7 +75,7 @@ unfolding secondsAt
 secondsAt-dayOfMonth (pos m) k clock o = rw (monthAt-dayOfMonth (pos m) k)
 secondsAt-dayOfMonth (negsuc m) k clock o = rw (monthAt-dayOfMonth (negsuc m) k)
 
--- from year -10000 on it goes by the calendar's day of the date
+-- from year -10000 on it is by the calendar's day number of the date
 pub secondsAt-civilDay : (c : Civil) (clock : ℕ) (o : ℤ) → negsuc 9999 ≤ℤ c .year → secondsAt c clock o ≡ civilDay c *ℤ pos 86400 +ℤ pos clock -ℤ o
 unfolding secondsAt civilDay monthStart
 secondsAt-civilDay c clock o h =
@@ -98,7 +98,7 @@ module _ (x : Time) (e : timeInRange x ≡ true) where
   unfolding timeInRange offsetInRange
   offset-in = In-of-isIn leastOffset mostOffset (x .offset) (both (secondsInRange (x .seconds)) (offsetInRange (x .offset)) e .1)
 
-  -- its local clock is not below 0: nothing of it is lost as a number from 0
+  -- its local time, counted from day 0, is not below 0, so `localSeconds` loses nothing
   pos-localSeconds : pos (localSeconds x) ≡ x .seconds +ℤ x .offset +ℤ pos 377736739200
   pos-localSeconds =
       pos-natAbs-add 377736739200 (x .seconds +ℤ x .offset) (omega (ints, seconds-in .low, offset-in .low, add-parts (x .seconds) (x .offset)))
@@ -140,7 +140,7 @@ secondsAt-runOn m k clock o =
     let f : a +ℤ pos n +ℤ pos (k + 1 - n - 1) ≡ a +ℤ pos k = parts-eq _ _ (omega (arith, add-parts (a +ℤ pos n) (pos (k + 1 - n - 1)), add-parts a (pos n), add-parts a (pos k))) in
     rw (e, secondsAt-dayOfMonth (m +ℤ pos 1) (k + 1 - n) clock o, monthStart-add-one m, f))
 
--- the exact landing of n months is the instant of the date n months earlier, with clock and offset kept
+-- the landing of n months is the instant of the date n months earlier, at the same clock and offset
 pub monthsEarlier-secondsAt : (x : Time) (n : ℕ) → monthsEarlier x n ≡ secondsAt (earlierDate (dateAt x) n) (clockAt x) (x .offset)
 unfolding monthsEarlier earlierDate
 monthsEarlier-secondsAt x n =
