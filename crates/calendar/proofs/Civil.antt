@@ -53,7 +53,7 @@ pub civilDate-sub : (d : ℕ) → civilDate (pos d -ℤ pos 4371953) ≡ civilAt
 unfolding civilDate
 civilDate-sub d = ap civilAt (natAbs-sub-add d 4371953)
 
-pub monthCount-civilAt : (d : ℕ) → monthCount (civilAt d) ≡ monthOf d
+monthCount-civilAt : (d : ℕ) → monthCount (civilAt d) ≡ monthOf d
 monthCount-civilAt d = omega (arith, natAbs-sub-add (monthOf d / 12) 10000)
 
 pub civilDay-civilAt : (d : ℕ) → civilDay (civilAt d) ≡ pos d -ℤ pos 4371953

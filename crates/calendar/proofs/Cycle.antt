@@ -121,7 +121,7 @@ firstDay-upper m =
 
 -- ---- order
 
-pub firstDay-lt : (m n : ℕ) → m < n → firstDay m < firstDay n
+firstDay-lt : (m n : ℕ) → m < n → firstDay m < firstDay n
 firstDay-lt m n h = omega (arith, firstDay-lower n, firstDay-upper m)
 
 pub firstDay-le : (m n : ℕ) → m ≤ n → firstDay m ≤ firstDay n

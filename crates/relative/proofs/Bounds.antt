@@ -1,4 +1,4 @@
--- Two bounds of pairs: whatever the smaller one answered is answered alike by the larger, 5 excepted.
+-- Two bounds on the number of pairs: the larger one answers as the smaller one does, unless the smaller one answers 5.
 -- Assumes nothing.
 use mathlib.Core.Path.{_≡_, refl}
 use mathlib.Core.Logic.{_⊎_, inl, inr}
@@ -19,19 +19,19 @@ use Rattle.time.specs.declared.Answer.the-variants.{Refused}
 use Rattle.relative.specs.Pairs.{pairsOf, agoIn, known}
 use Rattle.relative.specs.Relative.{namedOf, byPairs, byName, relativeOf}
 
-byPairs-bounds : (a b : ℕ) (s : List ℕ) (now : Now) → a ≤ b → (byPairs b s now ≡ byPairs a s now) ⊎ (byPairs a s now ≡ Refused Pairs)
+byPairs-bounds : (a b : ℕ) (s : List ℕ) (current : Now) → a ≤ b → (byPairs b s current ≡ byPairs a s current) ⊎ (byPairs a s current ≡ Refused Pairs)
 unfolding byPairs
-byPairs-bounds a b s now h =
+byPairs-bounds a b s current h =
     let ps = pairsOf s in
     by-test (not (ltb 0 (length ps) && (known ps || agoIn s))) (λ e. inl (rw e))
     (λ e. by-test (leb (length ps) a)
     (λ l. let m : length ps ≤ a = leb-true (length ps) a l in inl (rw (e, l, le-leb (length ps) b (omega arith))))
     (λ l. inr (rw (e, l))))
 
-byName-bounds : (x : Number) (a b : ℕ) (s : List ℕ) (now : Now) → a ≤ b → (byName x b s now ≡ byName x a s now) ⊎ (byName x a s now ≡ Refused Pairs)
-byName-bounds (Value k) a b s now h = inl refl
-byName-bounds Not a b s now h = byPairs-bounds a b s now h
+byName-bounds : (x : Number) (a b : ℕ) (s : List ℕ) (current : Now) → a ≤ b → (byName x b s current ≡ byName x a s current) ⊎ (byName x a s current ≡ Refused Pairs)
+byName-bounds (Value k) a b s current h = inl refl
+byName-bounds Not a b s current h = byPairs-bounds a b s current h
 
-pub larger-bound-answers-alike : (a b : ℕ) (s : List ℕ) (now : Now) → a ≤ b → (relativeOf b s now ≡ relativeOf a s now) ⊎ (relativeOf a s now ≡ Refused Pairs)
+pub larger-bound-answers-alike : (a b : ℕ) (s : List ℕ) (current : Now) → a ≤ b → (relativeOf b s current ≡ relativeOf a s current) ⊎ (relativeOf a s current ≡ Refused Pairs)
 unfolding relativeOf
-larger-bound-answers-alike a b s now h = by-test (ascii s) (λ e. rw e (byName-bounds (namedOf s) a b s now h)) (λ e. inl (rw e))
+larger-bound-answers-alike a b s current h = by-test (ascii s) (λ e. rw e (byName-bounds (namedOf s) a b s current h)) (λ e. inl (rw e))

@@ -1,5 +1,5 @@
--- What is digits is no name: none of `one` to `ten` and `last` opens with a digit. So it is the same whether digits or names are
--- tried first.
+-- Digits are not one of the names: none of `one` to `ten` and `last` begins with a digit. So it makes no difference whether
+-- digits or names are tried first.
 -- Assumes nothing.
 use mathlib.Core.Path.{_≡_}
 use mathlib.Core.Bool.{true, false}
@@ -40,7 +40,7 @@ module _ (b : ℕ) (w : List ℕ) (d : isDigit b ≡ true) where
         not-same (code "l") (bytes "ast") (omega arith),
       )
 
--- so of what is digits nothing else is asked
+-- so a text of digits is not looked up among the names
 pub spelled-of-digits : (limit n : ℕ) (w : List ℕ) (x : Number) → fit limit (digitsOf w) ≡ Value n → spelled w x ≡ x
 unfolding digitsOf
 spelled-of-digits limit n [] x h = let z : _≡_ {A = ℕ} 0 1 = cc (fit-value limit n Not h) in absurd (omega arith)

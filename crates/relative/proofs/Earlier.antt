@@ -1,20 +1,17 @@
--- Demand 3, months: a step is refused exactly where its landing on whole numbers is out of range; a text of one pair of months or
--- years goes back so many months in the calendar's own words. The contracts of `parse` and `parse_with` carry both to the code.
+-- RULES 7.10: a step is refused by 6 exactly when its landing, computed on whole numbers, is out of range. RULES 12.4: a text of
+-- one pair of months or years goes back exactly its count of months. The contracts of `parse` and `parse_with` carry both to the
+-- code.
 -- Assumes nothing.
-use mathlib.Core.Path.{_≡_, refl, sym, ap, _∙_, subst}
-use mathlib.Core.Logic.{_↔_, _⊎_, inl, inr, ⊎-elim}
+use mathlib.Core.Path.{_≡_, refl, ap, _∙_}
+use mathlib.Core.Logic.{_↔_}
 use mathlib.Core.Bool.{true, false}
 use mathlib.Core.List.{List}
-use Prim.Native.Nat.{ℕ, _*_, _/_, _≤_, _<_}
+use Prim.Native.Nat.{ℕ, _*_, _≤_, _<_}
 use native.Mathlib.Nat.{mul-one}
 use native.Mathlib.Omega.{arith}
-use borrow.Author.Tests.{leb-true, leb-false}
-use lib.Dec.{leb}
 use lib.IntN.{ℤ}
 use lib.ListN.{length}
 use Rattle.text.proofs.Lists.{by-test}
-use Rattle.calendar.specs.Calendar.{monthOf}
-use Rattle.calendar.specs.Civil.{monthCount}
 use Rattle.time.specs.Answers.{timeAt}
 use Rattle.time.specs.Range.{secondsInRange, timeInRange}
 use Rattle.time.specs.declared.Time.{Time}
@@ -22,18 +19,18 @@ use Rattle.time.specs.declared.Now.the-variants.{At}
 use Rattle.time.specs.declared.Refusal.the-variants.{Range}
 use Rattle.time.specs.declared.Answer.the-variants.{Time as Answered, Refused}
 use Rattle.relative.specs.Pairs.{pairsOf, agoIn, isKnown, known}
-use Rattle.relative.specs.Steps.{localSeconds, monthsEarlier, landing, landed, step, steps}
+use Rattle.relative.specs.Steps.{landing, landed, step, steps}
 use Rattle.relative.specs.Relative.{from, relativeOf}
-use Rattle.relative.specs.Months.{dateAt, clockAt, earlierDate, secondsAt, Earlier, OnePair}
+use Rattle.relative.specs.Months.{dateAt, clockAt, earlierDate, secondsAt, OnePair}
 use Rattle.relative.specs.declared.pair.Unit.{Unit}
 use Rattle.relative.specs.declared.pair.Unit.the-variants.{Months}
 use Rattle.relative.specs.declared.pair.Pair.{Pair}
 use Rattle.relative.proofs.Named.{relativeOf-of-pairs}
-use Rattle.relative.proofs.Dates.{landed-of-monthOf-lt, Earlier-landing, monthsEarlier-secondsAt, monthCount-dateAt}
+use Rattle.relative.proofs.Dates.{monthsEarlier-secondsAt}
 use Rattle.relative.proofs.Joining.{known-or}
 
 -- ---- one step
--- a step is refused exactly when the landing on whole numbers is out of range, and otherwise is there
+-- a landing is refused exactly when it is out of range, and otherwise is the answer
 landed-refused : (z o : ℤ) → (landed z o ≡ Refused Range) ↔ (secondsInRange z ≡ false)
 unfolding landed
 landed-refused z o = (
@@ -58,8 +55,8 @@ step-lands-exactly p x y = landed-answered (landing x (p .count) (p .unit)) (x .
 
 -- ---- a text of one pair
 module _ (bound : ℕ) (l : 1 ≤ bound) (s : List ℕ) (n : ℕ) (x : Time) (c : timeInRange x ≡ true) where
-  -- it answers where it lands, or is refused as out of range, and nothing else
-  pub one-pair-lands-exactly : (u : Unit) → isKnown u ≡ true → OnePair s n u → relativeOf bound s (At x) ≡ landed (landing x n u) (x .offset)
+  -- its answer is its landing, or 6 if that is out of range: no other refusal is possible
+  one-pair-lands-exactly : (u : Unit) → isKnown u ≡ true → OnePair s n u → relativeOf bound s (At x) ≡ landed (landing x n u) (x .offset)
   unfolding known from steps step
   one-pair-lands-exactly u k p =
       let some : 0 < length (pairsOf s) = rw (p .pair) (omega arith) in
@@ -67,47 +64,14 @@ module _ (bound : ℕ) (l : 1 ≤ bound) (s : List ℕ) (n : ℕ) (x : Time) (c 
       let few : length (pairsOf s) ≤ bound = rw (p .pair) l in
       relativeOf-of-pairs bound s (At x) (p .plain) some (known-or (known (pairsOf s)) (agoIn s) all) few ∙ rw (p .pair, c)
 
-  -- n times k months
-  months-answered : (k : ℕ) → OnePair s n (Months k) → (y : Time) → relativeOf bound s (At x) ≡ Answered y → Earlier x (n * k) y
+  months-land : (k : ℕ) → OnePair s n (Months k) → relativeOf bound s (At x) ≡ landed (secondsAt (earlierDate (dateAt x) (n * k)) (clockAt x) (x .offset)) (x .offset)
   unfolding landing
-  months-answered k p y e =
-      let f : landed (monthsEarlier x (n * k)) (x .offset) ≡ Answered y = sym (one-pair-lands-exactly (Months k) refl p) ∙ e in
-      by-test (leb (n * k) (monthOf (localSeconds x / 86400)))
-      (λ h. subst (Earlier x (n * k)) (landed-answered (monthsEarlier x (n * k)) (x .offset) y f) (Earlier-landing x (n * k) (leb-true (n * k) (monthOf (localSeconds x / 86400)) h)))
-      (λ h.
-      let g = landed-of-monthOf-lt x (n * k) (x .offset) c (leb-false (n * k) (monthOf (localSeconds x / 86400)) h) in
-      let z : _≡_ {A = ℕ} 0 1 = cc in absurd (omega arith))
+  months-land k p = one-pair-lands-exactly (Months k) refl p ∙ ap (λ (z : ℤ). landed z (x .offset)) (monthsEarlier-secondsAt x (n * k))
 
-  months-refused : (k : ℕ) → OnePair s n (Months k)
-      → (relativeOf bound s (At x) ≡ Refused Range) ↔ ((monthCount (dateAt x) < n * k) ⊎ (secondsInRange (secondsAt (earlierDate (dateAt x) (n * k)) (clockAt x) (x .offset)) ≡ false))
-  unfolding landing
-  months-refused k p =
-      rw (one-pair-lands-exactly (Months k) refl p, monthCount-dateAt x)
-      (by-test (leb (n * k) (monthOf (localSeconds x / 86400)))
-      (λ h.
-      let m : n * k ≤ monthOf (localSeconds x / 86400) = leb-true (n * k) (monthOf (localSeconds x / 86400)) h in
-      let r = landed-refused (monthsEarlier x (n * k)) (x .offset) in
-      let q = monthsEarlier-secondsAt x (n * k) m in (
-        (λ e. inr (rw q at (r .0 e))),
-        ⊎-elim (λ f. absurd (omega arith)) (λ f. r .1 (ap secondsInRange q ∙ f)),
-      ))
-      (λ h.
-      let m = leb-false (n * k) (monthOf (localSeconds x / 86400)) h in
-      ((λ e. inl m), (λ e. landed-of-monthOf-lt x (n * k) (x .offset) c m))))
+  -- of n months: the instant of the date n months earlier, at the same clock and offset, if it is in range, and else 6
+  pub relative-months : OnePair s n (Months 1) → relativeOf bound s (At x) ≡ landed (secondsAt (earlierDate (dateAt x) n) (clockAt x) (x .offset)) (x .offset)
+  relative-months p = rw mul-one at (months-land 1 p)
 
-  -- a text of one pair of n months goes back n months in the calendar's own words, with clock and offset kept
-  pub relative-months : OnePair s n (Months 1) → (y : Time) → relativeOf bound s (At x) ≡ Answered y → Earlier x n y
-  relative-months p y e = rw mul-one at (months-answered 1 p y e)
-
-  -- and is refused exactly if that instant is out of range (or lies before year -10000)
-  pub relative-months-refused : OnePair s n (Months 1)
-      → (relativeOf bound s (At x) ≡ Refused Range) ↔ ((monthCount (dateAt x) < n) ⊎ (secondsInRange (secondsAt (earlierDate (dateAt x) n) (clockAt x) (x .offset)) ≡ false))
-  relative-months-refused p = rw mul-one at (months-refused 1 p)
-
-  -- of n years, 12 n months
-  pub relative-years : OnePair s n (Months 12) → (y : Time) → relativeOf bound s (At x) ≡ Answered y → Earlier x (n * 12) y
-  relative-years = months-answered 12
-
-  pub relative-years-refused : OnePair s n (Months 12)
-      → (relativeOf bound s (At x) ≡ Refused Range) ↔ ((monthCount (dateAt x) < n * 12) ⊎ (secondsInRange (secondsAt (earlierDate (dateAt x) (n * 12)) (clockAt x) (x .offset)) ≡ false))
-  relative-years-refused = months-refused 12
+  -- of n years: the same of 12 n months
+  pub relative-years : OnePair s n (Months 12) → relativeOf bound s (At x) ≡ landed (secondsAt (earlierDate (dateAt x) (n * 12)) (clockAt x) (x .offset)) (x .offset)
+  relative-years = months-land 12

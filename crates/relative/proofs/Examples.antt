@@ -1,5 +1,5 @@
--- What the definitions answer, computed. In order: document 01's relative dates that are to be proved together; its other examples,
--- its sentences, texts that its words might be read in two ways, and texts of many pairs; months before month 0; texts that the
+-- What the definitions answer, computed. In order: the examples that RULES 11 marks P; its other examples, the sentences of RULES
+-- 7, texts that could be read in two ways (docs/DECISIONS.md), and texts of many pairs; months before month 0; texts that the
 -- theorems speak of.
 -- Assumes nothing.
 use Prim.Native.Nat.{ℕ, zero, suc, _+_, _-_, _*_}
@@ -7,13 +7,14 @@ use Prim.Native.String.{String}
 use mathlib.Core.Path.{_≡_, refl}
 use mathlib.Core.List.{List, [], _∷_, _++_}
 use native.Mathlib.Omega.{arith}
-use lib.IntN.{pos, negsuc}
+use lib.IntN.{ℤ, pos, negsuc}
 use Rattle.text.specs.Bytes.{isSpace, isDigit, isAlphanumeric, lowerOf, ascii, sameLetters}
 use Rattle.text.specs.Trim.{trim, trimEnd, trimStart}
 use Rattle.text.specs.Words.{words, pieces, full}
 use Rattle.text.specs.Number.{digitsOf, readFrom, fit}
 use Rattle.text.specs.Quote.{bytes}
 use Rattle.calendar.specs.Calendar.{leap, lengths, monthLength, yearLength, yearStart, total, firstDay, spanOf, yearOf, monthOf}
+use Rattle.calendar.specs.Civil.{Civil}
 use Rattle.time.specs.Answers.{timeAt}
 use Rattle.time.specs.Rows.{Row, reads, AllRight}
 use Rattle.time.specs.Range.{secondsInRange, offsetInRange, timeInRange}
@@ -26,18 +27,18 @@ use Rattle.relative.specs.Words.{wordsOf, spelled, countOf, singular, un
 use Rattle.relative.specs.Pairs.{pairsFrom, agoFrom, known}
 use Rattle.relative.specs.Steps.{monthStart, monthsEarlier, landing, landed, step, steps}
 use Rattle.relative.specs.Joined.{waitsFrom, Whole}
-use Rattle.relative.specs.Months.{OnePair}
+use Rattle.relative.specs.Months.{monthDays, earlierDate, OnePair}
 use Rattle.relative.specs.declared.pair.Unit.the-variants.{Months}
 use Rattle.relative.specs.Examples.{read, at, may, marked}
 use Rattle.relative.specs.Relative.{maxPairs, from, namedOf, byPairs, relativeOf}
 
--- n times a text, and an end
+-- a text repeated n times, and an end
 abbrev times : ℕ → List ℕ → List ℕ → List ℕ
 times zero s e = e
 times (suc n) s e = s ++ times n s e
 
 abbrev many : ℕ → String → String → Now → Answer
-many n t e now = relativeOf maxPairs (times n (bytes t) (bytes e)) now
+many n t e current = relativeOf maxPairs (times n (bytes t) (bytes e)) current
 
 pub marked-examples : AllRight marked
 unfolding relativeOf byPairs namedOf from steps step landed landing monthsEarlier monthStart timeInRange secondsInRange offsetInRange pairsFrom agoFrom known unitOf unitNamed singular countOf spelled wordsOf isAlphanumeric ascii sameLetters trim trimEnd trimStart isSpace lowerOf words full pieces fit digitsOf readFrom isDigit monthOf yearOf spanOf monthLength firstDay yearStart yearLength total lengths leap
@@ -45,12 +46,12 @@ marked-examples = (refl, (refl, (refl, (refl, (refl, (refl, (refl, (refl, tt))))
 
 abbrev others : List Row
 others =
-    -- document 01's other examples
+    -- RULES 11, the other examples
     reads (read (negsuc 377705023200) "0 seconds") (at (negsuc 377705023200)) ∷
     reads (read (negsuc 377705023200) "1 second") (Refused Range) ∷
     reads (read (pos 1698400800) "2 minutes ago") (at (pos 1698400680)) ∷
     reads (relativeOf maxPairs (bytes "now") Missing) (Refused NoCurrent) ∷
-    -- the sentences of "Reading relative dates" in turn
+    -- RULES 7, its sentences in turn
     reads (read may " ToDay\n") (at (pos 1622462400)) ∷
     reads (read may "YESTERDAY") (at (pos 1622376000)) ∷
     reads (read may "Ten WEEKS, one hour") (at (pos 1616410800)) ∷
@@ -66,7 +67,7 @@ others =
     reads (relativeOf maxPairs (bytes "1 day") (At (timeAt (pos 0) (pos 93600)))) (Refused Current) ∷
     -- L1: digits of any length whose value fits
     reads (read may "0000000000000000000000000000005 days") (at (pos 1622030400)) ∷
-    -- L2: `-` parts words
+    -- L2: `-` separates words
     reads (read may "-5 days") (at (pos 1622030400)) ∷
     -- L3: the mark may come first
     reads (read may "ago 5 x") (at (pos 1622462395)) ∷
@@ -113,6 +114,16 @@ months-below-0 : (monthStart (negsuc 0) ≡ negsuc 30) × (monthStart (negsuc 47
 unfolding monthStart firstDay yearStart yearLength total lengths leap
 months-below-0 = (refl, refl)
 
+-- dates some months earlier: 31 May 2021, 29 February 2020, and 31 January of year -10000, whose month before is below 0
+abbrev on : ℤ → ℕ → ℕ → Civil
+on y m k = record { year = y; month = m; day = k }
+
+dates-earlier : (earlierDate (on (pos 2021) 5 31) 1 ≡ on (pos 2021) 5 1)
+    × (earlierDate (on (pos 2020) 2 29) 12 ≡ on (pos 2019) 3 1)
+    × (earlierDate (on (negsuc 9999) 1 31) 2 ≡ on (negsuc 10000) 12 1)
+unfolding earlierDate monthDays monthLength lengths leap
+dates-earlier = (refl, refl, refl)
+
 -- ---- texts that the theorems speak of
 three-months : OnePair (bytes "3 months ago") 3 (Months 1)
 unfolding ascii wordsOf isAlphanumeric words full pieces pairsFrom sameLetters lowerOf countOf spelled fit digitsOf readFrom isDigit unitOf unitNamed singular
@@ -124,4 +135,4 @@ two-years = record { plain = refl; pair = refl }
 
 weeks-and-day : Whole (bytes "2 weeks and 1 day")
 unfolding ascii wordsOf isAlphanumeric words full pieces pairsFrom waitsFrom known sameLetters lowerOf countOf spelled fit digitsOf readFrom isDigit unitOf unitNamed singular
-weeks-and-day = record { plain = refl; some = omega arith; told = refl; ended = refl }
+weeks-and-day = record { plain = refl; some = omega arith; units-known = refl; ended = refl }

@@ -1,4 +1,4 @@
--- Pairs held as two lists of numbers: one more of them stored, one more of them applied.
+-- Pairs held as two lists of numbers: storing one more pair, and applying one more.
 -- Assumes nothing.
 use mathlib.Core.Path.{_≡_, refl, ap, sym, _∙_}
 use mathlib.Core.Bool.{Bool, false, _&&_}
@@ -27,12 +27,12 @@ use Rattle.relative.specs.declared.pair.Unit.the-variants.{Seconds, Mont
 use Rattle.relative.specs.declared.pair.Pair.{Pair}
 use Rattle.relative.proofs.Scanning.{Scanned, stored}
 
--- ---- the pairs that a text may have fit the places: this fact alone ties the store to the bound
+-- ---- there is room for all pairs that a text may have: only this fact relates the arrays to the bound
 pub maxPairs-le-places : maxPairs ≤ places
 maxPairs-le-places = omega arith
 
 -- ---- a unit as a number
-pub unitAt-codeOf : (u : PairUnit) → Coded u → unitAt (codeOf u) ≡ u
+unitAt-codeOf : (u : PairUnit) → Coded u → unitAt (codeOf u) ≡ u
 unfolding unitAt codeOf
 unitAt-codeOf (Seconds k) h = rw (ne-eqb k 0 (λ e. omega arith), le-leb k 1000000 (h .1))
 unitAt-codeOf (Months k) h =
@@ -40,7 +40,7 @@ unitAt-codeOf (Months k) h =
     rw (ne-eqb (k + 1000000) 0 (λ f. omega arith), lt-leb (k + 1000000) 1000000 (omega arith), e)
 unitAt-codeOf Unknown h = refl
 
--- of a word
+-- every unit that a word can name
 abbrev AllCoded : List (String × PairUnit) → Type 0
 AllCoded [] = Unit {0}
 AllCoded (n ∷ ns) = Coded (n .1) × AllCoded ns

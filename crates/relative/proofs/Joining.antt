@@ -1,11 +1,12 @@
--- Demand 3, joining: two relative texts joined by a space answer as the second read from the first's answer, and are refused as
--- out of range exactly if either step is. The contracts of `parse` and `parse_with` carry it to the code.
+-- RULES 12.3: two relative texts joined by a space answer as the second one does, read from the first one's answer, and they are
+-- refused as out of range exactly if either step is. The contracts of `parse` and `parse_with` carry this to the code.
 -- Assumes nothing.
 use mathlib.Core.Path.{_≡_, refl, sym, ap, _∙_}
 use mathlib.Core.Logic.{_↔_, _⊎_, inl, inr, ⊎-elim}
 use mathlib.Core.Bool.{Bool, true, _||_}
 use mathlib.Core.List.{List, _++_}
 use Prim.Native.Nat.{ℕ, _+_, _≤_}
+use Prim.Native.Char.{code}
 use native.Mathlib.Omega.{arith}
 use lib.ListN.{length, length-append}
 use Rattle.text.specs.Bytes.{isAlphanumeric, ascii}
@@ -31,17 +32,17 @@ use Rattle.relative.proofs.Holding.{steps-refused}
 use Rattle.relative.proofs.Texts.{pairsFrom-append, waitsFrom-append, known-append, steps-append, Good, steps-good}
 use Rattle.relative.proofs.Named.{relativeOf-of-pairs}
 
--- what a whole text answers: its pairs from the current time
+-- a whole text answers its pairs, applied from the current time
 pub known-or : (k a : Bool) → k ≡ true → (k || a) ≡ true
 known-or k a e = rw e
 
-pub answer-of-whole : (bound : ℕ) (s : List ℕ) (now : Now) → Whole s → length (pairsOf s) ≤ bound → relativeOf bound s now ≡ from now (pairsOf s)
-answer-of-whole bound s now w h = relativeOf-of-pairs bound s now (w .plain) (w .some) (known-or (known (pairsOf s)) (agoIn s) (w .told)) h
+pub answer-of-whole : (bound : ℕ) (s : List ℕ) (current : Now) → Whole s → length (pairsOf s) ≤ bound → relativeOf bound s current ≡ from current (pairsOf s)
+answer-of-whole bound s current w h = relativeOf-of-pairs bound s current (w .plain) (w .some) (known-or (known (pairsOf s)) (agoIn s) (w .units-known)) h
 
--- the join is whole, and has the pairs of both
+-- the joined text is whole, and has the pairs of both
 pub joined-pairs : (a b : List ℕ) → Whole a → pairsOf (spaced a b) ≡ pairsOf a ++ pairsOf b
 unfolding wordsOf isAlphanumeric
-joined-pairs a b w = rw (words-append (separator Mark) a b 32 refl, pairsFrom-append Not (wordsOf a) (wordsOf b), w .ended)
+joined-pairs a b w = rw (words-append (separator Mark) a b (code " ") refl, pairsFrom-append Not (wordsOf a) (wordsOf b), w .ended)
 
 pub joined-whole : (a b : List ℕ) → Whole a → Whole b → Whole (spaced a b)
 unfolding ascii wordsOf isAlphanumeric
@@ -49,11 +50,11 @@ joined-whole a b v w =
     record {
       plain = rw (ascii-append, v .plain) (w .plain);
       some = rw (joined-pairs a b v) (omega (arith, length-append (pairsOf a) (pairsOf b), v .some));
-      told = rw (joined-pairs a b v, known-append, v .told) (w .told);
-      ended = rw (words-append (separator Mark) a b 32 refl, waitsFrom-append Not (wordsOf a) (wordsOf b), v .ended) (w .ended);
+      units-known = rw (joined-pairs a b v, known-append, v .units-known) (w .units-known);
+      ended = rw (words-append (separator Mark) a b (code " ") refl, waitsFrom-append Not (wordsOf a) (wordsOf b), v .ended) (w .ended);
     }
 
--- pairs in a row: the later ones from where the earlier ones led, which is a current time in range
+-- pairs in a row: the later ones start where the earlier ones landed, which is a current time in range
 abbrev onward : Answer → List Pair → Answer
 onward (Answered x) ps = from (At x) ps
 onward (Refused r) ps = Refused r

@@ -1,4 +1,4 @@
--- Where steps land, as the code finds it on numbers from 0 and as the definitions have it on whole numbers. In order: landings
+-- Where steps land, as the code computes it on numbers from 0 and as the definitions say it on whole numbers. In order: landings
 -- below the range; seconds; the months before month 0; months.
 -- Assumes nothing.
 use mathlib.Core.Path.{_≡_, refl}
@@ -32,7 +32,7 @@ unfolding landed secondsInRange
 landed-of-lt z o h = rw (isIn-of-lt leastSeconds mostSeconds h)
 
 -- ---- seconds
--- a difference that would be below 0
+-- a difference below 0 is below the range
 pub seconds-far : (t n k : ℕ) (o : ℤ) → 1 ≤ k → t / k < n → landed (since1970 t -ℤ pos (n * k)) o ≡ Refused Range
 seconds-far t n k o h l =
     let m : t < n * k = div-lt-iff-lt-mul h .0 l in
@@ -48,36 +48,15 @@ monthStart-negsuc j =
     let n : ℕ = (j / 4800 + 1) * 146097 in
     parts-le _ _ (omega (arith, a, b, firstDay-zero, add-parts (pos (firstDay (4799 - j % 4800))) (negℤ (pos n)), up-neg (pos n), dn-neg (pos n)))
 
--- 4,800 months have 146,097 days, before month 0 as after it
-pub monthStart-sub-4800 : (m : ℤ) → monthStart (m -ℤ pos 4800) ≡ monthStart m -ℤ pos 146097
-unfolding monthStart
-monthStart-sub-4800 (pos m) =
-    by-test (leb 4800 m)
-    (λ e.
-    let h = leb-true 4800 m e in
-    let f : firstDay m ≡ firstDay (m - 4800) + 146097 = let g : m - 4800 + 4800 ≡ m = omega arith in rw g at (firstDay-add-4800 (m - 4800)) in
-    rw (pos-sub m 4800 h) (parts-eq _ _ (omega (arith, add-parts (pos (firstDay m)) (negsuc 146096)))))
-    (λ e.
-    let h = leb-false 4800 m e in
-    let f : 4799 - (4800 - suc m) % 4800 ≡ m = omega arith in
-    let g : ((4800 - suc m) / 4800 + 1) * 146097 ≡ 146097 = omega arith in
-    rw (pos-sub-lt m 4800 h, f, g))
-monthStart-sub-4800 (negsuc j) =
-    let a : (suc (j + 4799)) % 4800 ≡ j % 4800 = omega arith in
-    let b : ((suc (j + 4799)) / 4800 + 1) * 146097 ≡ (j / 4800 + 1) * 146097 + 146097 = omega arith in
-    let n : ℕ = (j / 4800 + 1) * 146097 in
-    let d : ℤ = pos (firstDay (4799 - j % 4800)) in
-    rw (a, b) (parts-eq _ _ (omega (arith, add-parts (d -ℤ pos n) (negsuc 146096), add-parts d (negℤ (pos n)), add-parts d (negℤ (pos (n + 146097))), up-neg (pos n), dn-neg (pos n), up-neg (pos (n + 146097)), dn-neg (pos (n + 146097)))))
-
 -- the local clock, counted from 0
-pub local-of : (i : Instant) → InRange i → localSeconds (timeOf i) ≡ i .seconds + i .offset - 93600
+local-of : (i : Instant) → InRange i → localSeconds (timeOf i) ≡ i .seconds + i .offset - 93600
 local-of i r =
     let s : ℤ = since1970 (i .seconds) in
     let o : ℤ = pos (i .offset) -ℤ pos 93600 in
     omega (arith, r .early, one-dn (s +ℤ o +ℤ pos 377736739200), natAbs-parts (s +ℤ o +ℤ pos 377736739200), add-parts (s +ℤ o) (pos 377736739200), add-parts s o, add-parts (pos (i .seconds)) (negsuc 377736739199), add-parts (pos (i .offset)) (negsuc 93599))
 
--- where the calendar has a month n before, the landing is the calendar's
-pub monthsEarlier-is : (x : Time) (n : ℕ) → n ≤ monthOf (localSeconds x / 86400) → monthsEarlier x n ≡ pos (monthsBack (localSeconds x) n) -ℤ pos 377736739200 -ℤ x .offset
+-- if the calendar counts a month n months before, the landing is the calendar's
+monthsEarlier-is : (x : Time) (n : ℕ) → n ≤ monthOf (localSeconds x / 86400) → monthsEarlier x n ≡ pos (monthsBack (localSeconds x) n) -ℤ pos 377736739200 -ℤ x .offset
 unfolding monthsEarlier monthsBack monthStart
 monthsEarlier-is x n h = rw (pos-sub (monthOf (localSeconds x / 86400)) n h)
 
@@ -85,7 +64,7 @@ pub monthsEarlier-of-le : (i : Instant) (n : ℕ) → InRange i → let t : ℕ 
     → monthsEarlier (timeOf i) n ≡ pos (monthsBack t n) -ℤ pos 377736739200 -ℤ (pos (i .offset) -ℤ pos 93600)
 monthsEarlier-of-le i n r = rw (local-of i r) at (monthsEarlier-is (timeOf i) n)
 
--- where it has none, the landing is below the range
+-- if it counts none, the landing is below the range
 module _ (m : ℤ) (k c : ℕ) (o : ℤ) (h : m ≤ℤ pos 0) (a : k < 31) (b : c < 86400) (e : negsuc 93598 ≤ℤ o) where
   before-range : ((m +ℤ pos k) *ℤ pos 86400 +ℤ pos c -ℤ pos 377736739200 -ℤ o) <ℤ leastSeconds
   before-range =
@@ -104,14 +83,14 @@ landed-of-month-lt i n z r h =
     let c : t % 86400 < 86400 = omega arith in
     landed-of-lt _ z (rw (local-of i r, pos-sub-lt (monthOf d) n h) (before-range (monthStart (negsuc (n - suc (monthOf d)))) (d - firstDay (monthOf d)) (t % 86400) (pos (i .offset) -ℤ pos 93600) (monthStart-negsuc _) (IsDate-day-lt (IsDate-monthOf d)) c o))
 
--- what the calendar's answer says
-abbrev pub Told : ℕ → ℕ → Found → Type 0
-Told t n (Day l) = (n ≤ monthOf (t / 86400)) × (l ≡ monthsBack t n)
-Told t n Nothing = monthOf (t / 86400) < n
+-- the calendar's answer for n months before t: that time if so many months are counted, and nothing if not
+abbrev pub IsBack : ℕ → ℕ → Found → Type 0
+IsBack t n (Day l) = (n ≤ monthOf (t / 86400)) × (l ≡ monthsBack t n)
+IsBack t n Nothing = monthOf (t / 86400) < n
 
-pub backOf-told : (t n : ℕ) (b : Found) → b ≡ backOf t n → Told t n b
+pub IsBack-of-backOf : (t n : ℕ) (b : Found) → b ≡ backOf t n → IsBack t n b
 unfolding backOf
-backOf-told t n b e =
+IsBack-of-backOf t n b e =
     rw e
     (by-test (leb n (monthOf (t / 86400)))
     (λ f. rw f (leb-true n (monthOf (t / 86400)) f, refl))
@@ -124,7 +103,7 @@ month-lt i n r h =
     let m : monthOf d < 240000 = IsDate-month-lt (IsDate-monthOf d) (omega (arith, r .late, r .east)) in
     omega arith
 
--- the landing, back from local
+-- a landing in local time, as seconds since 1970
 pub since1970-local : (l o : ℕ) → o ≤ l + 93600 → since1970 (l + 93600 - o) ≡ pos l -ℤ pos 377736739200 -ℤ (pos o -ℤ pos 93600)
 since1970-local l o h =
     let z : ℤ = pos o -ℤ pos 93600 in

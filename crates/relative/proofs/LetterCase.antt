@@ -1,10 +1,11 @@
--- Letter case does not matter: a text answers as its small letters do. In order: bytes; texts; words; counts and units; pairs;
--- the reader; the theorem, for any two texts that are the same in any letter case.
+-- RULES 7.1, 7.2: letter case does not matter. A text answers as it does in small letters. In order: names and words; counts and
+-- units; pairs; the reader; the theorem, for any two texts that are the same in any letter case.
 -- Assumes nothing.
 use mathlib.Core.Path.{_≡_, refl, sym, ap, _∙_}
 use mathlib.Core.Bool.{true}
 use mathlib.Core.List.{List, [], _∷_}
 use Prim.Native.Nat.{ℕ, _-_}
+use Prim.Native.Char.{code}
 use lib.Dec.{eqb}
 use lib.ListN.{length, getD}
 use Rattle.text.specs.Bytes.{lowerOf, sameLetters}
@@ -36,7 +37,7 @@ unfolding singular
 singular-lowers w =
     let n : ℕ = length w - 1 in
     rw (length-lowers w, getD-lowers w n, lowerOf-lowerOf (getD w n 0), take-lowers n w)
-    (by-test (eqb (lowerOf (getD w n 0)) 115) (λ e. rw e) (λ e. rw e))
+    (by-test (eqb (lowerOf (getD w n 0)) (code "s")) (λ e. rw e) (λ e. rw e))
 
 unitOf-lowers : (w : List ℕ) → unitOf (lowers w) ≡ unitOf w
 unfolding unitOf unitNamed
@@ -56,19 +57,19 @@ agoFrom-lowers (Value n) (w ∷ ws) = agoFrom-lowers Not ws
 agoFrom-lowers Not (w ∷ ws) = rw (sameLetters-lowers w (bytes "ago"), countOf-lowers w, agoFrom-lowers (next Not w) ws)
 
 -- ---- the reader
-byPairs-lowers : (bound : ℕ) (s : List ℕ) (now : Now) → byPairs bound (lowers s) now ≡ byPairs bound s now
+byPairs-lowers : (bound : ℕ) (s : List ℕ) (current : Now) → byPairs bound (lowers s) current ≡ byPairs bound s current
 unfolding byPairs
-byPairs-lowers bound s now = rw (wordsOf-lowers s, pairsFrom-lowers Not (wordsOf s), agoFrom-lowers Not (wordsOf s))
+byPairs-lowers bound s current = rw (wordsOf-lowers s, pairsFrom-lowers Not (wordsOf s), agoFrom-lowers Not (wordsOf s))
 
-byName-lowers : (x : Number) (bound : ℕ) (s : List ℕ) (now : Now) → byName x bound (lowers s) now ≡ byName x bound s now
-byName-lowers (Value k) bound s now = refl
-byName-lowers Not bound s now = byPairs-lowers bound s now
+byName-lowers : (x : Number) (bound : ℕ) (s : List ℕ) (current : Now) → byName x bound (lowers s) current ≡ byName x bound s current
+byName-lowers (Value k) bound s current = refl
+byName-lowers Not bound s current = byPairs-lowers bound s current
 
-relativeOf-lowers : (bound : ℕ) (s : List ℕ) (now : Now) → relativeOf bound (lowers s) now ≡ relativeOf bound s now
+relativeOf-lowers : (bound : ℕ) (s : List ℕ) (current : Now) → relativeOf bound (lowers s) current ≡ relativeOf bound s current
 unfolding relativeOf
-relativeOf-lowers bound s now = rw (ascii-lowers s, namedOf-lowers s, byName-lowers (namedOf s) bound s now)
+relativeOf-lowers bound s current = rw (ascii-lowers s, namedOf-lowers s, byName-lowers (namedOf s) bound s current)
 
 -- ---- the theorem
-pub letter-case-does-not-matter : (bound : ℕ) (s t : List ℕ) (now : Now) → sameLetters s t ≡ true → relativeOf bound s now ≡ relativeOf bound t now
-letter-case-does-not-matter bound s t now e =
-    sym (relativeOf-lowers bound s now) ∙ ap (λ (u : List ℕ). relativeOf bound u now) (lowers-of-same s t e) ∙ relativeOf-lowers bound t now
+pub letter-case-does-not-matter : (bound : ℕ) (s t : List ℕ) (current : Now) → sameLetters s t ≡ true → relativeOf bound s current ≡ relativeOf bound t current
+letter-case-does-not-matter bound s t current e =
+    sym (relativeOf-lowers bound s current) ∙ ap (λ (u : List ℕ). relativeOf bound u current) (lowers-of-same s t e) ∙ relativeOf-lowers bound t current

@@ -1,13 +1,13 @@
--- The laws of relative dates, each file over those before it. Counts, Landing, Scanning, Holding, Telling: what the code does is
--- what the definitions say. Bounds: two bounds of pairs. Texts, Named: two texts in a row, and a text with a pair is no named
--- one. Dates: months earlier, as dates. Joining, Earlier, Seconds, LetterCase: what demand 3 promises. Examples: document 01's,
--- computed.
+-- The laws of relative dates, each file over those before it. Counts, Landing, Scanning, Holding, Cases: the code computes what
+-- the definitions say. Bounds: two bounds on the number of pairs. Texts, Named: two texts in a row; a text with a pair is not one
+-- of the names. Dates: months earlier, as dates. Joining, Earlier, Seconds, LetterCase: the theorems that callers may rely on.
+-- Examples: those of the rules, computed.
 -- Assumes nothing.
 pub mod Counts
 pub mod Landing
 pub mod Scanning
 pub mod Holding
-pub mod Telling
+pub mod Cases
 pub mod Bounds
 pub mod Texts
 pub mod Named

@@ -1,5 +1,5 @@
--- A text with a pair is no named text: a named text is one word. In order: letters and digits alone are one word, in any
--- letter case; so what a text with a pair answers.
+-- A text with a pair is not `now`, `today` or `yesterday`, because those are one word. In order: letters and digits alone are one
+-- word, in any letter case; the answer of a text with a pair.
 -- Assumes nothing.
 use mathlib.Core.Path.{_≡_, refl, sym, ap, _∙_}
 use mathlib.Core.Bool.{Bool, true, false, _&&_, _||_, false≢true}
@@ -62,6 +62,6 @@ namedOf-of-pair s h =
     rw (not-same-of-pair s (bytes "now") refl h, not-same-of-pair s (bytes "today") refl h, not-same-of-pair s (bytes "yesterday") refl h)
 
 -- ---- what a text with pairs answers
-pub relativeOf-of-pairs : (bound : ℕ) (s : List ℕ) (now : Now) → ascii s ≡ true → 0 < length (pairsOf s) → (known (pairsOf s) || agoIn s) ≡ true → length (pairsOf s) ≤ bound → relativeOf bound s now ≡ from now (pairsOf s)
+pub relativeOf-of-pairs : (bound : ℕ) (s : List ℕ) (current : Now) → ascii s ≡ true → 0 < length (pairsOf s) → (known (pairsOf s) || agoIn s) ≡ true → length (pairsOf s) ≤ bound → relativeOf bound s current ≡ from current (pairsOf s)
 unfolding relativeOf byPairs
-relativeOf-of-pairs bound s now a h k l = rw (a, namedOf-of-pair s h, lt-ltb 0 (length (pairsOf s)) h, k, le-leb (length (pairsOf s)) bound l)
+relativeOf-of-pairs bound s current a h k l = rw (a, namedOf-of-pair s h, lt-ltb 0 (length (pairsOf s)) h, k, le-leb (length (pairsOf s)) bound l)

@@ -1,5 +1,6 @@
--- A scan of words that has come so far: what is held, counted and marked, with what is left, makes the whole. One law for each
--- way that the scan goes on, and the reader's part in it.
+-- A scan of the words that has come part of the way: what was stored, counted and marked so far, together with the words that are
+-- left, makes up the whole text. There is one law for each way in which the scan goes on, and one for each word that the reader
+-- takes.
 -- Assumes nothing.
 use mathlib.Core.Path.{_≡_, refl, sym, _∙_}
 use mathlib.Core.Bool.{Bool, true, false, _&&_, _||_, and-assoc, and-true, or-false, or-true}
@@ -27,16 +28,17 @@ use Rattle.relative.specs.declared.pair.Pair.{Pair}
 abbrev pub left : List ℕ → ℕ → List (List ℕ)
 left s at = words (separator Mark) (drop at s)
 
--- n pairs are behind, the first of them held, all with known units if k, the mark set if a; the words `rest` are left
+-- n pairs have been read, of which those up to the bound are held; k says whether all their units are known, a whether the mark
+-- was set; the words `rest` are left
 pub record Scanned (bound : ℕ) (s : List ℕ) (held : List Pair) (n : ℕ) (k a : Bool) (rest : List (List ℕ)) : Type 0 where
   pub number : length (pairsOf s) ≡ n + length (pairsFrom Not rest)
-  pub told : known (pairsOf s) ≡ (k && known (pairsFrom Not rest))
+  pub units : known (pairsOf s) ≡ (k && known (pairsFrom Not rest))
   pub mark : agoIn s ≡ (a || agoFrom Not rest)
   pub store : n ≤ bound → pairsOf s ≡ take n held ++ pairsFrom Not rest
 
 pub scanned-start : (bound : ℕ) (s : List ℕ) (held : List Pair) → Scanned bound s held 0 true false (left s 0)
 unfolding wordsOf
-scanned-start bound s held = record { number = omega arith; told = refl; mark = refl; store = λ h. refl }
+scanned-start bound s held = record { number = omega arith; units = refl; mark = refl; store = λ h. refl }
 
 module _ {bound : ℕ} {s : List ℕ} {held : List Pair} {n : ℕ} {k a : Bool} where
   -- at the end
@@ -46,7 +48,7 @@ module _ {bound : ℕ} {s : List ℕ} {held : List Pair} {n : ℕ} {k a : Bool} 
 
   pub all-known : Scanned bound s held n k a [] → k ≡ known (pairsOf s)
   unfolding pairsFrom known
-  all-known h = sym (h .told ∙ and-true k)
+  all-known h = sym (h .units ∙ and-true k)
 
   pub all-mark : Scanned bound s held n k a [] → a ≡ agoIn s
   unfolding agoFrom
@@ -63,18 +65,18 @@ module _ {bound : ℕ} {s : List ℕ} {held : List Pair} {n : ℕ} {k a : Bool} 
     marked h e =
         record {
           number = rw e at (h .number);
-          told = rw e at (h .told);
+          units = rw e at (h .units);
           mark = rw (e, or-true) at (h .mark);
           store = λ l. rw e at (h .store l);
         }
 
-    -- no count
+    -- a word that is no count
     pub passed : Scanned bound s held n k a (w ∷ ws) → is w "ago" ≡ false → countOf w ≡ Not → Scanned bound s held n k a ws
     unfolding pairsFrom agoFrom
     passed h e f =
         record {
           number = rw (e, f) at (h .number);
-          told = rw (e, f) at (h .told);
+          units = rw (e, f) at (h .units);
           mark = rw (e, f) at (h .mark);
           store = λ l. rw (e, f) at (h .store l);
         }
@@ -82,7 +84,7 @@ module _ {bound : ℕ} {s : List ℕ} {held : List Pair} {n : ℕ} {k a : Bool} 
   -- a count at the end
   pub dropped : {w : List ℕ} → Scanned bound s held n k a (w ∷ []) → is w "ago" ≡ false → Scanned bound s held n k a []
   unfolding pairsFrom agoFrom
-  dropped h e = record { number = h .number; told = h .told; mark = rw e at (h .mark); store = h .store }
+  dropped h e = record { number = h .number; units = h .units; mark = rw e at (h .mark); store = h .store }
 
   module _ {w u : List ℕ} {ws : List (List ℕ)} {v : ℕ} (h : Scanned bound s held n k a (w ∷ u ∷ ws)) (e : is w "ago" ≡ false) (f : countOf w ≡ Value v) where
     -- a pair that is held
@@ -91,18 +93,18 @@ module _ {bound : ℕ} {s : List ℕ} {held : List Pair} {n : ℕ} {k a : Bool} 
     stored l =
         record {
           number = omega (arith, rw (e, f) at (h .number));
-          told = rw (e, f, ← and-assoc) at (h .told);
+          units = rw (e, f, ← and-assoc) at (h .units);
           mark = rw (e, f) at (h .mark);
           store = λ m. rw (add-one, take-suc-set held n (record { count = v; unit = unitOf u }) l, append-snoc) (rw (e, f) at (h .store (omega arith)));
         }
 
-    -- one too many
+    -- a pair that there is no room for
     pub counted : {x : Unit} {b : Bool} → x ≡ unitOf u → b ≡ isKnown x → bound ≤ n → Scanned bound s held (n + 1) (k && b) a ws
     unfolding pairsFrom agoFrom known
     counted g i l =
         record {
           number = omega (arith, rw (e, f) at (h .number));
-          told = rw (i, g) (rw (e, f, ← and-assoc) at (h .told));
+          units = rw (i, g) (rw (e, f, ← and-assoc) at (h .units));
           mark = rw (e, f) at (h .mark);
           store = λ m. absurd (omega arith);
         }

@@ -1,5 +1,5 @@
--- Demand 3, seconds units: `now` is the current time, `yesterday` is one day, and the order of seconds units does not matter. The
--- contracts of `parse` and `parse_with` carry it to the code.
+-- RULES 7.1, 7.8: `now` is the current time, `yesterday` is one day, and the order of units of seconds does not matter. The
+-- contracts of `parse` and `parse_with` carry this to the code.
 -- Assumes nothing.
 use mathlib.Core.Path.{_≡_, refl, sym, ap, _∙_}
 use mathlib.Core.Bool.{true, false, _||_, false≢true, and-true}
@@ -60,7 +60,7 @@ unfolding namedOf
 namedOf-yesterday s e =
     rw (not-is (trim s) "yesterday" "now" (λ h. omega arith) e, not-is (trim s) "yesterday" "today" (λ h. omega arith) e, e)
 
-from-day : (now : Now) → from now (record { count = 86400; unit = Seconds 1 } ∷ []) ≡ from now (record { count = 1; unit = Seconds 86400 } ∷ [])
+from-day : (current : Now) → from current (record { count = 86400; unit = Seconds 1 } ∷ []) ≡ from current (record { count = 1; unit = Seconds 86400 } ∷ [])
 unfolding from steps step landing
 from-day Missing = refl
 from-day (At x) = refl
@@ -70,14 +70,14 @@ unfolding ascii wordsOf isAlphanumeric words full pieces pairsFrom sameLetters l
 one-day = record { plain = refl; pair = refl }
 
 -- alone, trimmed, in any letter case, it answers as `1 day` does
-pub yesterday-is-one-day : (bound : ℕ) → 1 ≤ bound → (s : List ℕ) (now : Now) → ascii s ≡ true → is (trim s) "yesterday" ≡ true → relativeOf bound s now ≡ relativeOf bound (bytes "1 day") now
+pub yesterday-is-one-day : (bound : ℕ) → 1 ≤ bound → (s : List ℕ) (current : Now) → ascii s ≡ true → is (trim s) "yesterday" ≡ true → relativeOf bound s current ≡ relativeOf bound (bytes "1 day") current
 unfolding relativeOf known
-yesterday-is-one-day bound l s now a e =
+yesterday-is-one-day bound l s current a e =
     let d = bytes "1 day" in
     let some : 0 < length (pairsOf d) = rw (one-day .pair) (omega arith) in
     let all : known (pairsOf d) ≡ true = rw (one-day .pair) in
     let few : length (pairsOf d) ≤ bound = rw (one-day .pair) l in
-    rw (a, namedOf-yesterday s e) (from-day now ∙ ap (from now) (sym (one-day .pair)) ∙ sym (relativeOf-of-pairs bound d now (one-day .plain) some (known-or (known (pairsOf d)) (agoIn d) all) few))
+    rw (a, namedOf-yesterday s e) (from-day current ∙ ap (from current) (sym (one-day .pair)) ∙ sym (relativeOf-of-pairs bound d current (one-day .plain) some (known-or (known (pairsOf d)) (agoIn d) all) few))
 
 -- ---- the order of seconds units
 -- the seconds of a unit, and of pairs

@@ -1,4 +1,5 @@
--- The relative dates among document 01's examples that are to be proved together, with the others of that kind.
+-- RULES 11.7, 11.8: the examples of relative dates that are marked P, which are proved together with the marked ones of the other
+-- forms.
 -- Assumes nothing.
 use Prim.Native.String.{String}
 use mathlib.Core.List.{List, [], _∷_}
@@ -12,14 +13,14 @@ use Rattle.time.specs.declared.Answer.{Answer}
 use Rattle.time.specs.declared.Answer.the-variants.{Time, Refused}
 use Rattle.relative.specs.Relative.{maxPairs, relativeOf}
 
--- a text read from z, at offset 0; and a time there
+-- the answer of a text read from the time z at offset 0; and such a time as an answer
 abbrev pub read : ℤ → String → Answer
 read z t = relativeOf maxPairs (bytes t) (At (timeAt z (pos 0)))
 
 abbrev pub at : ℤ → Answer
 at z = Time (timeAt z (pos 0))
 
--- noon of 31 May 2021, and 29 February 2020
+-- noon of 31 May 2021, and midnight of 29 February 2020
 abbrev pub may : ℤ
 may = pos 1622462400
 

@@ -1,6 +1,6 @@
--- What the code holds on the way to an answer: pairs as two lists of numbers, how many there are, a current time or a landing as
--- numbers from 0. A unit is held as its seconds, or as its months and 1,000,000 more, and 0 is an unknown one. Nothing here is
--- needed to read what `parse` ensures.
+-- How the code holds its values on the way to an answer: pairs as two lists of numbers, how many there are, and a current time or
+-- a landing as numbers from 0. A unit is held as its seconds, or as its months plus 1,000,000; an unknown unit is 0. Only private
+-- contracts cite these definitions: what `parse` ensures can be read without them.
 -- Assumes nothing.
 use Prim.Native.Nat.{ℕ, _+_, _-_, _≤_}
 use mathlib.Core.Path.{_≡_}
@@ -24,11 +24,11 @@ use Rattle.relative.specs.declared.pairs.Counted.the-variants.{Pairs, No
 use Rattle.relative.specs.declared.steps.Start.{Start}
 use Rattle.relative.specs.declared.steps.Start.the-variants.{From, No}
 
--- the places in the two lists
+-- the length of the two lists
 abbrev pub places : ℕ
 places = 32
 
--- the number of a unit, and the unit of a number
+-- the number that a unit is held as, and the unit that a number holds
 unfoldable pub codeOf : PairUnit → ℕ
 codeOf (Seconds k) = k
 codeOf (Months k) = k + 1000000
@@ -37,7 +37,7 @@ codeOf Unknown = 0
 unfoldable pub unitAt : ℕ → PairUnit
 unitAt n = cond (eqb n 0) Unknown (cond (leb n 1000000) (Seconds n) (Months (n - 1000000)))
 
--- a unit that its number gives back: at least one second or one month, at most a million
+-- a unit that its number gives back: 1 to 1,000,000 seconds or months
 abbrev pub Coded : PairUnit → Type 0
 Coded (Seconds k) = (1 ≤ k) × (k ≤ 1000000)
 Coded (Months k) = (1 ≤ k) × (k ≤ 1000000)
@@ -49,21 +49,22 @@ Sized (Seconds k) = 1 ≤ k
 Sized (Months k) = 1 ≤ k
 Sized Unknown = Unit {0}
 
+-- the pairs that the two lists hold
 unfoldable pub zipped : List ℕ → List ℕ → List Pair
 zipped [] us = []
 zipped (c ∷ cs) [] = []
 zipped (c ∷ cs) (u ∷ us) = record { count = c; unit = unitAt u } ∷ zipped cs us
 
--- how many pairs a text of n pairs says, if their units are allowed: all known, or with the mark
+-- the count of pairs of a text that has n, if there is one and the units are allowed: all are known, or the text has the mark
 unfoldable pub countedOf : ℕ → Bool → Counted
 countedOf n allowed = cond (eqb n 0) Nothing (cond allowed (Pairs n) Nothing)
 
--- the pairs of the text are those held first, if there are places for them all
+-- if there is room for all pairs of the text, they are the first ones held
 abbrev pub Holds : Counted → List Pair → List Pair → Type 0
 Holds (Pairs n) held ps = n ≤ places → take n held ≡ ps
 Holds Nothing held ps = Unit {0}
 
--- where the steps start
+-- where the steps start, or why they cannot
 unfoldable pub startOf : Now → Start
 startOf Missing = No NoCurrent
 startOf (At x) = cond (timeInRange x) (From (instantOf x)) (No Current)
@@ -72,7 +73,7 @@ abbrev pub StartInRange : Start → Type 0
 StartInRange (From i) = InRange i
 StartInRange (No r) = Unit {0}
 
--- the answer of a landing
+-- a landing as an answer
 abbrev pub answerOf : Moved → Answer
 answerOf (In i) = Time (timeOf i)
 answerOf Out = Refused Range

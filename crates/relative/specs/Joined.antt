@@ -1,5 +1,5 @@
--- Demand 3: what two relative texts have to be so that, joined by a space, they answer as the second read from the first's
--- answer; and so that their order does not matter.
+-- RULES 12.3: the texts of which two, joined by a space, answer as the second one does, read from the first one's answer; and
+-- texts whose order does not matter when they are joined.
 -- Assumes nothing.
 use Prim.Native.Nat.{ℕ, _<_}
 use Prim.Native.Char.{code}
@@ -20,7 +20,7 @@ use Rattle.relative.specs.Words.{wordsOf}
 use Rattle.relative.specs.Pairs.{next, pairsOf, known}
 use Rattle.relative.specs.Relative.{relativeOf}
 
--- the count that waits for its unit when the words end
+-- the count that still waits for its unit when the words end, beginning with the count c
 unfoldable pub waitsFrom : Number → List (List ℕ) → Number
 waitsFrom c [] = c
 waitsFrom c (w ∷ ws) = waitsFrom (next c w) ws
@@ -29,24 +29,25 @@ waitsFrom c (w ∷ ws) = waitsFrom (next c w) ws
 pub record Whole (s : List ℕ) : Type 0 where
   pub plain : ascii s ≡ true
   pub some : 0 < length (pairsOf s)
-  pub told : known (pairsOf s) ≡ true
+  pub units-known : known (pairsOf s) ≡ true
   pub ended : waitsFrom Not (wordsOf s) ≡ Not
 
--- a and b, a space between
+-- a and b with a space between
 abbrev pub spaced : List ℕ → List ℕ → List ℕ
 spaced a b = a ++ code " " ∷ b
 
--- the text b, read from an answer as the current time
+-- the text b, read with an answer as the current time
 abbrev pub after : ℕ → List ℕ → Answer → Answer
 after bound b (Time x) = relativeOf bound b (At x)
 after bound b (Refused r) = Refused r
 
+-- second to week
 abbrev pub isSeconds : Unit → Bool
 isSeconds (Seconds k) = true
 isSeconds (Months k) = false
 isSeconds Unknown = false
 
--- seconds units only, second to week
+-- all units are of seconds
 unfoldable pub allSeconds : List Pair → Bool
 allSeconds [] = true
 allSeconds (p ∷ ps) = isSeconds (p .unit) && allSeconds ps

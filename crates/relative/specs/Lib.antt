@@ -1,6 +1,6 @@
--- Document 01, "Reading relative dates", and demand 3. In order: what a word says; the pairs of a text; a step back; the reader's
--- answer. Then what theorems speak of: texts that may be joined, and dates months earlier; document 01's examples.
--- Last what the code holds on the way.
+-- Relative dates, RULES 7. In order: what a single word means; the pairs of a text; a step back; the reader's answer. Then what
+-- the theorems of RULES 12.3 and 12.4 speak of, texts that may be joined and dates some months earlier; the examples that RULES
+-- 11 marks P. Last, how the code holds its values on the way to an answer.
 -- Assumes nothing.
 pub mod Words
 pub mod Pairs

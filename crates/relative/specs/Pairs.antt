@@ -1,5 +1,5 @@
--- Document 01, "Reading relative dates": the pairs of a text, and the mark `ago`. After a count the very next word is its unit,
--- whatever it is: so each definition goes along the words with the count that waits for its unit (Not: a count is awaited).
+-- RULES 7.3 to 7.6: the pairs of a text, and the mark `ago`. After a count the very next word is its unit, whatever that word is.
+-- So each definition goes along the words together with the count that waits for its unit; Not means that no count waits.
 -- Assumes nothing.
 use Prim.Native.Nat.{ℕ}
 use mathlib.Core.Bool.{Bool, true, false, cond, _&&_, _||_}
@@ -11,12 +11,12 @@ use Rattle.relative.specs.declared.pair.Unit.{Unit}
 use Rattle.relative.specs.declared.pair.Unit.the-variants.{Seconds, Months, Unknown}
 use Rattle.relative.specs.declared.pair.Pair.{Pair}
 
--- what waits once the word w is read: a count, if w is one; other words are passed over
+-- the count that waits once the word w is read: w itself if it is a count. Other words are passed over
 abbrev pub next : Number → List ℕ → Number
 next (Value n) w = Not
 next Not w = cond (is w "ago") Not (countOf w)
 
--- the pair that w ends, before the pairs that follow
+-- w is the unit of the count that waits: the pair, before the pairs that follow
 abbrev pub put : Number → List ℕ → List Pair → List Pair
 put (Value n) w ps = record { count = n; unit = unitOf w } ∷ ps
 put Not w ps = ps
@@ -26,11 +26,12 @@ abbrev pub marks : Number → List ℕ → Bool
 marks (Value n) w = false
 marks Not w = is w "ago"
 
--- a count at the end is dropped
+-- the pairs of the words; a count at the end is dropped
 unfoldable pub pairsFrom : Number → List (List ℕ) → List Pair
 pairsFrom c [] = []
 pairsFrom c (w ∷ ws) = put c w (pairsFrom (next c w) ws)
 
+-- whether the mark is set anywhere in the words
 unfoldable pub agoFrom : Number → List (List ℕ) → Bool
 agoFrom c [] = false
 agoFrom c (w ∷ ws) = marks c w || agoFrom (next c w) ws
@@ -40,12 +41,12 @@ isKnown (Seconds k) = true
 isKnown (Months k) = true
 isKnown Unknown = false
 
--- known units only
+-- all units are known
 unfoldable pub known : List Pair → Bool
 known [] = true
 known (p ∷ ps) = isKnown (p .unit) && known ps
 
--- of a text
+-- the pairs of a text, and its mark
 abbrev pub pairsOf : List ℕ → List Pair
 pairsOf s = pairsFrom Not (wordsOf s)
 

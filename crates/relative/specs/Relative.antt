@@ -1,5 +1,5 @@
--- Document 01, "Reading relative dates": what the reader answers. The bound of pairs is a parameter. Refusals are tested in the
--- order 1, 2, 5, 3, 4, 6; the current time is looked at only once a text is known to be relative.
+-- RULES 7.1, 7.6, 7.7, 2.2, 2.3: what the reader of relative dates answers, with the bound on the number of pairs as a parameter.
+-- Refusals are tested in the order 1, 2, 5, 3, 4, 6. The current time is looked at only once a text is known to be relative.
 -- Assumes nothing.
 use Prim.Native.Nat.{ℕ}
 use mathlib.Core.Bool.{cond, not, _&&_, _||_}
@@ -22,31 +22,31 @@ use Rattle.relative.specs.Steps.{steps}
 use Rattle.relative.specs.declared.pair.Unit.the-variants.{Seconds}
 use Rattle.relative.specs.declared.pair.Pair.{Pair}
 
--- the bound of 32 pairs
+-- RULES 1.3: the bound of 32 pairs
 abbrev pub maxPairs : ℕ
 maxPairs = 32
 
--- pairs from the current time: 3 if it is missing, 4 if it is out of range
+-- the pairs applied from the current time: 3 if it is missing, 4 if it is out of range
 unfoldable pub from : Now → List Pair → Answer
 from Missing ps = Refused NoCurrent
 from (At x) ps = cond (timeInRange x) (steps ps (Time x)) (Refused Current)
 
--- trimmed, in any letter case: `now` and `today` are the current time; `yesterday` is 86400 seconds less
+-- `now`, `today` or `yesterday`, trimmed and in any letter case: how many seconds before the current time
 unfoldable pub namedOf : List ℕ → Number
 namedOf s =
     let t = trim s in
     cond (is t "now" || is t "today") (Value 0) (cond (is t "yesterday") (Value 86400) Not)
 
--- otherwise by its pairs. No pair: 2; an unknown unit without the mark: 2; then 5
+-- any other text goes by its pairs: 2 without a pair, 2 for an unknown unit without the mark, then 5 for too many pairs
 unfoldable pub byPairs : ℕ → List ℕ → Now → Answer
-byPairs bound s now =
+byPairs bound s current =
     let ps = pairsOf s in
     cond (not (ltb 0 (length ps) && (known ps || agoIn s))) (Refused Form)
-    (cond (not (leb (length ps) bound)) (Refused Pairs) (from now ps))
+    (cond (not (leb (length ps) bound)) (Refused Pairs) (from current ps))
 
 abbrev pub byName : Number → ℕ → List ℕ → Now → Answer
-byName (Value k) bound s now = from now (record { count = k; unit = Seconds 1 } ∷ [])
-byName Not bound s now = byPairs bound s now
+byName (Value k) bound s current = from current (record { count = k; unit = Seconds 1 } ∷ [])
+byName Not bound s current = byPairs bound s current
 
 unfoldable pub relativeOf : ℕ → List ℕ → Now → Answer
-relativeOf bound s now = cond (ascii s) (byName (namedOf s) bound s now) (Refused NotAscii)
+relativeOf bound s current = cond (ascii s) (byName (namedOf s) bound s current) (Refused NotAscii)

@@ -1,4 +1,4 @@
--- Document 01, "Reading relative dates": words, and what one alone says: a count, a unit. A word is its bytes.
+-- RULES 7.2, 7.3, 7.5: words, and what a single word means: a count or a unit. A word is the list of its bytes.
 -- Assumes nothing.
 use Prim.Native.Nat.{ℕ, _-_, _^_}
 use Prim.Native.Char.{code}
@@ -17,22 +17,22 @@ use Rattle.text.specs.declared.number.Number.the-variants.{Value}
 use Rattle.relative.specs.declared.pair.Unit.{Unit}
 use Rattle.relative.specs.declared.pair.Unit.the-variants.{Seconds, Months, Unknown}
 
--- words are runs of ASCII letters and digits
+-- words: runs of ASCII letters and digits
 unfoldable pub wordsOf : List ℕ → List (List ℕ)
 wordsOf s = words (separator Mark) s
 
--- all of them compared in any letter case
+-- a word, compared in any letter case
 abbrev pub is : List ℕ → String → Bool
 is w name = sameLetters w (bytes name)
 
--- `one` to `ten`, or `last` (1)
+-- `one` to `ten`, or `last`, which is 1; otherwise the other number
 unfoldable pub spelled : List ℕ → Number → Number
 spelled w other =
     cond (is w "one") (Value 1) (cond (is w "two") (Value 2) (cond (is w "three") (Value 3) (cond (is w "four") (Value 4)
     (cond (is w "five") (Value 5) (cond (is w "six") (Value 6) (cond (is w "seven") (Value 7) (cond (is w "eight") (Value 8)
     (cond (is w "nine") (Value 9) (cond (is w "ten") (Value 10) (cond (is w "last") (Value 1) other))))))))))
 
--- a count is one of these, or digits that fit 64 signed bits
+-- a count: one of these names, or digits that fit 64 signed bits
 unfoldable pub countOf : List ℕ → Number
 countOf w = spelled w (fit (2 ^ 63 - 1) (digitsOf w))
 
@@ -40,13 +40,13 @@ countOf w = spelled w (fit (2 ^ 63 - 1) (digitsOf w))
 unfoldable pub singular : List ℕ → List ℕ
 singular w = let n : ℕ = length w - 1 in cond (eqb (lowerOf (getD w n 0)) (code "s")) (take n w) w
 
--- second, minute, hour, day, week, month, year: how many seconds one has, or how many months
+-- the units second, minute, hour, day, week, month, year, with the seconds or the months of each
 abbrev pub unitNames : List (String × Unit)
 unitNames =
     ("second", Seconds 1) ∷ ("minute", Seconds 60) ∷ ("hour", Seconds 3600) ∷ ("day", Seconds 86400) ∷ ("week", Seconds 604800) ∷
     ("month", Months 1) ∷ ("year", Months 12) ∷ []
 
--- the unit whose name w is
+-- the first unit that has the name w
 abbrev pub unitAmong : List (String × Unit) → List ℕ → Unit
 unitAmong [] w = Unknown
 unitAmong (n ∷ ns) w = cond (is w (n .0)) (n .1) (unitAmong ns w)

@@ -1,8 +1,8 @@
-// Document 01, "Reading relative dates": `now`, `yesterday`, `2 weeks 1 day ago`, from a current
+// Relative dates (RULES 7): `now`, `yesterday`, `2 weeks 1 day ago`, counted back from a current
 // time at a fixed offset.
 //
-// Every text has an answer: a time, or the refusal 1, 2, 5, 3, 4 or 6 that comes first. `parse`
-// reads no month table; `parse_with` borrows one, for callers that read many texts.
+// Every text has an answer: a time, or the first of the refusals 1, 2, 5, 3, 4 and 6 that applies.
+// `parse` needs no month table. `parse_with` borrows one; it is for callers that read many texts.
 mod held;
 mod pair;
 mod pairs;
@@ -14,6 +14,7 @@ ghost use mathlib.Core.List.{_∷_, []};
 ghost use Rattle.calendar.specs.Table.{IsMonths};
 ghost use Rattle.relative.specs.Relative.{maxPairs, from, namedOf, byPairs, relativeOf};
 ghost use Rattle.relative.specs.declared.pair.Unit.the-variants.{Seconds};
+use calendar::SECONDS_PER_DAY;
 use held::PLACES;
 pub use pair::MAX_PAIRS;
 pub use pair::Pair;
@@ -25,18 +26,21 @@ use time::Answer;
 use time::Now;
 use time::Refusal;
 
-// The time that a relative text says, at the current time's offset. Refused: NotAscii, a byte of
-// 128 or more; Form, no pair, or an unknown unit without the mark; Pairs, more than MAX_PAIRS of
-// them; Missing or Current, no current time or one out of range; Range, a step that lands out of
-// range. The first of these, in this order, is the answer.
+// The time that a relative text means, at the current time's offset. It is refused as
+//   NotAscii (1) if it has a byte of 128 or more,
+//   Form (2)     if it has no pair, or an unknown unit without the mark `ago`,
+//   Pairs (5)    if it has more than MAX_PAIRS pairs,
+//   Missing (3)  if there is no current time,
+//   Current (4)  if the current time is out of range,
+//   Range (6)    if a step lands out of range.
+// They are tested in this order.
 pub fn parse(s: &[u8], current: Now) -> Answer
     ensures { λ r. ⌜ r ≡ relativeOf maxPairs (now (s .entry)) current ⌝ }
 {
     parse_with(&[], s, current)
 }
 
-// The same with a borrowed month table, the whole or any leading part of it: for many texts in a
-// row.
+// The same with a borrowed month table: the whole table, any leading part of it, or `&[]`.
 pub fn parse_with(months: &[u32], s: &[u8], current: Now) -> Answer
     requires { ⌜ IsMonths (now months) ⌝ }
     ensures { λ r. ⌜ r ≡ relativeOf maxPairs (now (s .entry)) current ⌝ }
@@ -51,8 +55,8 @@ pub fn parse_with(months: &[u32], s: &[u8], current: Now) -> Answer
     Answer::Refused(Refusal::NotAscii)
 }
 
-// `now`, `today` and `yesterday`, alone: how many seconds before the current time. Any other text
-// is Not.
+// How many seconds before the current time `now`, `today` or `yesterday` is. Any other text is Not,
+// also `yesterday 1 day`.
 fn parse_named(s: &[u8]) -> Number
     ensures { λ r. ⌜ r ≡ namedOf (now (s .entry)) ⌝ }
 {
@@ -64,11 +68,12 @@ fn parse_named(s: &[u8]) -> Number
         return Number::Value(0);
     }
     if text::bytes::same_ignoring_case(t, b"yesterday") {
-        return Number::Value(86400);
+        return Number::Value(SECONDS_PER_DAY);
     }
     Number::Not
 }
 
+// The time k seconds before the current time.
 fn seconds_before(current: Now, k: u64) -> Answer
     ensures { λ r. ⌜ r ≡ from current (record { count = k; unit = Seconds 1 } ∷ []) ⌝ }
 {
@@ -79,8 +84,9 @@ fn seconds_before(current: Now, k: u64) -> Answer
     }
 }
 
-// Pairs go into two arrays, which are filled only here: a named text does without. Only a text with
-// a count and its unit goes on to the calendar.
+// The answer of a text that is not one of those names (RULES 7.2 to 7.10). The current time is
+// looked at, and the calendar used, only if the text has a pair. The two arrays for the pairs are
+// made here and not in `parse_with`, because a name needs none.
 fn parse_pairs(months: &[u32], s: &[u8], current: Now) -> Answer
     requires { ⌜ IsMonths (now months) ⌝ }
     ensures { λ r. ⌜ r ≡ byPairs maxPairs (now (s .entry)) current ⌝ }

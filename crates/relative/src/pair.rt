@@ -1,17 +1,16 @@
-// A count and its unit, and how many of them a text may have.
+// A pair is a count and its unit.
 
-// The most pairs that a text may have.
+// The most pairs that a text may have; with more it is refused by 5.
 pub const MAX_PAIRS: usize = 32;
 
-// How a unit is subtracted: so many seconds off the time, or so many months off the month count. An
-// unknown one counts as seconds, in a text that has the mark.
+// One of a unit is this many seconds off the time, or this many months off the month count. An
+// unknown unit counts as seconds if the text has the mark `ago`, and otherwise the text is refused.
 pub enum Unit {
     Seconds(u64),
     Months(u64),
     Unknown,
 }
 
-// A count and its unit.
 pub struct Pair {
     pub count: u64,
     pub unit: Unit,

@@ -1,4 +1,5 @@
-// The pairs of a text, and the mark `ago`. Pairs go to two borrowed arrays, as in `held`.
+// Reads the pairs of a text and the mark `ago` (RULES 7.2 to 7.6). Pairs are stored in two borrowed
+// arrays, as `held` says.
 ghost use mathlib.Core.Path.{_≡_};
 ghost use mathlib.Core.Bool.{_||_};
 ghost use Prim.Native.Nat.{_≤_};
@@ -15,14 +16,15 @@ use text::words::Separator;
 use text::words::Taken;
 use text::words::Words;
 
-// How many pairs a text has. Nothing: it has none, or an unknown unit without the mark.
+// How many pairs a text has. Nothing if it has none, or an unknown unit without the mark.
 pub enum Counted {
     Pairs(usize),
     Nothing,
 }
 
-// Counts the pairs of a text, and stores them as far as the arrays have room. The whole text is
-// read, however many pairs it has: a later word may make it Nothing.
+// Counts the pairs of a text, and stores as many as the arrays have room for. The whole text is
+// read, however many pairs it has, because an unknown unit near its end still makes the answer
+// Nothing.
 pub fn parse_ago(s: &[u8], counts: &mut [u64; PLACES], units: &mut [u64; PLACES]) -> Counted
     requires { ⌜ (length (now counts) ≡ places) × (length (now units) ≡ places) ⌝ }
     ensures counted { λ r. ⌜ r ≡ countedOf (length (pairsOf (now (s .entry)))) (known (pairsOf (now (s .entry))) || agoIn (now (s .entry))) ⌝ }
@@ -33,7 +35,7 @@ pub fn parse_ago(s: &[u8], counts: &mut [u64; PLACES], units: &mut [u64; PLACES]
     verdict(a.n, a.known | a.ago)
 }
 
-// Unknown units are allowed only with the mark.
+// Unknown units are allowed only in a text with the mark.
 fn verdict(n: usize, allowed: bool) -> Counted
     ensures { λ r. ⌜ r ≡ countedOf n allowed ⌝ }
 {
@@ -46,14 +48,15 @@ fn verdict(n: usize, allowed: bool) -> Counted
     Counted::Nothing
 }
 
-// How many pairs, whether all their units are known, and the mark.
+// How many pairs there are, whether all their units are known, and whether the mark was set.
 struct Scanned {
     n: usize,
     known: bool,
     ago: bool,
 }
 
-// Pairs beyond the arrays are counted, and their units looked at, but not held.
+// One pass over the words. Pairs that the arrays have no room for are counted and their units
+// looked at, but they are not stored.
 fn scan(s: &[u8], counts: &mut [u64; PLACES], units: &mut [u64; PLACES]) -> Scanned
     requires { ⌜ (length (now counts) ≡ places) × (length (now units) ≡ places) ⌝ }
     ensures number { λ r. ⌜ r .n ≡ length (pairsOf (now (s .entry))) ⌝ }
@@ -81,7 +84,7 @@ fn scan(s: &[u8], counts: &mut [u64; PLACES], units: &mut [u64; PLACES]) -> Scan
         let Number::Value(v) = c else {
             continue;
         };
-        // The very next word is its unit, even if it is `ago` or a number.
+        // The very next word is the unit, even if it is `ago` or a number (RULES 7.4).
         let t2 = w.take(s, Separator::Mark);
         let Taken::Word(y, after) = t2 else {
             return Scanned { n, known, ago };

@@ -1,5 +1,5 @@
-// Pairs applied in order, on times as numbers from 0 (`time::range`): no product or difference
-// wraps, however large a count is.
+// Applies pairs in order (RULES 7.8 to 7.10), on times as numbers from 0 (`time::range`). No
+// product or difference overflows, however large a count is: it is compared with a quotient first.
 ghost use mathlib.Core.Path.{_≡_};
 ghost use Prim.Native.Nat.{_*_, _≤_};
 ghost use lib.IntN.{pos, _-ℤ_};
@@ -14,13 +14,17 @@ use crate::held::PLACES;
 use crate::pair::Pair;
 use crate::pair::Unit;
 use calendar::Found;
+use calendar::MONTHS_COUNTED;
 use time::Answer;
 use time::Now;
 use time::Refusal;
 use time::range::Instant;
 use time::range::Moved;
 
-// Where the steps start, or the refusal of the current time.
+// The offset 0, as `time::range` counts offsets from 0.
+const OFFSET_ZERO: u64 = 93600;
+
+// Where the steps start; or why they cannot: there is no current time, or it is out of range.
 pub enum Start {
     From(Instant),
     No(Refusal),
@@ -40,7 +44,7 @@ pub fn start_of(current: Now) -> Start
     Start::From(i)
 }
 
-// A landing as the reader's answer.
+// A landing as the answer: out of range is 6.
 pub fn answer(m: Moved) -> Answer
     requires { ⌜ MovedInRange m ⌝ }
     ensures { λ r. ⌜ r ≡ answerOf m ⌝ }
@@ -51,7 +55,7 @@ pub fn answer(m: Moved) -> Answer
     }
 }
 
-// The first n pairs, each from where the one before landed.
+// Subtracts the first n pairs, each from where the one before it landed.
 pub fn subtract_pairs(
     months: &[u32],
     counts: &[u64; PLACES],
@@ -82,6 +86,7 @@ pub fn subtract_pairs(
     Moved::In(at)
 }
 
+// Subtracts one pair. An unknown unit is a second.
 fn subtract_pair(months: &[u32], p: Pair, i: Instant) -> Moved
     requires { ⌜ IsMonths (now months) × InRange i × Sized (p .unit) ⌝ }
     ensures is { λ r. ⌜ answerOf r ≡ step p (TimeAt (timeOf i)) ⌝ }
@@ -96,7 +101,7 @@ fn subtract_pair(months: &[u32], p: Pair, i: Instant) -> Moved
     }
 }
 
-// n times k seconds earlier.
+// n * k seconds earlier.
 pub fn seconds_back(i: Instant, n: u64, k: u64) -> Moved
     requires { ⌜ InRange i × (1 ≤ k) ⌝ }
     ensures is { λ r. ⌜ answerOf r ≡ landed (since1970 (i .seconds) -ℤ pos (n * k)) (timeOf i .offset) ⌝ }
@@ -106,11 +111,11 @@ pub fn seconds_back(i: Instant, n: u64, k: u64) -> Moved
     if t / k < n {
         return Moved::Out;
     }
-    kept(t - n * k, i.offset)
+    if_in_range(t - n * k, i.offset)
 }
 
-// n times k months earlier, on the local clock. The landing is tested for range,
-// not the first day of its month.
+// n * k months earlier, on the local clock. The landing is tested for range, not the first day of
+// its month: at offset 0, January of year -9999 begins out of range.
 fn months_earlier(months: &[u32], i: Instant, n: u64, k: u64) -> Moved
     requires { ⌜ IsMonths (now months) × InRange i × (1 ≤ k) ⌝ }
     ensures is { λ r. ⌜ answerOf r ≡ landed (monthsEarlier (timeOf i) (n * k)) (timeOf i .offset) ⌝ }
@@ -118,21 +123,21 @@ fn months_earlier(months: &[u32], i: Instant, n: u64, k: u64) -> Moved
 {
     let t = i.seconds;
     let o = i.offset;
-    if 240000 / k < n {
+    if MONTHS_COUNTED / k < n {
         return Moved::Out;
     }
-    let back = calendar::months_back(months, t + o - 93600, n * k);
+    let back = calendar::months_back(months, t + o - OFFSET_ZERO, n * k);
     let Found::At(l) = back else {
         return Moved::Out;
     };
-    if l + 93600 < o {
+    if l + OFFSET_ZERO < o {
         return Moved::Out;
     }
-    kept(l + 93600 - o, o)
+    if_in_range(l + OFFSET_ZERO - o, o)
 }
 
 // A landing, if it is in range.
-fn kept(seconds: u64, offset: u64) -> Moved
+fn if_in_range(seconds: u64, offset: u64) -> Moved
     requires { ⌜ (1 ≤ offset) × (offset ≤ 187199) ⌝ }
     ensures is { λ r. ⌜ answerOf r ≡ landed (since1970 seconds) (pos offset -ℤ pos 93600) ⌝ }
     ensures range { λ r. ⌜ MovedInRange r ⌝ }

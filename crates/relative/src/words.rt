@@ -1,26 +1,39 @@
-// What a word alone says: a count, or a unit.
+// What a single word means: a count (RULES 7.3), or a unit (RULES 7.5).
 ghost use mathlib.Core.Path.{_≡_};
 ghost use mathlib.Core.Bool.{cond};
 ghost use Rattle.text.specs.Bytes.{sameLetters};
 ghost use Rattle.text.specs.declared.number.Number.the-variants.{Value, Not};
 ghost use Rattle.relative.specs.Words.{spelled as spelledOf, countOf, singular as singularOf, unitNamed, unitOf};
 use crate::pair::Unit;
+use calendar::SECONDS_PER_DAY;
 use text::bytes;
 use text::number::Number;
 
-// Digits that fit 64 signed bits, `one` to `ten`, or `last`, which is 1. Digits are tried first: no
-// name begins with one.
+// The largest number of 64 signed bits.
+const LARGEST_COUNT: u64 = 9223372036854775807;
+
+const SECONDS_PER_MINUTE: u64 = 60;
+
+const SECONDS_PER_HOUR: u64 = 3600;
+
+const SECONDS_PER_WEEK: u64 = 604800;
+
+const MONTHS_PER_YEAR: u64 = 12;
+
+// A count: digits that fit 64 signed bits, `one` to `ten`, or `last`, which is 1. Digits are tried
+// first, because no name begins with a digit.
 pub fn count(w: &[u8]) -> Number
     ensures { λ r. ⌜ r ≡ countOf (now (w .entry)) ⌝ }
 {
-    let n = text::number::digits(w, 0, 9223372036854775807);
+    let n = text::number::digits(w, 0, LARGEST_COUNT);
     let Number::Value(v) = n else {
         return spelled(w);
     };
     Number::Value(v)
 }
 
-// There is no `zero`.
+// `one` to `ten`, or `last`; there is no `zero`. The first name decides, so they are tried from the
+// last.
 fn spelled(w: &[u8]) -> Number
     ensures { λ r. ⌜ r ≡ spelledOf (now (w .entry)) Not ⌝ }
 {
@@ -49,13 +62,14 @@ fn named(w: &[u8], name: &[u8], n: u64, other: Number) -> Number
     other
 }
 
+// The unit that a word names.
 pub fn unit(w: &[u8]) -> Unit
     ensures { λ r. ⌜ r ≡ unitOf (now (w .entry)) ⌝ }
 {
     unit_named(singular(w))
 }
 
-// Without one final `s` or `S`: `secondss` is no second.
+// The word without one final `s` or `S`. Only one is dropped: `secondss` is not a unit.
 fn singular(w: &[u8]) -> &[u8]
     ensures { λ r. ⌜ now r ≡ singularOf (now (w .entry)) ⌝ }
 {
@@ -69,6 +83,7 @@ fn singular(w: &[u8]) -> &[u8]
     w
 }
 
+// The unit with exactly this name.
 fn unit_named(w: &[u8]) -> Unit
     ensures { λ r. ⌜ r ≡ unitNamed (now (w .entry)) ⌝ }
 {
@@ -76,22 +91,22 @@ fn unit_named(w: &[u8]) -> Unit
         return Unit::Seconds(1);
     }
     if bytes::same_ignoring_case(w, b"minute") {
-        return Unit::Seconds(60);
+        return Unit::Seconds(SECONDS_PER_MINUTE);
     }
     if bytes::same_ignoring_case(w, b"hour") {
-        return Unit::Seconds(3600);
+        return Unit::Seconds(SECONDS_PER_HOUR);
     }
     if bytes::same_ignoring_case(w, b"day") {
-        return Unit::Seconds(86400);
+        return Unit::Seconds(SECONDS_PER_DAY);
     }
     if bytes::same_ignoring_case(w, b"week") {
-        return Unit::Seconds(604800);
+        return Unit::Seconds(SECONDS_PER_WEEK);
     }
     if bytes::same_ignoring_case(w, b"month") {
         return Unit::Months(1);
     }
     if bytes::same_ignoring_case(w, b"year") {
-        return Unit::Months(12);
+        return Unit::Months(MONTHS_PER_YEAR);
     }
     Unit::Unknown
 }

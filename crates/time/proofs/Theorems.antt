@@ -12,9 +12,10 @@ use borrow.Author.Tests.{lt-leb, le-ltb}
 use lib.Dec.{eqb, leb, ltb}
 use lib.IntN.{ℤ, pos, negsuc, natAbs}
 use lib.ListN.{length}
+use lib.Signed.{_≤ℤ_}
 use mir.Syntax.{w64}
 use mir.Val.{SFits}
-use Rattle.ints.proofs.Machine.{natAbs-le-of-SFits}
+use Rattle.ints.proofs.Machine.{param, natAbs-le-of-SFits, In-of-natAbs}
 use Rattle.calendar.proofs.Dates.{IsDate-of-dateOf, IsDate-day-lt}
 use Rattle.calendar.specs.Dates.{dateOf}
 use Rattle.text.proofs.Signed.{length-signed-le}
@@ -24,7 +25,7 @@ use Rattle.text.specs.Bytes.{isDigit, isSign}
 use Rattle.text.specs.Decimal.{digitsUpTo, decimal, signed}
 use Rattle.text.specs.Quote.{bytes}
 use Rattle.time.specs.Clock.{clockOf, localOf}
-use Rattle.time.specs.Header.{sizeOf, headerBytes, headerWritten, signByte, wholeMinutes}
+use Rattle.time.specs.Header.{sizeOf, headerBytes, headerWritten, signByte, wholeMinutes, HasHeader, smallestTime, largestTime}
 use Rattle.time.specs.Range.{instantOf}
 use Rattle.time.specs.Iso.{lineClock, yearOf, lineBytes, shown, isoBytes, isoWritten}
 use Rattle.time.specs.declared.Time.{Time}
@@ -68,6 +69,21 @@ unfolding headerWritten
 room-for-every-header t room f l h =
     let k : sizeOf (t .seconds) ≤ length room = omega (arith, size-at-most-26 (t .seconds) f) in
     rw (lt-leb 360000 (natAbs (t .offset)) h, le-ltb (length room) (sizeOf (t .seconds)) k)
+
+-- ---- `Time::MIN` and `Time::MAX`
+-- no time that a header can carry has smaller seconds or a smaller offset than `Time::MIN`, which is one itself
+pub MIN-is-least : HasHeader smallestTime × ((t : Time) → HasHeader t → (smallestTime .seconds ≤ℤ t .seconds) × (smallestTime .offset ≤ℤ t .offset))
+MIN-is-least = (
+  record { seconds = record { sfits = omega arith }; offset = omega arith },
+  (λ t h. (param w64 (h .seconds) .within .low, In-of-natAbs 359999 (t .offset) (omega (arith, h .offset)) .low)),
+)
+
+-- nor larger ones than `Time::MAX`
+pub MAX-is-most : HasHeader largestTime × ((t : Time) → HasHeader t → (t .seconds ≤ℤ largestTime .seconds) × (t .offset ≤ℤ largestTime .offset))
+MAX-is-most = (
+  record { seconds = record { sfits = omega arith }; offset = omega arith },
+  (λ t h. (param w64 (h .seconds) .within .high, In-of-natAbs 359999 (t .offset) (omega (arith, h .offset)) .high)),
+)
 
 -- ---- the ISO line
 pub iso-line-is-25-bytes : (t : Time) → length (isoBytes t) ≡ 25

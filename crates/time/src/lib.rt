@@ -13,7 +13,7 @@ ghost use Rattle.text.specs.Decimal.{decimal as decimalOf};
 ghost use Rattle.text.specs.Room.{roomAfter};
 ghost use Rattle.time.specs.Answers.{timeAt, numberOf, isWritten};
 ghost use Rattle.calendar.specs.Table.{IsMonths};
-ghost use Rattle.time.specs.Header.{sizeOf, headerBytes, headerWritten};
+ghost use Rattle.time.specs.Header.{sizeOf, headerBytes, headerWritten, smallestTime, largestTime};
 ghost use Rattle.time.specs.Iso.{isoBytes, isoWritten};
 use text::decimal;
 
@@ -23,17 +23,30 @@ pub struct Time {
 }
 
 impl Time {
-    // The numerically largest time.
+    // The largest time that a header can carry: no other has larger seconds or a larger offset.
     pub const MAX: Time = Time {
         seconds: 9223372036854775807,
         offset: 359999,
     };
 
-    // The numerically smallest time.
+    // The smallest: no other has smaller seconds or a smaller offset.
     pub const MIN: Time = Time {
         seconds: -9223372036854775808,
         offset: -359999,
     };
+
+    // `MAX` and `MIN` as calls, so that contracts say which times they are.
+    pub fn largest() -> Time
+        ensures { λ r. ⌜ r ≡ largestTime ⌝ }
+    {
+        Time::MAX
+    }
+
+    pub fn smallest() -> Time
+        ensures { λ r. ⌜ r ≡ smallestTime ⌝ }
+    {
+        Time::MIN
+    }
 
     pub fn new(seconds: i64, offset: i32) -> Time
         ensures { λ r. ⌜ r ≡ timeAt seconds offset ⌝ }

@@ -12,7 +12,7 @@ use Rattle.relative.specs.Pairs.{pairsOf}
 use Rattle.relative.specs.Held.{places}
 use Rattle.relative.specs.declared.pair.Pair.{Pair}
 use Rattle.relative.proofs.Holding.{maxPairs-le-places}
-use Rattle.relative.proofs.Telling.{byPairs-of-nothing, byPairs-of-lt, byPairs-of-le, from-of-start, take-of-Holds}
+use Rattle.relative.proofs.Cases.{byPairs-of-nothing, byPairs-of-lt, byPairs-of-le, from-of-start, take-of-Holds}
 use borrow.Author.Needs.{needs}
 use Rattle.relative.proofs.parse_pairs.Statement.{statement}
 use Rattle.relative.proofs.parse_pairs.Tie as tie

@@ -3,7 +3,7 @@
 use mathlib.Core.Path.{sym, _∙_}
 use native.Mathlib.Omega.{arith}
 use Rattle.relative.specs.Steps.{steps, step, landing}
-use Rattle.relative.proofs.Telling.{from-of-start}
+use Rattle.relative.proofs.Cases.{from-of-start}
 use borrow.Author.Needs.{needs}
 use Rattle.relative.proofs.seconds_before.Statement.{statement}
 use Rattle.relative.proofs.seconds_before.Tie as tie

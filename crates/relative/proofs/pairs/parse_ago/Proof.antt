@@ -1,6 +1,6 @@
 -- `relative::pairs::parse_ago` meets its contract.
 -- Assumes nothing.
-use Rattle.relative.proofs.Telling.{Holds-of-counted}
+use Rattle.relative.proofs.Cases.{Holds-of-counted}
 use borrow.Author.Needs.{needs}
 use Rattle.relative.proofs.pairs.parse_ago.Statement.{statement}
 use Rattle.relative.proofs.pairs.parse_ago.Tie as tie

@@ -1,5 +1,6 @@
--- `relative::pairs::scan` meets its contract. The invariant: what is held, counted and marked, with the words that are left at
--- the reader, makes the whole (`Scanned`); each pair took more than one byte. The measure is what is left of the text.
+-- `relative::pairs::scan` meets its contract. The invariant: what was stored, counted and marked so far, together with the words
+-- that the reader has left, makes up the whole text (`Scanned`); and each pair took more than one byte. The measure is the length
+-- of the text that is left.
 -- Assumes nothing.
 use mathlib.Core.Path.{_≡_, ap, _∙_}
 use mathlib.Core.Bool.{false}

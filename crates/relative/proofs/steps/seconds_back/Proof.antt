@@ -12,14 +12,14 @@ use Rattle.relative.proofs.steps.seconds_back.Tie as tie
 returns : tie.Need-returns
 returns c = (sym (seconds-far _ _ _ _ (c .before .pre .1) (c .if1 .taken)), tt)
 
-mul-kept : tie.Need-mul-kept
-mul-kept c = omega (arith, mul-le-of-div _ _ _ (c .before .pre .1) (c .if1 .left))
+mul-if-in-range : tie.Need-mul-if-in-range
+mul-if-in-range c = omega (arith, mul-le-of-div _ _ _ (c .before .pre .1) (c .if1 .left))
 
-sub-kept : tie.Need-sub-kept
-sub-kept c = mul-le-of-div _ _ _ (c .before .pre .1) (c .if1 .left)
+sub-if-in-range : tie.Need-sub-if-in-range
+sub-if-in-range c = mul-le-of-div _ _ _ (c .before .pre .1) (c .if1 .left)
 
 returns-2 : tie.Need-returns-2
-returns-2 c = rw (← since1970-sub _ _ (mul-le-of-div _ _ _ (c .before .before .pre .1) (c .before .if1 .left))) (c .kept .ensures)
+returns-2 c = rw (← since1970-sub _ _ (mul-le-of-div _ _ _ (c .before .before .pre .1) (c .before .if1 .left))) (c .if-in-range .ensures)
 
 pub seconds-back-spec : {M : Type 1} → statement M
-seconds-back-spec = tie.close (tie.spec (λ c. search needs) returns mul-kept sub-kept (λ c κs. search needs) returns-2)
+seconds-back-spec = tie.close (tie.spec (λ c. search needs) returns mul-if-in-range sub-if-in-range (λ c κs. search needs) returns-2)

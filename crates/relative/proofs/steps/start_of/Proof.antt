@@ -2,7 +2,7 @@
 -- Assumes nothing.
 use mathlib.Core.Path.{sym}
 use Rattle.relative.specs.Held.{startOf}
-use Rattle.relative.proofs.Telling.{startOf-movedOf}
+use Rattle.relative.proofs.Cases.{startOf-movedOf}
 use borrow.Author.Needs.{needs}
 use Rattle.relative.proofs.steps.start_of.Statement.{statement}
 use Rattle.relative.proofs.steps.start_of.Tie as tie

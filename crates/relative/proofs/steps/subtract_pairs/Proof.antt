@@ -1,5 +1,5 @@
--- `relative::steps::subtract_pairs` meets its contract. The invariant: the pairs from k on, from where one stands, lead where all
--- of them lead from the start. The measure is how many are left.
+-- `relative::steps::subtract_pairs` meets its contract. The invariant: the pairs from k on, applied from `at`, give what all
+-- of them give from the start. The measure is how many pairs are left.
 -- Assumes nothing.
 use mathlib.Core.Path.{_≡_, refl, sym, ap, _∙_}
 use Prim.Native.Nat.{ℕ, _≤_, _-_, _+_}

@@ -1,4 +1,4 @@
--- `relative::words::count` meets its contract: what is digits is no name, so that trying digits first changes nothing.
+-- `relative::words::count` meets its contract: digits are not one of the names, so trying digits first changes nothing.
 -- Assumes nothing.
 use mathlib.Core.Path.{sym, _∙_}
 use Rattle.relative.specs.Words.{countOf}

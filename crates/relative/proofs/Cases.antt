@@ -1,4 +1,5 @@
--- What a scan says of a text is what `byPairs` asks, and where the steps start is what `from` asks.
+-- The cases of `byPairs` and `from`, by what the code has found: how many pairs there are, where the steps start, which pairs are
+-- held.
 -- Assumes nothing.
 use mathlib.Core.Path.{_≡_, refl, sym, ap, _∙_}
 use mathlib.Core.Bool.{Bool, true, false, _&&_, _||_}
@@ -29,7 +30,7 @@ use Rattle.relative.specs.declared.pairs.Counted.the-variants.{Pairs, No
 use Rattle.relative.specs.declared.steps.Start.{Start}
 use Rattle.relative.specs.declared.steps.Start.the-variants.{From, No}
 
--- ---- what the count says
+-- ---- the count of pairs
 nothing-of-counted : (n : ℕ) (allowed : Bool) → countedOf n allowed ≡ Nothing → (ltb 0 n && allowed) ≡ false
 unfolding countedOf
 nothing-of-counted zero allowed e = refl
@@ -42,20 +43,20 @@ pairs-of-counted zero m allowed e = let z : _≡_ {A = ℕ} 0 1 = cc in absurd (
 pairs-of-counted (suc n) m true e = let k : Pairs (suc n) ≡ Pairs m = rw eqb·suc-zero at e in (rw (lt-ltb 0 (suc n) (omega arith)), cc)
 pairs-of-counted (suc n) m false e = let k : Nothing ≡ Pairs m = rw eqb·suc-zero at e in let z : _≡_ {A = ℕ} 0 1 = cc in absurd (omega arith)
 
--- ---- how many pairs go on
-module _ (bound : ℕ) (s : List ℕ) (now : Now) (t : Counted) (e : t ≡ countedOf (length (pairsOf s)) (known (pairsOf s) || agoIn s)) where
-  -- none: 2
-  pub byPairs-of-nothing : t ≡ Nothing → byPairs bound s now ≡ Refused Form
+-- ---- the answer by that count
+module _ (bound : ℕ) (s : List ℕ) (current : Now) (t : Counted) (e : t ≡ countedOf (length (pairsOf s)) (known (pairsOf s) || agoIn s)) where
+  -- no pair, or units that are not allowed: 2
+  pub byPairs-of-nothing : t ≡ Nothing → byPairs bound s current ≡ Refused Form
   unfolding byPairs
   byPairs-of-nothing f = rw (nothing-of-counted (length (pairsOf s)) (known (pairsOf s) || agoIn s) (sym e ∙ f))
 
-  -- so many, and 5 if they are too many
+  -- n pairs: 5 if they are too many, and otherwise they are applied
   module _ {n : ℕ} (f : t ≡ Pairs n) where
-    pub byPairs-of-lt : bound < n → byPairs bound s now ≡ Refused TooMany
+    pub byPairs-of-lt : bound < n → byPairs bound s current ≡ Refused TooMany
     unfolding byPairs
     byPairs-of-lt h = let p = pairs-of-counted (length (pairsOf s)) n (known (pairsOf s) || agoIn s) (sym e ∙ f) in rw (p .0, lt-leb (length (pairsOf s)) bound (omega (arith, p .1)))
 
-    pub byPairs-of-le : n ≤ bound → byPairs bound s now ≡ from now (pairsOf s)
+    pub byPairs-of-le : n ≤ bound → byPairs bound s current ≡ from current (pairsOf s)
     unfolding byPairs
     byPairs-of-le h = let p = pairs-of-counted (length (pairsOf s)) n (known (pairsOf s) || agoIn s) (sym e ∙ f) in rw (p .0, le-leb (length (pairsOf s)) bound (omega (arith, p .1)))
 
@@ -64,12 +65,12 @@ abbrev byStart : List Pair → Start → Answer
 byStart ps (From i) = steps ps (Time (timeOf i))
 byStart ps (No r) = Refused r
 
-from-startOf : (now : Now) (ps : List Pair) → from now ps ≡ byStart ps (startOf now)
+from-startOf : (current : Now) (ps : List Pair) → from current ps ≡ byStart ps (startOf current)
 unfolding from startOf
 from-startOf Missing ps = refl
 from-startOf (At x) ps = by-test (timeInRange x) (λ e. rw (e, timeOf-instantOf x e)) (λ e. rw e)
 
--- as a time is moved to numbers from 0
+-- the same start, by the time as numbers from 0
 abbrev byMoved : Moved → Start
 byMoved (In i) = From i
 byMoved Out = No Current
@@ -78,11 +79,11 @@ pub startOf-movedOf : (x : Moment) → startOf (At x) ≡ byMoved (movedOf x)
 unfolding startOf movedOf
 startOf-movedOf x = by-test (timeInRange x) (λ e. rw e) (λ e. rw e)
 
--- a start that was found
-pub from-of-start : (now : Now) (ps : List Pair) (s t : Start) → s ≡ startOf now → s ≡ t → from now ps ≡ byStart ps t
-from-of-start now ps s t e f = from-startOf now ps ∙ ap (byStart ps) (sym e ∙ f)
+-- by the start that the code found
+pub from-of-start : (current : Now) (ps : List Pair) (s t : Start) → s ≡ startOf current → s ≡ t → from current ps ≡ byStart ps t
+from-of-start current ps s t e f = from-startOf current ps ∙ ap (byStart ps) (sym e ∙ f)
 
--- what a scan holds
+-- ---- the pairs that are held
 pub Holds-of-counted : (n : ℕ) (allowed : Bool) (held ps : List Pair) (t : Counted) → t ≡ countedOf n allowed → (n ≤ places → take n held ≡ ps) → Holds t held ps
 Holds-of-counted n allowed held ps (Pairs m) e h = rw (pairs-of-counted n m allowed (sym e) .1) at h
 Holds-of-counted n allowed held ps Nothing e h = tt
