@@ -14,7 +14,8 @@ use lib.ListN.{length, getD, take, length-take}
 use lib.Signed.{leZ, ltZ}
 use Rattle.text.specs.Bytes.{isDigit, isSign}
 use Rattle.text.specs.Places.{run, leading}
-use Rattle.text.specs.Number.{readFrom, digitsOf, unsignedOf, signedOf, fit, fitSigned, plus, minus, numeral, signedBy, AtMost}
+use Rattle.text.specs.Number.{readFrom, digitsOf, unsignedOf, signedOf, fit, fitSigned, plus, minus, numeral, AtMost}
+use Rattle.text.specs.Held.{signedBy}
 use Rattle.text.specs.declared.number.Number.{Number}
 use Rattle.text.specs.declared.number.Number.the-variants.{Value, Not}
 use Rattle.text.specs.declared.number.Integer.{Integer}
