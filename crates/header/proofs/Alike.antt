@@ -5,7 +5,7 @@
 use mathlib.Core.Path.{_≡_, refl, sym, ap, _∙_}
 use mathlib.Core.Bool.{Bool, true, false, cond}
 use mathlib.Core.List.{List}
-use mathlib.Core.Logic.{_⊎_, inl, inr, ⊎-elim}
+use mathlib.Core.Logic.{inl, inr, ⊎-elim}
 use Prim.Native.Nat.{ℕ}
 use native.Mathlib.Omega.{arith}
 use lib.IntN.{ℤ, pos}
@@ -18,10 +18,11 @@ use Rattle.text.proofs.Lists.{by-test}
 use Rattle.time.specs.Answers.{timeAt}
 use Rattle.time.specs.declared.Time.{Time}
 use Rattle.time.specs.declared.Answer.the-variants.{Time as At}
-use Rattle.header.specs.Offset.{fieldsOf, offsetOf}
+use Rattle.header.specs.Offset.{secondWord, fieldsOf, offsetOf}
 use Rattle.header.specs.Header.{number64, secondsOf, headerOffset, headerTime, headerOf}
 use Rattle.header.specs.Raw.{Limits, allows, rawTime, rawOf}
-use Rattle.header.specs.Held.{firstWord, secondWord}
+use Rattle.header.specs.Held.{firstWord}
+use Rattle.header.specs.Theorems.{Alike}
 use Rattle.header.specs.declared.offset.Field.the-variants.{Byte}
 use Rattle.header.specs.declared.offset.Fields.{Fields}
 use Rattle.header.specs.declared.offset.Parsed.{Parsed}
@@ -74,9 +75,6 @@ header-of-raw l s t e =
     (λ a. let k = rw a at e in let q : _≡_ {A = ℕ} 0 1 = cc in absurd (omega arith))
 
 -- they answer alike if the byte after the offset's sign is a digit, or the offset is 0
-abbrev pub Alike : List ℕ → Time → Type 0
-Alike s t = (isDigit (getD (secondWord s) 1 0) ≡ true) ⊎ (t .offset ≡ pos 0)
-
 pub raw-header-alike : (l : Limits) (s : List ℕ) (t : Time) → rawOf l s ≡ At t → Alike s t → headerOf s ≡ rawOf l s
 raw-header-alike l s t e alike = header-of-raw l s t e ∙ ap (λ (o : ℤ). At (timeAt (t .seconds) o)) kept ∙ sym e
   where

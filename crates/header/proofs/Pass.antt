@@ -21,8 +21,8 @@ use Rattle.text.proofs.Runs.{past-add, same-drop-past, has-drop-nil}
 use Rattle.text.proofs.Taking.{ltb-zero-length-words, getD-words-zero, drop-one-words}
 use Rattle.text.proofs.Numbers.{numeral-le-run}
 use Rattle.text.proofs.Plain.{plain, isPlain-of-isSign, isPlain-of-isDigit, ascii-cons, ascii-space, has-cons-of-ne, has-space, past-isPlain}
-use Rattle.header.specs.Offset.{onlyWord}
-use Rattle.header.specs.Held.{endsAt, spanOf, nowhere, secondWord, LeadsWithNumber, FirstWords}
+use Rattle.header.specs.Offset.{onlyWord, secondWord}
+use Rattle.header.specs.Held.{endsAt, spanOf, nowhere, LeadsWithNumber, FirstWords}
 use Rattle.header.proofs.FirstWord.{number64-firstWord, secondsOf-firstWord}
 
 -- ---- the places, from the end of the number on

@@ -5,12 +5,11 @@
 use mathlib.Core.Path.{_≡_, refl, ap, _∙_}
 use mathlib.Core.Bool.{Bool, true, false, cond}
 use mathlib.Core.List.{List, [], _∷_}
-use Prim.Native.Nat.{ℕ, suc, _+_, _-_, _*_, _/_, _%_, _^_, _≤_, _<_}
+use Prim.Native.Nat.{ℕ, suc, _+_, _*_, _/_, _%_, _≤_, _<_}
 use native.Mathlib.Omega.{arith}
 use lib.Dec.{eqb}
 use lib.IntN.{ℤ, pos, negsuc, negℤ, natAbs}
 use lib.ListN.{length, take}
-use Rattle.ints.specs.Range.{In}
 use Rattle.text.specs.Bytes.{isSpace, isSign}
 use Rattle.text.specs.Words.{words}
 use Rattle.text.specs.Decimal.{signed, signedBefore, twoBefore}
@@ -27,16 +26,13 @@ use Rattle.time.specs.declared.Written.the-variants.{Length}
 use Rattle.time.specs.declared.Answer.the-variants.{Time as At}
 use Rattle.header.specs.Offset.{fiveOrSeven, fieldOf, lastField, fieldsOf, offsetOf}
 use Rattle.header.specs.Header.{headerOf, headerOfWords, headerTime, secondsOf, headerOffset}
+use Rattle.header.specs.Theorems.{Seconds64}
 use Rattle.header.specs.declared.offset.Fields.{Fields}
 use Rattle.header.specs.declared.offset.Parsed.the-variants.{Offset}
 use Rattle.text.proofs.Texts.{ascii-of-between, no-colon-of-between, whole-of-between, Between-le, signedOf-two}
 use Rattle.header.proofs.Written.{offset-lt-of-written, take-roomAfter}
 
 -- ---- the seconds' word
--- the seconds that 64 bits hold
-abbrev pub Seconds64 : ℤ → Type 0
-Seconds64 z = In (negsuc (2 ^ 63 - 1)) (pos (2 ^ 63 - 1)) z
-
 secondsOf-signed : (z : ℤ) → Seconds64 z → secondsOf (signed z) ≡ Is z
 unfolding secondsOf
 secondsOf-signed z r = rw (fitSigned-signed z r)

@@ -17,10 +17,10 @@ use Rattle.text.proofs.Numbers.{fitSigned-value}
 use Rattle.text.proofs.Texts.{Lacking, not-has-of-words, no-colon-of-between, between-of-signedOf}
 use Rattle.time.specs.declared.Answer.the-variants.{Refused}
 use Rattle.time.specs.declared.Refusal.the-variants.{Form}
-use Rattle.header.specs.Offset.{onlyWord, fiveOrSeven, fieldsOf}
+use Rattle.header.specs.Offset.{onlyWord, secondWord, fiveOrSeven, fieldsOf}
 use Rattle.header.specs.Header.{number64, secondsOf, headerOffset, headerTime, headerOfWords, headerOf}
 use Rattle.header.specs.Raw.{Limits, rawTime, rawOfWords, rawOf}
-use Rattle.header.specs.Held.{firstWord, secondWord, WordsRead}
+use Rattle.header.specs.Held.{firstWord, WordsRead}
 use Rattle.header.specs.declared.offset.Field.{Field}
 use Rattle.header.specs.declared.offset.Field.the-variants.{Byte}
 use Rattle.header.specs.declared.offset.Fields.{Fields}

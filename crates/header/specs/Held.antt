@@ -18,7 +18,7 @@ use Rattle.text.specs.Number.{LeadsWith}
 use Rattle.text.specs.declared.number.Integer.the-variants.{NotOne}
 use Rattle.text.specs.declared.number.LeadingInteger.{LeadingInteger}
 use Rattle.text.specs.declared.words.Span.{Span}
-use Rattle.header.specs.Offset.{onlyWord, fieldsOf}
+use Rattle.header.specs.Offset.{secondWord, fieldsOf}
 use Rattle.header.specs.Header.{number64, secondsOf}
 use Rattle.header.specs.declared.offset.Field.the-variants.{Byte}
 use Rattle.header.specs.declared.offset.Fields.{Fields}
@@ -63,12 +63,9 @@ spanOf start end = record { start = start; end = end }
 abbrev pub nowhere : Span
 nowhere = spanOf 0 0
 
--- the first word, and the second where there is no third; the empty text if there is none, which is neither number nor offset
+-- the first word; the empty text if there is none, which is no number
 abbrev pub firstWord : List ℕ → List ℕ
 firstWord s = getD (words isSpace s) 0 []
-
-abbrev pub secondWord : List ℕ → List ℕ
-secondWord s = onlyWord (drop 1 (words isSpace s))
 
 abbrev pub hasColon : List ℕ → Bool
 hasColon s = has (code ":") s

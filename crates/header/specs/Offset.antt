@@ -9,7 +9,8 @@ use mathlib.Core.List.{List, [], _∷_}
 use lib.Dec.{eqb}
 use lib.IntN.{ℤ, pos, negℤ, _+ℤ_, _*ℤ_}
 use lib.ListN.{length, take, drop, getD}
-use Rattle.text.specs.Bytes.{isSign}
+use Rattle.text.specs.Bytes.{isSpace, isSign}
+use Rattle.text.specs.Words.{words}
 use Rattle.text.specs.Number.{signedOf, unsignedOf, fit, plus}
 use Rattle.text.specs.declared.number.Integer.{Integer}
 use Rattle.text.specs.declared.number.Integer.the-variants.{Is, NotOne}
@@ -21,11 +22,15 @@ use Rattle.header.specs.declared.offset.Fields.{Fields}
 use Rattle.header.specs.declared.offset.Parsed.{Parsed}
 use Rattle.header.specs.declared.offset.Parsed.the-variants.{Offset, NoOffset}
 
--- of the words past the first: the second word, if there is no third. The empty text stands for none, and is no offset
+-- of the words past the first: the second word, if there is no third. Otherwise it is the empty text, which is no offset
 abbrev pub onlyWord : List (List ℕ) → List ℕ
 onlyWord [] = []
 onlyWord (w ∷ []) = w
 onlyWord (w ∷ v ∷ ws) = []
+
+-- of a text: the same
+abbrev pub secondWord : List ℕ → List ℕ
+secondWord s = onlyWord (drop 1 (words isSpace s))
 
 -- 5 or 7 bytes
 unfoldable pub fiveOrSeven : ℕ → Bool
