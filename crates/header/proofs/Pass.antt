@@ -1,5 +1,6 @@
--- One pass over a text: where its scans stop, and what the places tell. In order: what was passed is ASCII and has no `:`; in a text
--- without a byte that ends a scan the places bound its words; all that the pass finds (`FirstWords-of-pass`).
+-- One pass over a text: the places where its scans stop, and what they say about the text. In order: the bytes that were passed
+-- are ASCII and no `:`; in a text without a byte that ends a scan, the places bound its words; all that the pass finds
+-- (`FirstWords-of-pass`).
 -- Assumes nothing.
 use mathlib.Core.Path.{_≡_, refl, sym, ap, _∙_}
 use mathlib.Core.Bool.{Bool, true, false, cond, not, _||_, false≢true}

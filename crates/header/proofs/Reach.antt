@@ -1,6 +1,6 @@
--- The offsets that a header can give: every one from -362439 to 362439, and no other. In order: none beyond (`header-offset-in`);
--- each is reached, beside any seconds (`header-offset-reached`), by a text whose fields are digits alone. So signs inside the
--- fields reach nothing new.
+-- The offsets that a header can give: every one from -362439 to 362439, and no other. In order: there is no other
+-- (`header-offset-in`); each of them is reached, with any seconds (`header-offset-reached`), by a text whose fields are digits
+-- alone. So signs inside the fields add nothing.
 -- Assumes nothing.
 use mathlib.Core.Path.{_≡_, refl, _∙_}
 use mathlib.Core.Bool.{true, false}
@@ -33,7 +33,7 @@ use Rattle.header.specs.declared.offset.Parsed.the-variants.{Offset, NoO
 use Rattle.header.proofs.Offsets.{headerOffset-all-small}
 use Rattle.header.proofs.ReadBack.{signByte-between, two-between, offsetOf-fieldsAre, headerOffset-seven, headerOf-signedBefore}
 
--- ---- none beyond
+-- ---- no other
 zero-in : HeaderOffset (pos 0)
 zero-in = record { low = parts-le _ _ (omega arith); high = parts-le _ _ (omega arith) }
 
@@ -93,7 +93,7 @@ read-sevenBytes z (pos n) h =
 read-sevenBytes z (negsuc n) h =
     rw (headerOffset-seven 45 (hoursIn (suc n)) (minutesIn (suc n)) refl (omega arith) (omega arith) (secondsIn (suc n)) (seconds-lt (suc n) h), offsetOf-fieldsAre true (hoursIn (suc n)) (minutesIn (suc n)) (secondsIn (suc n)) (suc n) (clock-is (suc n) h))
 
--- every offset from -362439 to 362439 is some header's, beside any seconds of 64 bits
+-- every offset from -362439 to 362439 is that of a header, with any seconds of 64 bits
 pub header-offset-reached : (z o : ℤ) → Seconds64 z → HeaderOffset o → headerOf (headerWith z o) ≡ At (timeAt z o)
 header-offset-reached z o r p =
     let h : natAbs o ≤ 362439 = omega (arith, le-parts (p .low), le-parts (p .high), natAbs-parts o, one-up o, one-dn o) in

@@ -1,6 +1,7 @@
--- What the writer writes, the header reader reads back (RULES 12.2): the seconds, and the offset cut toward zero to whole minutes, from
--- the bytes of a header (`header-read-back`) and from the room that a call has written to (`header-read-back-in-room`). In order: the
--- seconds' word; an offset's word of digits; any header of such words; what the writer writes.
+-- What the writer writes, the header reader reads back (RULES 12.2): the seconds, and the offset cut toward zero to whole
+-- minutes, from the bytes of a header (`header-read-back`) and from the room that a call has written to
+-- (`header-read-back-in-room`). In order: the seconds' word; an offset's word of digits; any header of such words; what the
+-- writer writes.
 -- Assumes nothing.
 use mathlib.Core.Path.{_≡_, refl, ap, _∙_}
 use mathlib.Core.Bool.{Bool, true, false, cond}
@@ -101,14 +102,14 @@ read-written z (pos n) h =
 read-written z (negsuc n) h =
     rw (headerOffset-five 45 (suc n / 60 / 60) (suc n / 60 % 60) refl (omega arith) (omega arith), offsetOf-fieldsAre true (suc n / 60 / 60) (suc n / 60 % 60) 0 (suc n / 60 * 60) (omega arith))
 
--- every time of 64-bit seconds and an offset under 100 hours, written and read: the seconds, and the offset cut to whole minutes
+-- the bytes of a header with an offset under 100 hours read back with the same seconds, and the offset cut to whole minutes
 pub header-read-back : (t : Time) → Seconds64 (t .seconds) → natAbs (t .offset) < 360000
     → headerOf (headerBytes t) ≡ At (timeAt (t .seconds) (cutToMinutes (t .offset)))
 unfolding headerBytes headerSign
 header-read-back t r h =
     headerOf-signedBefore (t .seconds) (written (t .offset)) r (omega arith) (written-between (t .offset) h) ∙ read-written (t .seconds) (t .offset) h
 
--- so a header that a call has written to the front of a room is read back
+-- and so does what a call that wrote n bytes has left in the first n bytes of the room
 pub header-read-back-in-room : (t : Time) (room : List ℕ) (n : ℕ) → Seconds64 (t .seconds) → headerWritten t room ≡ Length n
     → headerOf (take n (roomAfter (isWritten (headerWritten t room)) (headerBytes t) room)) ≡ At (timeAt (t .seconds) (cutToMinutes (t .offset)))
 header-read-back-in-room t room n r e = rw (take-roomAfter t room n e) (header-read-back t r (offset-lt-of-written t room n e))

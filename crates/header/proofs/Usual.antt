@@ -1,10 +1,10 @@
--- The form that every commit's date has: a number, and behind it a space, a sign, four digits, and nothing more. In order: its bytes; the
--- fields in them, which are numbers of either kind; where the scans of a pass stop in it; what the readers answer.
+-- The form that every commit's date has: a number, and behind it a space, a sign, four digits, and nothing more. In order: its
+-- bytes; the fields in them, which are numbers of either kind; where the scans of a pass stop in it; what the readers answer.
 -- Assumes nothing.
 use mathlib.Core.Path.{_≡_, refl, sym, ap, _∙_}
 use mathlib.Core.Bool.{Bool, true, false, _&&_}
 use mathlib.Core.List.{List, []}
-use Prim.Native.Nat.{ℕ, _+_, _-_, _*_, _≤_}
+use Prim.Native.Nat.{ℕ, _+_, _-_, _≤_}
 use native.Mathlib.Omega.{arith}
 use borrow.Author.Tests.{eqb-true, eq-eqb, ne-eqb, le-ltb, not-true}
 use lib.Dec.{eqb}
@@ -21,7 +21,7 @@ use Rattle.text.proofs.Plain.{isPlain-of-isSign, isPlain-of-isDigit, no-space-o
 use Rattle.header.specs.Offset.{fiveOrSeven, lastField, fieldsOf}
 use Rattle.header.specs.Header.{headerOffset, headerTime, headerOf}
 use Rattle.header.specs.Raw.{Limits, rawTime, rawOf}
-use Rattle.header.specs.Held.{Small, LeadsWithNumber, isUsual, usualOf, endsAt, spanOf, WordsRead}
+use Rattle.header.specs.Held.{Small, twoDigits, LeadsWithNumber, isUsual, usualOf, endsAt, spanOf, WordsRead}
 use Rattle.header.specs.declared.offset.Field.{Field}
 use Rattle.header.specs.declared.offset.Field.the-variants.{Signed, Byte}
 use Rattle.header.specs.declared.offset.Fields.{Fields}
@@ -92,8 +92,8 @@ module _ (s : List ℕ) (at : ℕ) (u : Usual s at) where
   fields =
       record {
         minus = eqb (getD s (at + 1) 0) 45;
-        hours = pos (10 * (getD s (at + 2) 0 - 48) + (getD s (at + 3) 0 - 48));
-        minutes = pos (10 * (getD s (at + 4) 0 - 48) + (getD s (at + 5) 0 - 48));
+        hours = pos (twoDigits (getD s (at + 2) 0) (getD s (at + 3) 0));
+        minutes = pos (twoDigits (getD s (at + 4) 0) (getD s (at + 5) 0));
         seconds = pos 0;
       }
 

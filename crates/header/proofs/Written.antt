@@ -1,6 +1,6 @@
--- The header writer, over the definitions of `time` alone. In order: a header is written if the offset is under 100 hours and the room has
--- `size` bytes (`header-written-if-it-fits`); where one is written, the offset is under 100 hours (`offset-lt-of-written`), and the
--- front of the room then holds its bytes (`take-roomAfter`).
+-- The header writer, over the definitions of `time` alone. In order: a header is written if the offset is under 100 hours and the
+-- room has `size` bytes (`header-written-if-it-fits`); where one is written, the offset is under 100 hours
+-- (`offset-lt-of-written`), and the front of the room then holds its bytes (`take-roomAfter`).
 -- Assumes nothing.
 use mathlib.Core.Path.{_≡_, sym}
 use mathlib.Core.List.{List}

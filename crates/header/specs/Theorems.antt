@@ -1,5 +1,5 @@
--- What the theorems about headers speak of (docs/PROMISES.md): the seconds that 64 bits hold; the offsets that a header can give, and a
--- header for each of them; the texts on which the raw and the header reader agree. No contract cites these.
+-- What the theorems about headers speak of (docs/PROMISES.md): the seconds that 64 bits hold; the offsets that a header can give,
+-- and a header for each of them; the texts on which the raw and the header reader agree. No contract cites these.
 -- Assumes nothing.
 use Prim.Native.Nat.{ℕ, _-_, _*_, _/_, _^_, min}
 use mathlib.Core.Path.{_≡_}

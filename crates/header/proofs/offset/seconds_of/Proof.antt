@@ -1,4 +1,4 @@
--- `header::offset::seconds_of` meets its contract: fields of two bytes add up within 32 bits, and so does the sum turned.
+-- `header::offset::seconds_of` meets its contract: the sum of fields of two bytes fits 32 bits, and so does its negation.
 -- Assumes nothing.
 use lib.IntN.{ℤ, pos, negsuc, _+ℤ_, _*ℤ_}
 use mir.Syntax.{w32, w64}

@@ -1,4 +1,4 @@
--- `header::offset::usual_fields` meets its contract: its tests are the definition's, and two digits are a field.
+-- `header::offset::usual_fields` meets its contract: its tests are those of the definition, and two digits are a field.
 -- Assumes nothing.
 use mathlib.Core.Path.{_≡_, sym, _∙_}
 use mathlib.Core.Bool.{true}

@@ -1,4 +1,4 @@
--- `header::raw::parse_raw_by` meets its contract: of a number alone, and in the usual form, the number and the fields behind it
+-- `header::raw::parse_raw_by` meets its contract: for a number alone and for the usual form, the number and the fields after it
 -- decide; any other text is read word by word.
 -- Assumes nothing.
 use mathlib.Core.Path.{sym, _∙_}
