@@ -2,7 +2,7 @@
 -- decide; any other text is read word by word.
 -- Assumes nothing.
 use mathlib.Core.Path.{sym, _∙_}
-use Rattle.header.proofs.Usual.{end-le-length, usual-small, headerOf-of-usual, headerOf-of-alone}
+use Rattle.header.proofs.Shortcuts.{end-le-length, usual-small, headerOf-of-usual, headerOf-of-alone}
 use borrow.Author.Needs.{needs}
 use Rattle.header.proofs.parse_header.Statement.{statement}
 use Rattle.header.proofs.parse_header.Tie as tie
