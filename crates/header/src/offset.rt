@@ -173,7 +173,9 @@ fn seconds_of(f: Fields) -> i32
     let h = f.hours;
     let m = f.minutes;
     let x = f.seconds;
-    let sum = h * 3600 + m * 60 + x;
+    let hours = h * 3600;
+    let rest = m * 60 + x;
+    let sum = hours + rest;
     if f.minus {
         return (0 - sum) as i32;
     }
