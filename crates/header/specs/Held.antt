@@ -56,7 +56,7 @@ isUsual s at =
 unfoldable pub usualOf : List ℕ → ℕ → Parsed
 usualOf s at = cond (isUsual s at) (fieldsOf Byte (drop (at + 1) s)) NoOffset
 
--- a word ends at a place: white space or the end of the text is there
+-- whether a word ends at a place: white space or the end of the text is there
 unfoldable pub endsAt : List ℕ → ℕ → Bool
 endsAt s at = eqb (run (no isSpace) (drop at s)) 0
 

@@ -28,7 +28,7 @@ onlyWord [] = []
 onlyWord (w ∷ []) = w
 onlyWord (w ∷ v ∷ ws) = []
 
--- of a text: the same
+-- the second word of a text, if there is no third
 abbrev pub secondWord : List ℕ → List ℕ
 secondWord s = onlyWord (drop 1 (words isSpace s))
 
@@ -41,7 +41,7 @@ unfoldable pub fieldOf : Field → List ℕ → ℕ → Integer
 fieldOf Signed w at = signedOf (take 2 (drop at w))
 fieldOf Byte w at = plus (fit 255 (unsignedOf (take 2 (drop at w))))
 
--- with 7 bytes seconds; otherwise they are 0
+-- the seconds: a field if there are 7 bytes, otherwise 0
 unfoldable pub lastField : Field → List ℕ → Integer
 lastField by w = cond (eqb (length w) 7) (fieldOf by w 5) (Is (pos 0))
 

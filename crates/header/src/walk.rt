@@ -28,7 +28,7 @@ pub struct First {
     pub colon: bool,
 }
 
-// The answer of the pass.
+// What the pass finds, or that the text is not ASCII.
 pub enum Walked {
     Words(First),
     NotAscii,
