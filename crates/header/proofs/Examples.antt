@@ -10,7 +10,7 @@ use Rattle.text.specs.Places.{run, firstPlace, has}
 use Rattle.text.specs.Words.{words, pieces, full}
 use Rattle.text.specs.Number.{readFrom, digitsOf, unsignedOf, signedOf, fit, fitSigned}
 use Rattle.text.specs.Quote.{bytes}
-use Rattle.text.specs.Decimal.{decimalBefore, decimalBy, signedBefore}
+use Rattle.text.specs.Decimal.{digitsUpTo, decimal, signed, signedBefore}
 use Rattle.time.specs.Answers.{timeAt}
 use Rattle.time.specs.Header.{headerBytes, headerSign, signByte, wholeMinutes}
 use Rattle.time.specs.Rows.{Row, reads, AllRight}
@@ -23,7 +23,7 @@ use Rattle.header.specs.Examples.{five, marked}
 
 -- ---- the examples marked P
 pub marked-examples : AllRight marked
-unfolding isSpace isDigit isSign ascii run firstPlace has words pieces full readFrom digitsOf unsignedOf signedOf fit fitSigned decimalBefore decimalBy signedBefore headerBytes headerSign signByte wholeMinutes fiveOrSeven fieldOf lastField fieldsOf offsetOf secondsOf headerOffset headerOfWords headerOf allows rawOfWords rawOf
+unfolding isSpace isDigit isSign ascii run firstPlace has words pieces full readFrom digitsOf unsignedOf signedOf fit fitSigned digitsUpTo decimal signed signedBefore headerBytes headerSign signByte wholeMinutes fiveOrSeven fieldOf lastField fieldsOf offsetOf secondsOf headerOffset headerOfWords headerOf allows rawOfWords rawOf
 marked-examples = (refl, (refl, (refl, (refl, (refl, (refl, (refl, (refl, (refl, tt)))))))))
 
 -- ---- its other examples of headers and raw dates

@@ -1,6 +1,6 @@
--- Laws. In order: an offset's word; an offset's word of unsigned fields; the first word's number;
--- one pass over a text; what the readers answer by it; the form that every commit has; what is written is read back; the
--- offsets that a header can give; where the raw and the header reader answer alike; the document's examples.
+-- Laws. In order: an offset's word; an offset's word of unsigned fields; the first word's number; one pass over a text; what the
+-- readers answer by it; the form that every commit has; what is written is read back; the offsets that a header can give; where the raw
+-- and the header reader answer alike; the document's examples.
 pub mod Offsets
 pub mod Unsigned
 pub mod FirstWord

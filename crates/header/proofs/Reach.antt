@@ -100,9 +100,12 @@ headerWith z o = signedBefore z (32 ∷ sevenBytes o)
 sevenBytes-between : (o : ℤ) → natAbs o ≤ 362439 → Between 33 57 (sevenBytes o)
 sevenBytes-between o h =
     let b = signByte-between o in
-    let n = natAbs o in
-    (b .0, b .1, two-between (hoursIn n) (twoBefore (minutesIn n) (twoBefore (secondsIn n) [])) (omega arith)
-        (two-between (minutesIn n) (twoBefore (secondsIn n) []) (omega arith) (two-between (secondsIn n) [] (seconds-lt n h) tt)))
+    let n = natAbs o in (
+      b .0,
+      b .1,
+      two-between (hoursIn n) (twoBefore (minutesIn n) (twoBefore (secondsIn n) [])) (omega arith)
+          (two-between (minutesIn n) (twoBefore (secondsIn n) []) (omega arith) (two-between (secondsIn n) [] (seconds-lt n h) tt)),
+    )
 
 read-sevenBytes : (z o : ℤ) → natAbs o ≤ 362439 → headerTime (Is z) (headerOffset (sevenBytes o)) ≡ At (timeAt z o)
 unfolding signByte isSign

@@ -1,5 +1,5 @@
 -- What the readers answer by what one pass finds: `headerOf-of-words`, `rawOf-of-words`. The raw reader tests no `:`, because no number and
--- no offset holds one (`lacking-of-raw`).
+-- no offset holds one (`no-colon-of-raw`).
 -- Assumes nothing.
 use mathlib.Core.Path.{_≡_, refl, sym, _∙_}
 use mathlib.Core.Bool.{Bool, true, false, cond, false≢true}

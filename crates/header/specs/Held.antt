@@ -70,11 +70,14 @@ firstWord s = getD (words isSpace s) 0 []
 abbrev pub secondWord : List ℕ → List ℕ
 secondWord s = onlyWord (drop 1 (words isSpace s))
 
+abbrev pub hasColon : List ℕ → Bool
+hasColon s = has (code ":") s
+
 -- what one pass finds. A `:` ends each scan, so where there is one the bounds of the second word are empty
 pub record FirstWords (s : List ℕ) (f : First) : Type 0 where
   pub number-is : f .number ≡ secondsOf (firstWord s)
   pub whole-is : cond (f .whole) (f .number) NotOne ≡ number64 (firstWord s)
-  pub colon-is : f .colon ≡ has (code ":") s
+  pub colon-is : f .colon ≡ hasColon s
   pub offset-is : part s (f .«offset_word») ≡ cond (f .colon) [] (secondWord s)
 
 abbrev pub WordsRead : List ℕ → Walked → Type 0

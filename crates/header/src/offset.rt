@@ -2,7 +2,7 @@
 // fields: hours, minutes, perhaps seconds. The readers differ in the numbers that a field may be. The
 // word of every commit, a sign and four digits, is read in one step.
 ghost use mathlib.Core.Path.{_≡_};
-ghost use mathlib.Core.Bool.{_&&_};
+ghost use mathlib.Core.Bool.{true, _&&_};
 ghost use Prim.Native.Nat.{_+_, _-_, _*_, _≤_};
 ghost use lib.IntN.{pos};
 ghost use lib.ListN.{length};
@@ -124,13 +124,13 @@ fn both_digits(tens: u8, ones: u8) -> bool
 }
 
 fn two_digits(tens: u8, ones: u8) -> i64
-    requires { ⌜ (48 ≤ tens) × (tens ≤ 57) × (48 ≤ ones) × (ones ≤ 57) ⌝ }
+    requires { ⌜ (isDigit tens ≡ true) × (isDigit ones ≡ true) ⌝ }
     ensures { λ r. ⌜ r ≡ pos (10 * (tens - 48) + (ones - 48)) ⌝ }
 {
-    (10 * (tens - 48) + (ones - 48)) as i64
+    (10 * (tens - b'0') + (ones - b'0')) as i64
 }
 
-// Seconds stand only in a word of 7 bytes, and are 0 in one of 5.
+// Only a word of 7 bytes has seconds. They are 0 in one of 5.
 fn last_field(w: &[u8], by: Field) -> Integer
     ensures { λ r. ⌜ r ≡ lastField by (now (w .entry)) ⌝ }
 {

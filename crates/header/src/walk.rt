@@ -7,9 +7,9 @@ ghost use mathlib.Core.Path.{_≡_};
 ghost use mathlib.Core.Bool.{cond, not, _||_};
 ghost use lib.ListN.{drop};
 ghost use Rattle.text.specs.Bytes.{isSpace, ascii as asciiOf};
-ghost use Rattle.text.specs.Places.{past, has};
+ghost use Rattle.text.specs.Places.{past};
 ghost use Rattle.text.specs.declared.number.Integer.the-variants.{NotOne};
-ghost use Rattle.header.specs.Held.{endsAt, nowhere, spanOf, LeadsWithNumber, WordsRead};
+ghost use Rattle.header.specs.Held.{endsAt, hasColon, nowhere, spanOf, LeadsWithNumber, WordsRead};
 use text::bytes;
 use text::number;
 use text::number::Integer;
@@ -124,7 +124,7 @@ struct Rest {
 // The loop has no early exit, so that the compiler tests many bytes at once.
 fn look_through(s: &[u8], from: usize) -> Rest
     ensures { λ r. ⌜ r .ascii ≡ asciiOf (drop from (now (s .entry))) ⌝ }
-    ensures { λ r. ⌜ r .colon ≡ has 58 (drop from (now (s .entry))) ⌝ }
+    ensures { λ r. ⌜ r .colon ≡ hasColon (drop from (now (s .entry))) ⌝ }
 {
     let mut ascii = true;
     let mut colon = false;

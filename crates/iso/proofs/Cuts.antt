@@ -3,16 +3,14 @@
 use mathlib.Core.Path.{_≡_, refl}
 use mathlib.Core.Bool.{true, false}
 use mathlib.Core.List.{List, [], _∷_}
-use Prim.Native.Nat.{ℕ, suc, _-_, _≤_, _<_}
+use Prim.Native.Nat.{ℕ, _-_, _≤_, _<_}
 use native.Mathlib.Omega.{arith}
-use borrow.Author.Tests.{lt-ltb, le-ltb, ltb-true, ltb-false}
-use lib.Dec.{eqb, ltb}
+use borrow.Author.Tests.{lt-ltb, le-ltb}
+use lib.Dec.{eqb}
 use lib.ListN.{length, getD, drop}
 use Rattle.text.specs.Bytes.{isSign}
 use Rattle.text.specs.Places.{lastWhere, lastPlace}
 use Rattle.text.specs.Trim.{trim}
-use Rattle.text.proofs.Lists.{by-test}
-use Rattle.text.proofs.Runs.{lastWhere-le-length}
 use Rattle.iso.specs.Cut.{endsWithZ, isSigned, isOffset, spaced, signPlace, cut}
 
 -- ---- the place of the sign
@@ -23,25 +21,6 @@ signPlace-of-lt s i e h = let k : lastWhere isOffset s < 2 = omega arith in rw (
 pub signPlace-of-le : (s : List ℕ) (i : ℕ) → i ≡ lastWhere isOffset s → 2 ≤ i → i ≡ signPlace s
 unfolding signPlace
 signPlace-of-le s i e h = let k : 2 ≤ lastWhere isOffset s = omega arith in rw (le-ltb (lastWhere isOffset s) 2 k, e)
-
--- it is the last from place 2 on: signs before it are not asked
-pub signPlace-from-two : (a b : ℕ) (t : List ℕ) → signPlace (a ∷ b ∷ t) ≡ suc (suc (lastWhere isOffset t))
-unfolding signPlace lastWhere
-signPlace-from-two a b t =
-    let i : ℕ = lastWhere isOffset t in
-    let l : i ≤ length t = lastWhere-le-length isOffset t in
-    by-test (ltb i (length t))
-    (λ e.
-    let h : suc i < suc (length t) = omega (arith, ltb-true i (length t) e) in
-    let k : 2 ≤ suc (suc i) = omega arith in
-    rw (e, lt-ltb (suc i) (suc (length t)) h, le-ltb (suc (suc i)) 2 k))
-    (λ e.
-    let n : i ≡ length t = omega (arith, ltb-false i (length t) e) in
-    by-test (isOffset (b ∷ t)) (λ x. let o : 0 < suc (length t) = omega arith in rw (e, x, lt-ltb 0 (suc (length t)) o, n))
-    (λ x.
-    let f : ltb (suc (length t)) (suc (length t)) ≡ false = le-ltb (suc (length t)) (suc (length t)) (omega arith) in
-    let g : ltb (suc (suc (length t))) 2 ≡ false = le-ltb (suc (suc (length t))) 2 (omega arith) in
-    by-test (isOffset (a ∷ b ∷ t)) (λ z. rw (e, x, n, f, z)) (λ z. rw (e, x, n, f, z, g))))
 
 -- ---- the cut
 pub cut-nil : (s : List ℕ) → length s ≡ 0 → 0 ≡ cut s

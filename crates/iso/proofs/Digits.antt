@@ -9,17 +9,18 @@ use borrow.Author.Tests.{lt-ltb}
 use lib.IntN.{pos}
 use Rattle.text.specs.Bytes.{ascii}
 use Rattle.text.specs.Decimal.{twoBefore}
-use Rattle.text.specs.Number.{readFrom, digitsOf, unsignedOf, signedOf, plus}
+use Rattle.text.specs.Number.{readFrom, digitsOf, unsignedOf, signedOf}
 use Rattle.text.specs.declared.number.Integer.the-variants.{Is}
-use Rattle.text.proofs.Digits.{no-plus, no-dash, tens, ones, unsignedOf-two}
+use Rattle.text.proofs.Digits.{no-plus, no-dash, tens, ones}
 use Rattle.text.proofs.Numbers.{fitSigned-of-length}
+use Rattle.text.proofs.Texts.{signedOf-two}
 use Rattle.iso.specs.Parts.{int32}
 
 -- two digits of a number below 100
 module _ (n : ℕ) (h : n < 100) where
   pub int32-two : int32 (twoBefore n []) ≡ Is (pos n)
-  unfolding int32 signedOf
-  int32-two = fitSigned-of-length (2 ^ 31) (twoBefore n []) (omega arith) ∙ rw (no-dash (48 + n / 10) (tens n h)) (ap plus (unsignedOf-two n h))
+  unfolding int32
+  int32-two = fitSigned-of-length (2 ^ 31) (twoBefore n []) (omega arith) ∙ signedOf-two n h
 
 -- four digits of a number below 10,000
 module _ (n : ℕ) (h : n < 10000) where
@@ -38,7 +39,7 @@ module _ (n : ℕ) (h : n < 10000) where
       ∙ rw (no-dash b (tens (n / 100) high), no-plus b (tens (n / 100) high), tens (n / 100) high, ones (n / 100), tens (n % 100) low, ones (n % 100)) (ap (λ (v : ℕ). Is (pos v)) e)
 
 -- ---- ASCII
-abbrev pub Narrow : List ℕ → Type 0
+abbrev Narrow : List ℕ → Type 0
 Narrow [] = Unit {0}
 Narrow (b ∷ s) = (b < 128) × Narrow s
 

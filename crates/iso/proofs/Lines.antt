@@ -112,7 +112,7 @@ module _ (h m s : ℕ) (p : h ≤ 23) (q : m ≤ 59) (r : s ≤ 59) where
         let less : lastWhere isOffset (drop 8 tail) < length (drop 8 tail) = omega arith in
         omega (arith, lastWhere-drop isOffset tail 8 less)
 
-    pub cut-tail : cut tail ≡ 8
+    cut-tail : cut tail ≡ 8
     unfolding cut endsWithZ spaced signPlace isSigned trim trimStart trimEnd
     cut-tail = rw (no-Z (48 + c % 10) (ones c), no-space-in, sign-at)
 

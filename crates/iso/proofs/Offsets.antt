@@ -17,7 +17,8 @@ use Rattle.text.specs.declared.number.Integer.the-variants.{Is, NotOne}
 use Rattle.text.proofs.Lists.{take-length-sub-drop}
 use Rattle.text.proofs.Numbers.{Short, signedOf-short, fitSigned-of-length}
 use Rattle.iso.specs.Parts.{without, int32}
-use Rattle.iso.specs.Offset.{upTo, secondsOf, hoursMinutes, turned, offsetOf, Within}
+use Rattle.iso.specs.Offset.{upTo, secondsOf, hoursMinutes, turned, offsetOf}
+use Rattle.iso.specs.Held.{Within}
 
 -- ---- a field of two bytes is from -99 to 99
 In-of-natAbs : (z : ℤ) → natAbs z < 100 → In (negsuc 98) (pos 99) z

@@ -1,4 +1,4 @@
--- Parts of a text. In order: two bytes from a place; bytes that are no b, read one by one from a place on and held.
+-- A text without a byte b: its bytes read one by one from a place on, and held.
 -- Assumes nothing.
 use mathlib.Core.Path.{_≡_, ap}
 use mathlib.Core.Bool.{true, false}
@@ -10,15 +10,8 @@ use lib.Dec.{eqb}
 use lib.ListN.{length, getD, take, drop, set, drop-of-length-le, length-append}
 use lib.Seq.{length-take-le, take-suc-set, append-snoc}
 use Rattle.text.proofs.Lists.{drop-cons-add-one}
-use Rattle.iso.specs.Parts.{two, without}
+use Rattle.iso.specs.Parts.{without}
 
-pub two-getD : (i : ℕ) (l : List ℕ) → i + 2 ≤ length l → two i l ≡ getD l i 0 ∷ getD l (i + 1) 0 ∷ []
-two-getD i l h =
-    let a : i < length l = omega arith in
-    let b : i + 1 < length l = omega arith in
-    rw (drop-cons-add-one l i a, drop-cons-add-one l (i + 1) b)
-
--- ---- a text without b
 without-drop-eq : (b : ℕ) (s : List ℕ) (i : ℕ) → i < length s → eqb (getD s i 0) b ≡ true → without b (drop i s) ≡ without b (drop (i + 1) s)
 unfolding without
 without-drop-eq b s i h e = rw (drop-cons-add-one s i h, e)

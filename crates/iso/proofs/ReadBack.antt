@@ -1,5 +1,5 @@
--- What the ISO writer of `time` writes is read back. In order: the bytes of the line; its fields; its instant; its day;
--- `iso-read-back`.
+-- What the ISO writer of `time` writes is read back. In order: the bytes of the line; its fields; its instant; its day; the line of a
+-- time as it is; `iso-read-back`.
 -- Assumes nothing.
 use mathlib.Core.Path.{_≡_, refl, sym, ap, _∙_, subst}
 use mathlib.Core.Bool.{true, false}
@@ -151,7 +151,7 @@ module _ (t : Time) (w : WasWritten t) where
   seconds-ge : 93600 ≤ i .seconds
   seconds-ge = omega (arith, eq-parts seconds-up, add-parts (t .seconds) (pos 377736739200), le-parts (in-range .low))
 
-  pub instant-back : since1970 (localOf i) -ℤ t .offset ≡ t .seconds
+  instant-back : since1970 (localOf i) -ℤ t .offset ≡ t .seconds
   instant-back = local-back (t .seconds) (t .offset) (i .seconds) (i .offset) seconds-up offset-up seconds-ge
 
   -- the day that the line's date names

@@ -21,7 +21,8 @@ use Rattle.iso.specs.Parts.{two, int32}
 use Rattle.iso.specs.Cut.{cut, timeText, offsetText}
 use Rattle.iso.specs.Clock.{timeOf}
 use Rattle.iso.specs.Offset.{offsetOf}
-use Rattle.iso.specs.Forms.{saidOf, fieldsOf, isSeparator, flexible, firstAt, compact, dashOf, dashes, isDotted, dotted, orElse, formOf, FieldsIn}
+use Rattle.iso.specs.Forms.{saidOf, fieldsOf, isSeparator, flexible, firstAt, compact, dashOf, dashes, isDotted, dotted, orElse, formOf}
+use Rattle.iso.specs.Held.{FieldsIn}
 use Rattle.iso.specs.declared.forms.Local.{Local}
 use Rattle.iso.specs.declared.forms.Fields.{Fields}
 use Rattle.iso.specs.declared.forms.Fields.the-variants.{Are, Missing}
@@ -140,7 +141,7 @@ unfolding dotted isDotted
 dotted-seven s f h = by-test (firstAt 32 10 s) (λ e. rw (e, eq-eqb (getD s 4 0) 46 f, ne-eqb (getD s 7 0) 46 h)) (λ e. rw e)
 
 -- the fields of ten bytes, each dot of them a dash, and of what follows the space
-abbrev pub dashedFields : List ℕ → Fields
+abbrev dashedFields : List ℕ → Fields
 dashedFields s =
     fieldsOf (dashOf (getD s 0 0) ∷ dashOf (getD s 1 0) ∷ dashOf (getD s 2 0) ∷ dashOf (getD s 3 0) ∷ [])
     (dashOf (getD s 5 0) ∷ dashOf (getD s 6 0) ∷ []) (dashOf (getD s 8 0) ∷ dashOf (getD s 9 0) ∷ []) (drop 11 s)

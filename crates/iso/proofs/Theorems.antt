@@ -1,44 +1,31 @@
 -- What a caller can say of ISO dates. In order: at most one of the three forms has its fields in a text (`one-form-has-fields`), so
 -- that at most one accepts it (`one-iso-form`); the answer is that of the form that accepts (`iso-of-dotted`, `iso-of-compact`,
--- `iso-of-flexible`); `dotted-is-flexible-with-dashes`; the instant of a date is that of its day since 1970 (`instant-of-a-date`);
--- no year of four bytes is lost (`year-of-four-bytes`). That a written line is read back: ReadBack.
+-- `iso-of-flexible`); `dotted-is-flexible-with-dashes`. That a written line is read back: ReadBack.
 -- Assumes nothing.
-use mathlib.Core.Path.{_≡_, refl, sym, ap, _∙_, subst}
+use mathlib.Core.Path.{_≡_, refl, sym, ap, _∙_}
 use mathlib.Core.Bool.{Bool, true, false, cond, _&&_, false≢true, and-false}
 use mathlib.Core.List.{List, [], _∷_, _++_}
-use Prim.Native.Nat.{ℕ, _+_, _-_, _*_, _^_, _≤_, _<_}
+use Prim.Native.Nat.{ℕ, _+_, _≤_, _<_}
 use native.Mathlib.Omega.{arith}
 use borrow.Author.Tests.{eq-eqb, eqb-true, ltb-true, ltb-false}
 use lib.Dec.{eqb, ltb}
-use lib.IntN.{ℤ, pos, negsuc, negℤ, natAbs, _+ℤ_, _-ℤ_, _*ℤ_}
 use lib.ListN.{length, getD, take, drop}
-use Rattle.ints.specs.Range.{In}
-use Rattle.ints.proofs.Parts.{add-parts, up-mul, dn-mul, parts-eq, parts-le}
-use Rattle.ints.proofs.Machine.{isIn-of-In}
 use Rattle.text.specs.Bytes.{isDigit, ascii}
 use Rattle.text.specs.Number.{readFrom, digitsOf, unsignedOf, signedOf, fitSigned}
 use Rattle.text.specs.Places.{firstPlace}
 use Rattle.text.specs.Trim.{trim}
-use Rattle.text.specs.declared.number.Integer.the-variants.{Is, NotOne}
-use Rattle.text.proofs.Lists.{by-test, both}
-use Rattle.text.proofs.Numbers.{Short, signedOf-short, fitSigned-of-length}
-use Rattle.calendar.specs.Calendar.{firstDay}
-use Rattle.calendar.specs.Civil.{Civil, IsCivil, monthCount, civilDay}
-use Rattle.calendar.specs.declared.Found.the-variants.{At as Found}
-use Rattle.ints.proofs.Parts.{natAbs-sub-add}
-use Rattle.calendar.proofs.Theorems.{day-number-signed}
+use Rattle.text.specs.declared.number.Integer.the-variants.{NotOne}
+use Rattle.text.proofs.Lists.{by-test, both, take-two-drop}
 use Rattle.time.specs.Answers.{answerNumber}
-use Rattle.time.specs.Range.{since1970}
 use Rattle.time.specs.declared.Time.{Time}
 use Rattle.time.specs.declared.Answer.{Answer}
 use Rattle.time.specs.declared.Answer.the-variants.{Time as At, Refused}
 use Rattle.iso.specs.Parts.{two, int32}
 use Rattle.iso.specs.Forms.{fieldsOf, isSeparator, flexible, firstAt, compact, dashes, isDotted, dotted, orElse, formOf}
-use Rattle.iso.specs.Iso.{dayOf, zoned, isoOf}
+use Rattle.iso.specs.Iso.{zoned, isoOf}
 use Rattle.iso.specs.declared.forms.Fields.{Fields}
 use Rattle.iso.specs.declared.forms.Fields.the-variants.{Are, Missing}
 use Rattle.text.proofs.FirstPlaces.{getD-firstPlace}
-use Rattle.iso.proofs.Places.{two-getD}
 use Rattle.iso.proofs.Said.{saidOf-of-month, saidOf-of-day, flexible-short, flexible-four, dotted-four}
 
 -- ---- at most one form
@@ -59,7 +46,7 @@ compact-of-dot s p =
     (λ e. by-test (ltb 8 (length s))
     (λ f.
     let h : 4 + 2 ≤ length s = omega (arith, ltb-true 8 (length s) f) in
-    let m : int32 (two 4 s) ≡ NotOne = ap int32 (two-getD 4 s h) ∙ ap (λ (b : ℕ). int32 (b ∷ getD s 5 0 ∷ [])) p ∙ int32-dot (getD s 5 0) in
+    let m : int32 (two 4 s) ≡ NotOne = ap int32 (take-two-drop s 4 h) ∙ ap (λ (b : ℕ). int32 (b ∷ getD s 5 0 ∷ [])) p ∙ int32-dot (getD s 5 0) in
     rw (e, f, m) (saidOf-of-month _ _ _ _))
     (λ f. rw (e, f)))
     (λ e. rw e)
@@ -75,7 +62,7 @@ flexible-of-T s e =
     by-test (ltb (length s) 11) (λ f. sym (flexible-short s (ltb-true _ _ f)))
     (λ f.
     let h : 8 + 2 ≤ length s = omega (arith, ltb-false (length s) 11 f) in
-    let d : int32 (two 8 s) ≡ NotOne = ap int32 (two-getD 8 s h) ∙ ap (λ (x : ℕ). int32 (x ∷ getD s 9 0 ∷ [])) b ∙ int32-T (getD s 9 0) in
+    let d : int32 (two 8 s) ≡ NotOne = ap int32 (take-two-drop s 8 h) ∙ ap (λ (x : ℕ). int32 (x ∷ getD s 9 0 ∷ [])) b ∙ int32-T (getD s 9 0) in
     rw (d, saidOf-of-day) (same (eqb (getD s 4 0) 45 && (eqb (getD s 7 0) 45 && isSeparator (getD s 10 0)))))
   where
     same : (t : Bool) → cond t Missing Missing ≡ Missing
@@ -189,36 +176,3 @@ module _ (s : List ℕ) (a : ascii s ≡ true) {t : Time} where
 pub dotted-is-flexible-with-dashes : (s : List ℕ) → isDotted s ≡ true → dotted s ≡ flexible (dashes (take 10 s) ++ drop 10 s)
 unfolding dotted
 dotted-is-flexible-with-dashes s e = rw e
-
--- ---- a date of the years -9999 to 9999 exists here if it does in the calendar, and its instant is counted from its day since 1970
-pub day-of-a-date : (c : Civil) → IsCivil c → dayOf (c .year) (pos (c .month)) (pos (c .day)) ≡ Found (natAbs (civilDay c +ℤ pos 4371953))
-unfolding dayOf
-day-of-a-date c p = rw (isIn-of-In (p .years)) (day-number-signed c p)
-
-pub instant-of-a-date : (c : Civil) (s : ℕ) → IsCivil c → since1970 (natAbs (civilDay c +ℤ pos 4371953) * 86400 + s) ≡ civilDay c *ℤ pos 86400 +ℤ pos s
-unfolding civilDay
-instant-of-a-date c s p =
-    let d : ℕ = firstDay (monthCount c) + (c .day - 1) in
-    let z : ℤ = pos d -ℤ pos 4371953 in
-    let n : natAbs (z +ℤ pos 4371953) ≡ d = natAbs-sub-add d 4371953 in
-    rw n
-    (parts-eq _ _ (omega (
-      arith,
-      add-parts (pos (d * 86400 + s)) (negℤ (pos 377736739200)),
-      add-parts (pos d) (negℤ (pos 4371953)),
-      up-mul z 86400,
-      dn-mul z 86400,
-      add-parts (z *ℤ pos 86400) (pos s),
-    )))
-
--- ---- a year of four bytes is one of those
-pub year-of-four-bytes : (s : List ℕ) {z : ℤ} → length s ≡ 4 → int32 s ≡ Is z → In (negsuc 9998) (pos 9999) z
-unfolding int32
-year-of-four-bytes s {z} l e =
-    let f : 10 ^ length s ≤ 2 ^ 31 = rw l (omega arith) in
-    let h : Short (10 ^ length s) (Is z) = subst (Short (10 ^ length s)) (sym (fitSigned-of-length (2 ^ 31) s f) ∙ e) (signedOf-short s) in
-    small z (rw l at h)
-  where
-    small : (x : ℤ) → natAbs x < 10000 → In (negsuc 9998) (pos 9999) x
-    small (pos n) k = record { low = record { le = tt }; high = parts-le _ _ (omega arith) }
-    small (negsuc n) k = record { low = parts-le _ _ (omega arith); high = record { le = tt } }

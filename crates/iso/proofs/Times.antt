@@ -29,7 +29,7 @@ fit-fit a b (Value n) h =
 fit-fit a b Not h = refl
 
 -- so no part is lost by reading it up to its limit at once
-pub timePart-fit : (limit : ℕ) (s : List ℕ) → limit ≤ 2 ^ 32 - 1 → timePart limit s ≡ fit limit (unsignedOf s)
+timePart-fit : (limit : ℕ) (s : List ℕ) → limit ≤ 2 ^ 32 - 1 → timePart limit s ≡ fit limit (unsignedOf s)
 unfolding timePart
 timePart-fit limit s h = fit-fit limit (2 ^ 32 - 1) (unsignedOf s) h
 

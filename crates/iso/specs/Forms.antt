@@ -1,14 +1,12 @@
 -- Document 01, "Reading ISO dates": the three forms of a trimmed text, and what each says: a year, a month, a day, a second of the
 -- day, an offset. The date may not exist. Places count from 0.
 -- Assumes nothing.
-use Prim.Native.Nat.{ℕ, _≤_}
+use Prim.Native.Nat.{ℕ}
 use Prim.Native.Char.{code}
 use mathlib.Core.Bool.{Bool, cond, _&&_, _||_}
 use mathlib.Core.List.{List, [], _∷_, _++_}
 use lib.Dec.{eqb, ltb}
-use lib.IntN.{pos, negℤ}
 use lib.ListN.{length, getD, take, drop}
-use Rattle.ints.specs.Range.{In}
 use Rattle.text.specs.Places.{firstPlace}
 use Rattle.text.specs.Trim.{trim}
 use Rattle.text.specs.declared.number.Number.{Number}
@@ -76,8 +74,3 @@ orElse Missing g = g
 
 unfoldable pub formOf : List ℕ → Fields
 formOf s = orElse (dotted s) (orElse (compact s) (flexible s))
-
--- a second of the day, and an offset far within its width
-abbrev pub FieldsIn : Fields → Type 0
-FieldsIn (Are f) = (f .second ≤ 86399) × In (negℤ (pos 362340)) (pos 362340) (f .offset)
-FieldsIn Missing = Unit {0}

@@ -8,7 +8,6 @@ use lib.Dec.{eqb}
 use lib.IntN.{ℤ, pos, negℤ, _+ℤ_, _*ℤ_}
 use lib.ListN.{length}
 use lib.Signed.{leZ}
-use Rattle.ints.specs.Range.{In}
 use Rattle.text.specs.declared.number.Integer.{Integer}
 use Rattle.text.specs.declared.number.Integer.the-variants.{Is, NotOne}
 use Rattle.iso.specs.Parts.{two, without, int32}
@@ -42,8 +41,3 @@ offsetOf (b ∷ s) =
     cond (eqb b (code "Z") && eqb (length s) 0) (Is (pos 0))
     (cond (eqb b (code "+")) (hoursMinutes (without (code ":") s))
     (cond (eqb b (code "-")) (turned (hoursMinutes (without (code ":") s))) NotOne))
-
--- from -k to k, if it is a number
-abbrev pub Within : ℕ → Integer → Type 0
-Within k (Is z) = In (negℤ (pos k)) (pos k) z
-Within k NotOne = Unit {0}

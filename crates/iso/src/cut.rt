@@ -1,5 +1,5 @@
-// How what follows the date parts into time and offset: a walk from the end, to the first of the two marks that may part them, the
-// last space and the rightmost sign. The other is looked for on from there.
+// Splits what follows the date into time and offset. Scans back from the end for the last space and the rightmost sign that has a
+// digit after it; once one of them is found, the scan goes on for the other alone.
 ghost use mathlib.Core.Path.{_≡_};
 ghost use mathlib.Core.Bool.{false};
 ghost use Prim.Native.Nat.{_≤_};
@@ -11,7 +11,7 @@ use text::bytes;
 use text::places;
 use text::trim;
 
-// Where the time ends in a trimmed text; what stands from there on, trimmed, is the offset.
+// Where the time ends in a trimmed text; what follows, trimmed, is the offset.
 pub fn split_time_and_offset(s: &[u8]) -> usize
     ensures { λ r. ⌜ (r ≡ cut (now (s .entry))) × (r ≤ length (now (s .entry))) ⌝ }
 {
@@ -32,7 +32,7 @@ pub fn split_time_and_offset(s: &[u8]) -> usize
     m.sign
 }
 
-// Whether the last space, at `at`, stands beyond place 5 and what follows it, trimmed, opens with a sign.
+// Whether the last space, at `at`, is beyond place 5 and what follows it, trimmed, opens with a sign.
 fn is_spaced(s: &[u8], at: usize) -> bool
     requires { ⌜ at ≡ lastPlace 32 (now s) ⌝ }
     ensures { λ r. ⌜ r ≡ spaced (now (s .entry)) ⌝ }
@@ -84,7 +84,7 @@ fn find_marks(s: &[u8]) -> Marks
     }
 }
 
-// The rightmost sign that has a digit after it, where none stands behind the space at `from`.
+// The rightmost sign that has a digit after it, where there is none behind the space at `from`.
 fn last_sign(s: &[u8], from: usize) -> usize
     requires { ⌜ (from ≤ length (now s)) × (lastWhere isOffset (drop from (now s)) ≡ length (drop from (now s))) × (isDigit (getD (drop from (now s)) 0 0) ≡ false) ⌝ }
     ensures { λ r. ⌜ r ≡ lastWhere isOffset (now (s .entry)) ⌝ }
@@ -102,7 +102,7 @@ fn last_sign(s: &[u8], from: usize) -> usize
     s.len()
 }
 
-// The last space, where none stands behind the sign at `from`.
+// The last space, where there is none behind the sign at `from`.
 fn last_space(s: &[u8], from: usize) -> usize
     requires { ⌜ (from ≤ length (now s)) × (lastPlace 32 (drop from (now s)) ≡ length (drop from (now s))) ⌝ }
     ensures { λ r. ⌜ r ≡ lastPlace 32 (now (s .entry)) ⌝ }

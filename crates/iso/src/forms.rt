@@ -1,12 +1,12 @@
-// The three forms of a trimmed text, and the fields that each reads, as numbers. The calendar is not asked here, and a text of no
-// form is told by its first eleven bytes.
+// The three forms of a trimmed text, and the fields that each reads, as numbers. The calendar is not needed here, and the first
+// eleven bytes show that a text has none of the forms.
 ghost use mathlib.Core.Path.{_≡_};
 ghost use mathlib.Core.Bool.{true};
 ghost use Prim.Native.Nat.{_≤_};
 ghost use lib.ListN.{length};
 ghost use Rattle.text.specs.Number.{AtMost};
-ghost use Rattle.iso.specs.Offset.{Within};
-ghost use Rattle.iso.specs.Forms.{saidOf, fieldsOf, isSeparator, flexible, compact, dashOf, isDotted, dotted, formOf, FieldsIn};
+ghost use Rattle.iso.specs.Forms.{saidOf, fieldsOf, isSeparator, flexible, compact, dashOf, isDotted, dotted, formOf};
+ghost use Rattle.iso.specs.Held.{Within, FieldsIn};
 use crate::clock;
 use crate::cut;
 use crate::offset;

@@ -2,7 +2,7 @@
 // `2008-02-14 20:30:45 +01:00`. Every text has an answer: a time; NotAscii (1) for a byte of 128 or
 // more; else Form (2), also for a date that does not exist and for an instant out of range.
 //
-// `parse_git_date_format` reads no table of months; `parse_git_date_format_with` is lent it, for
+// `parse_git_date_format` uses no table of months; `parse_git_date_format_with` borrows one, for
 // callers that read many texts.
 mod clock;
 mod cut;
@@ -31,7 +31,7 @@ pub fn parse_git_date_format(s: &[u8]) -> Answer
     parse_git_date_format_with(&[], s)
 }
 
-// The same, with the table of months lent, or a part that opens it.
+// The same, with a borrowed table of months: the whole table, or any leading part of it.
 pub fn parse_git_date_format_with(months: &[u32], s: &[u8]) -> Answer
     requires { ⌜ IsMonths (now months) ⌝ }
     ensures { λ r. ⌜ r ≡ isoOf (now (s .entry)) ⌝ }

@@ -3,7 +3,8 @@
 ghost use mathlib.Core.Path.{_≡_};
 ghost use mathlib.Core.List.{[], _∷_};
 ghost use Rattle.iso.specs.Parts.{without, int32};
-ghost use Rattle.iso.specs.Offset.{upTo, secondsOf, hoursMinutes, turned as turnedOf, offsetOf, Within};
+ghost use Rattle.iso.specs.Offset.{upTo, secondsOf, hoursMinutes, turned as turnedOf, offsetOf};
+ghost use Rattle.iso.specs.Held.{Within};
 use text::number;
 use text::number::Integer;
 

@@ -8,7 +8,7 @@ use lib.ListN.{drop}
 use Rattle.time.specs.declared.Answer.{Answer}
 use Rattle.time.specs.declared.Now.{Now}
 use Rattle.lines.specs.Layout.{lineOf, textOf}
-use Rattle.lines.specs.Answers.{answerBy, rowAt, rowBy, rowOf}
+use Rattle.lines.specs.Answers.{answerBy, rowAt, wrongLayout, rowBy, rowOf}
 use Rattle.lines.specs.declared.layout.Form.{Form}
 use Rattle.lines.specs.declared.layout.Line.{Line}
 use Rattle.lines.specs.declared.layout.Line.the-variants.{Asks, Wrong}
@@ -20,8 +20,8 @@ pub row-asked : (s t : List ℕ) (f : Form) (n : Now) (at : ℕ) (x : Line) (a :
 unfolding rowOf
 row-asked s t f n at x a r ex ey et ea er =
     let e : lineOf s ≡ Asks f n at = sym ex ∙ ey in
-    er ∙ ap rowAt (ea ∙ ap (λ (v : List ℕ). answerBy f v n) (et ∙ lineOf-asks s f n at e .1)) ∙ sym (ap (λ (l : Line). rowBy l (textOf s)) e)
+    er ∙ ap rowAt (ea ∙ ap (λ (v : List ℕ). answerBy f v n) (et ∙ lineOf-asks s f n at e)) ∙ sym (ap (λ (l : Line). rowBy l (textOf s)) e)
 
-pub row-wrong : (s : List ℕ) (x : Line) → x ≡ lineOf s → x ≡ Wrong → record { number = 9; seconds = pos 0; offset = pos 0 } ≡ rowOf s
+pub row-wrong : (s : List ℕ) (x : Line) → x ≡ lineOf s → x ≡ Wrong → record { number = wrongLayout; seconds = pos 0; offset = pos 0 } ≡ rowOf s
 unfolding rowOf
 row-wrong s x ex ey = sym (ap (λ (l : Line). rowBy l (textOf s)) (sym ex ∙ ey))

@@ -1,47 +1,21 @@
--- Lines in a buffer. In order: a buffer cut at its first newline; answers put one after the other into a room, from the start, by one
--- line more, and to the end.
+-- Lines in a buffer, whose answers are put one after the other into a room: from the start, by one line more, and to the end.
 -- Assumes nothing.
 use mathlib.Core.Path.{_≡_, refl, sym, ap, _∙_}
-use mathlib.Core.Bool.{true, false}
 use mathlib.Core.List.{List, [], _∷_, _++_, append-assoc, append-nil}
-use Prim.Native.Nat.{ℕ, zero, suc, _+_, _-_, _≤_, _<_}
+use Prim.Native.Nat.{ℕ, _+_, _-_, _≤_, _<_}
 use native.Mathlib.Omega.{arith}
-use borrow.Author.Tests.{ltb-true, ltb-false, lt-ltb, le-ltb}
-use lib.Dec.{ltb, eqb}
+use borrow.Author.Tests.{leb-true, leb-false, lt-ltb, le-ltb}
 use lib.ListN.{length, take, drop, length-drop, length-append, take-append-drop}
-use lib.Seq.{drop-drop, drop-length, length-take-le, take-at, drop-at}
-use Rattle.text.specs.Places.{firstPlace, run}
-use borrow.Rule.Slice.PartMut.{putMid, post-is}
-use Rattle.text.proofs.Lists.{by-test, take-length-sub-drop}
-use Rattle.lines.specs.Rows.{newline, writtenIn, roomWith}
+use lib.Seq.{drop-drop, length-take-le, take-at, drop-at}
+use Rattle.text.specs.Lines.{newline, endedLines, takenBy}
+use Rattle.text.specs.Places.{firstPlace}
+use Rattle.text.specs.Room.{fits, roomAfter}
+use Rattle.text.proofs.Lists.{by-test}
+use Rattle.text.proofs.Lines.{endedLines-none, endedLines-at}
+use Rattle.lines.specs.Rows.{writtenIn}
 use Rattle.lines.specs.Answers.{rowOf, answerLine}
-use Rattle.lines.specs.Lines.{endedLines, fitting, takenBy, answersOf, answered, stepOf, roomAfterStep}
-use Rattle.lines.proofs.Printing.{sizeOf-gt, length-rowBytes}
-
--- ---- a buffer cut at its first newline
-pub firstPlace-here : (b : ℕ) (s : List ℕ) → eqb b newline ≡ true → firstPlace newline (b ∷ s) ≡ 0
-unfolding firstPlace run
-firstPlace-here b s e = rw e
-
-pub firstPlace-later : (b : ℕ) (s : List ℕ) → eqb b newline ≡ false → firstPlace newline (b ∷ s) ≡ suc (firstPlace newline s)
-unfolding firstPlace run
-firstPlace-later b s e = rw e
-
-pub endedLines-none : (s : List ℕ) → length s ≤ firstPlace newline s → endedLines s ≡ []
-unfolding endedLines
-endedLines-none [] h = refl
-endedLines-none (b ∷ s) h =
-    by-test (eqb b newline) (λ e. absurd (omega (arith, firstPlace-here b s e)))
-    (λ e. rw (e, endedLines-none s (omega (arith, firstPlace-later b s e))))
-
-pub endedLines-cut : (s : List ℕ) (e : ℕ) → e ≡ firstPlace newline s → e < length s → endedLines s ≡ take e s ∷ endedLines (drop (suc e) s)
-unfolding endedLines
-endedLines-cut [] e p h = absurd (omega arith)
-endedLines-cut (b ∷ s) zero p h =
-    by-test (eqb b newline) (λ y. rw y) (λ y. absurd (omega (arith, firstPlace-later b s y)))
-endedLines-cut (b ∷ s) (suc e) p h =
-    by-test (eqb b newline) (λ y. absurd (omega (arith, firstPlace-here b s y)))
-    (λ y. rw (y, endedLines-cut s e (omega (arith, firstPlace-later b s y)) (omega arith)))
+use Rattle.lines.specs.Lines.{fitting, answersOf, answered, stepOf, roomAfterStep}
+use Rattle.lines.proofs.Printing.{length-rowBytes}
 
 -- ---- answers put one after the other: t bytes of s are answered, by w bytes of the room
 pub record Going (s room now : List ℕ) (t w : ℕ) : Type 0 where
@@ -59,7 +33,7 @@ going-start s room =
     record { answers = ap (λ (k : ℕ). answersOf (answered s k)) e; passed = omega (arith, ap (λ (k : ℕ). takenBy (answered s k)) e); beyond = refl; within = omega arith; size = refl; inside = omega arith; none = λ e. refl }
 
 -- no further line fits
-pub going-stop : {s room now : List ℕ} {t w : ℕ} → Going s room now t w → fitting (length room - w) (endedLines (drop t s)) ≡ []
+going-stop : {s room now : List ℕ} {t w : ℕ} → Going s room now t w → fitting (length room - w) (endedLines (drop t s)) ≡ []
     → (record { taken = t; written = w } ≡ stepOf s (length room)) × (now ≡ roomAfterStep s room)
 unfolding answersOf takenBy
 going-stop {s} {room} {now} {t} {w} g e =
@@ -79,36 +53,27 @@ pub fitting-full : (k : ℕ) (l : List ℕ) (ls : List (List ℕ)) → k < lengt
 unfolding fitting
 fitting-full k l ls h = rw (lt-ltb k (length (answerLine l)) h)
 
--- the line at t, and those behind it
-lines-at : (s rest line : List ℕ) (t e : ℕ) → rest ≡ drop t s → e ≡ firstPlace newline rest → e < length rest → line ≡ take e rest
-    → endedLines (drop t s) ≡ line ∷ endedLines (drop (t + (e + 1)) s)
-lines-at s rest line t e pr pe h pl =
-    let q : t + suc e ≡ t + (e + 1) = omega arith in
-    ap endedLines (sym pr) ∙ endedLines-cut rest e pe h
-    ∙ (λ i. sym pl i ∷ endedLines (drop (suc e) (pr i)))
-    ∙ ap (λ (v : List ℕ). line ∷ endedLines v) (drop-drop (suc e) t s ∙ ap (λ (v : ℕ). drop v s) q)
-
 -- one line more, whose answer fits
 pub going-again : {s room now : List ℕ} {t w : ℕ} → Going s room now t w → (rest line now′ : List ℕ) (e n : ℕ)
     → rest ≡ drop t s → e ≡ firstPlace newline rest → e < length rest → line ≡ take e rest
-    → n ≡ writtenIn (answerLine line) (drop w now) → 0 < n → now′ ≡ take w now ++ roomWith (answerLine line) (drop w now)
+    → n ≡ writtenIn (answerLine line) (drop w now) → 0 < n → now′ ≡ take w now ++ roomAfter (fits (answerLine line) (drop w now)) (answerLine line) (drop w now)
     → Going s room now′ (t + (e + 1)) (w + n)
 unfolding answersOf takenBy
 going-again {s} {room} {now} {t} {w} g rest line now′ e n pr pe h pl pn some pm =
     let a = answerLine line in
     let d = drop w now in
     let k : w ≤ length now = omega (arith, g .within, g .size) in
-    by-test (ltb (length d) (length a)) (λ y. let z : n ≡ 0 = rw y at pn in absurd (omega arith))
+    by-test (fits a d)
     (λ y.
     let m : n ≡ length a = rw y at pn in
     let r : now′ ≡ take w now ++ (a ++ drop (length a) d) = rw y at pm in
-    let u : length a ≤ length d = ltb-false (length d) (length a) y in
+    let u : length a ≤ length d = leb-true (length a) (length d) y in
     let ld : length d ≡ length now - w = length-drop w now in
     let f : length a ≤ length room - w = omega (arith, g .size) in
     let v : length room - w - length a ≡ length room - (w + n) = omega arith in
     let behind = fitting (length room - (w + n)) (endedLines (drop (t + (e + 1)) s)) in
     let fit : fitting (length room - w) (endedLines (drop t s)) ≡ line ∷ behind =
-    ap (fitting (length room - w)) (lines-at s rest line t e pr pe h pl) ∙ fitting-fits (length room - w) line (endedLines (drop (t + (e + 1)) s)) f
+    ap (fitting (length room - w)) (endedLines-at s rest line t e pr pe h pl) ∙ fitting-fits (length room - w) line (endedLines (drop (t + (e + 1)) s)) f
     ∙ ap (λ (j : ℕ). line ∷ fitting j (endedLines (drop (t + (e + 1)) s))) v in
     let whole : now′ ≡ (take w now ++ a) ++ drop (length a) d = r ∙ sym (append-assoc (take w now) a (drop (length a) d)) in
     let front : length (take w now ++ a) ≡ w + n = omega (arith, length-append (take w now) a, length-take-le w now k) in
@@ -123,9 +88,10 @@ going-again {s} {room} {now} {t} {w} g rest line now′ e n pr pe h pl pn some p
       inside = omega (arith, ap length pr, length-drop t s, g .inside);
       none = λ z. absurd (omega (arith, z));
     })
+    (λ y. let z : n ≡ 0 = rw y at pn in absurd (omega arith))
 
 -- ---- where it stops
-abbrev pub Stopped : List ℕ → List ℕ → List ℕ → ℕ → ℕ → Type 0
+abbrev Stopped : List ℕ → List ℕ → List ℕ → ℕ → ℕ → Type 0
 Stopped s room now t w =
     (record { taken = t; written = w } ≡ stepOf s (length room))
     × ((now ≡ roomAfterStep s room) × ((t ≤ length s) × (w ≤ length room) × (64 ≤ length room → t ≡ 0 → endedLines s ≡ [])))
@@ -139,30 +105,22 @@ stop-no-line {s} {room} {now} {t} {w} g rest e pr pe h =
     let p = going-stop g (ap (fitting (length room - w)) n) in
     (p .0, (p .1, (g .inside, g .within, λ l z. ap (λ (v : ℕ). endedLines (drop v s)) (sym z) ∙ n)))
 
-pub answerLine-some : (s : List ℕ) → 0 < length (answerLine s)
+answerLine-some : (s : List ℕ) → 0 < length (answerLine s)
 unfolding answerLine
-answerLine-some s = omega (arith, length-rowBytes (rowOf s), sizeOf-gt (rowOf s .seconds), sizeOf-gt (rowOf s .offset))
+answerLine-some s = omega (arith, length-rowBytes (rowOf s))
 
 -- the next answer does not fit
 pub stop-full : {s room now : List ℕ} {t w : ℕ} → Going s room now t w → (rest line now′ : List ℕ) (e n : ℕ)
     → rest ≡ drop t s → e ≡ firstPlace newline rest → e < length rest → line ≡ take e rest
-    → n ≡ writtenIn (answerLine line) (drop w now) → n ≡ 0 → (64 ≤ length (drop w now) → 0 < n) → now′ ≡ take w now ++ roomWith (answerLine line) (drop w now)
+    → n ≡ writtenIn (answerLine line) (drop w now) → n ≡ 0 → (64 ≤ length (drop w now) → 0 < n) → now′ ≡ take w now ++ roomAfter (fits (answerLine line) (drop w now)) (answerLine line) (drop w now)
     → Stopped s room now′ t w
 stop-full {s} {room} {now} {t} {w} g rest line now′ e n pr pe h pl pn z some pm =
     let a = answerLine line in
     let d = drop w now in
     let ld : length d ≡ length now - w = length-drop w now in
-    by-test (ltb (length d) (length a))
+    by-test (fits a d) (λ y. let m : n ≡ length a = rw y at pn in absurd (omega (arith, answerLine-some line)))
     (λ y.
     let r : now′ ≡ now = rw y at pm ∙ take-append-drop w now in
-    let u : length room - w < length a = omega (arith, ltb-true (length d) (length a) y, g .size) in
-    let p = going-stop g (ap (fitting (length room - w)) (lines-at s rest line t e pr pe h pl) ∙ fitting-full (length room - w) line (endedLines (drop (t + (e + 1)) s)) u) in
+    let u : length room - w < length a = omega (arith, leb-false (length a) (length d) y, g .size) in
+    let p = going-stop g (ap (fitting (length room - w)) (endedLines-at s rest line t e pr pe h pl) ∙ fitting-full (length room - w) line (endedLines (drop (t + (e + 1)) s)) u) in
     (p .0, (r ∙ p .1, (g .inside, g .within, λ l x. let o = g .none x in let q = some (omega (arith, g .size)) in absurd (omega arith)))))
-    (λ y. let m : n ≡ length a = rw y at pn in absurd (omega (arith, answerLine-some line)))
-
--- ---- a part of a room, lent and given back
-pub put-behind : (l ys : List ℕ) (at : ℕ) (f : List ℕ → List ℕ) → at ≤ length l → ys ≡ f (take (length l - at) (drop at l))
-    → putMid at (length l - at) l ys ≡ take at l ++ f (drop at l)
-put-behind l ys at f h e =
-    ap (λ (v : List ℕ). take at l ++ (ys ++ v)) (post-is at (length l) l h ∙ drop-length l)
-    ∙ ap (λ (v : List ℕ). take at l ++ v) (append-nil ys ∙ e ∙ ap f (take-length-sub-drop l at))

@@ -1,6 +1,6 @@
--- An input that comes piece by piece through a buffer has the output of the whole, wherever it is cut. In order: lines of a text cut at a
--- newline; of one without; then the three promises: `output-step`, of answering the lines that have their end; `output-kept`, of keeping
--- what is left; `output-last`, of a last line that lacks its end.
+-- An input that comes piece by piece through a buffer has the output of the whole, wherever it is cut. In order the three promises:
+-- `output-step`, of answering the lines that have their end; `output-kept`, of keeping what is left; `output-last`, of a last line that
+-- lacks its end.
 -- Assumes nothing.
 use mathlib.Core.Path.{_≡_, refl, sym, ap, _∙_}
 use mathlib.Core.List.{List, [], _∷_, _++_, append-assoc, append-nil}
@@ -8,28 +8,20 @@ use Prim.Native.Nat.{ℕ, zero, suc, _+_, _-_, _≤_, _<_}
 use native.Mathlib.Nat.{le-refl}
 use native.Mathlib.Omega.{arith}
 use borrow.Author.Tests.{ltb-true, ltb-false}
-use lib.Dec.{ltb, eqb}
+use lib.Dec.{ltb}
 use lib.ListN.{length, take, drop, length-drop, length-append}
 use lib.Seq.{drop-drop, length-take-le, take-all}
+use Rattle.text.specs.Lines.{newline, linesOf, endedLines, takenBy}
 use Rattle.text.specs.Places.{firstPlace}
-use Rattle.text.specs.Words.{onto}
+use Rattle.text.proofs.Lines.{endedLines-none, endedLines-cut, endedLines-take, linesOf-cut, linesOf-open, headOf, tailOf}
 use Rattle.text.proofs.Lists.{by-test}
 use Rattle.lines.specs.Layout.{textOf}
-use Rattle.lines.specs.Rows.{newline, rowBytes}
+use Rattle.lines.specs.Rows.{rowBytes}
 use Rattle.lines.specs.Answers.{rowBy, rowOf, answerLine}
-use Rattle.lines.specs.Lines.{linesOf, answersOf, outputOf, before, endedLines, fitting, takenBy, answered, kept}
+use Rattle.lines.specs.Lines.{answersOf, outputOf, fitting, answered, kept}
 use Rattle.lines.specs.declared.layout.Line.{Line}
 use Rattle.lines.proofs.Layouts.{lineOf-of-length}
-use Rattle.lines.proofs.Buffers.{firstPlace-here, firstPlace-later, endedLines-none, endedLines-cut, fitting-fits, fitting-full}
-
--- ---- cut at the first newline
-linesOf-cut : (s z : List ℕ) (e : ℕ) → e ≡ firstPlace newline s → e < length s → linesOf (s ++ z) ≡ take e s ∷ linesOf (drop (suc e) s ++ z)
-unfolding linesOf
-linesOf-cut [] z e p h = absurd (omega arith)
-linesOf-cut (b ∷ s) z zero p h = by-test (eqb b newline) (λ y. rw y) (λ y. absurd (omega (arith, firstPlace-later b s y)))
-linesOf-cut (b ∷ s) z (suc e) p h =
-    by-test (eqb b newline) (λ y. absurd (omega (arith, firstPlace-here b s y)))
-    (λ y. rw (y, linesOf-cut s z e (omega (arith, firstPlace-later b s y)) (omega arith)))
+use Rattle.lines.proofs.Buffers.{fitting-fits, fitting-full}
 
 -- ---- answering the lines that have their end
 -- no line is taken: nothing changes
@@ -72,46 +64,11 @@ step-within (suc n) s z k h =
 pub output-step : (s z : List ℕ) (k : ℕ) → outputOf (s ++ z) ≡ answersOf (answered s k) ++ outputOf (drop (takenBy (answered s k)) s ++ z)
 output-step s z k = step-within (length s) s z k (le-refl (length s))
 
--- ---- a text without a newline
-headOf : List (List ℕ) → List ℕ
-headOf [] = []
-headOf (l ∷ ls) = l
-
-tailOf : List (List ℕ) → List (List ℕ)
-tailOf [] = []
-tailOf (l ∷ ls) = ls
-
-before-nil : (b : ℕ) (ls : List (List ℕ)) → before b ls ≡ [] → ls ≡ []
-before-nil b [] e = refl
-before-nil b (l ∷ ls) e = let z : _≡_ {A = ℕ} 0 1 = cc in absurd (omega arith)
-
-onto-first : (b : ℕ) (ls : List (List ℕ)) → onto b ls ≡ (b ∷ headOf ls) ∷ tailOf ls
-unfolding headOf tailOf
-onto-first b [] = refl
-onto-first b (l ∷ ls) = refl
-
-not-nil : (ls : List (List ℕ)) → [] ∷ ls ≡ [] → ⊥
-not-nil ls e = let w : _≡_ {A = ℕ} 0 1 = cc in omega arith
-
--- it opens the first line of what follows
-linesOf-open : (s : List ℕ) (b : ℕ) (z : List ℕ) → endedLines (b ∷ s) ≡ [] → linesOf (b ∷ s ++ z) ≡ (b ∷ s ++ headOf (linesOf z)) ∷ tailOf (linesOf z)
-unfolding linesOf endedLines
-linesOf-open [] b z h = by-test (eqb b newline) (λ y. absurd (not-nil (endedLines []) (rw y at h))) (λ y. rw y (onto-first b (linesOf z)))
-linesOf-open (x ∷ s) b z h =
-    by-test (eqb b newline) (λ y. absurd (not-nil (endedLines (x ∷ s)) (rw y at h)))
-    (λ y. rw y (ap (onto b) (linesOf-open s x z (before-nil b (endedLines (x ∷ s)) (rw y at h)))))
-
--- its output begins with the answer of that line
+-- ---- a text in which no line has its end
+-- its output begins with the answer of the line that it opens
 output-open : (s : List ℕ) (b : ℕ) (z : List ℕ) → endedLines (b ∷ s) ≡ [] → outputOf (b ∷ s ++ z) ≡ answerLine (b ∷ s ++ headOf (linesOf z)) ++ answersOf (tailOf (linesOf z))
 unfolding outputOf answersOf
 output-open s b z h = ap answersOf (linesOf-open s b z h)
-
-pub endedLines-take : (k : ℕ) (s : List ℕ) → endedLines s ≡ [] → endedLines (take k s) ≡ []
-unfolding endedLines
-endedLines-take zero s h = refl
-endedLines-take (suc k) [] h = refl
-endedLines-take (suc k) (b ∷ s) h =
-    by-test (eqb b newline) (λ y. absurd (not-nil (endedLines s) (rw y at h))) (λ y. rw y (ap (before b) (endedLines-take k s (before-nil b (endedLines s) (rw y at h)))))
 
 -- all lines that are too long have one answer
 answerLine-long : (s t : List ℕ) → 4096 < length s → 4096 < length t → answerLine s ≡ answerLine t

@@ -3,12 +3,12 @@
 -- Assumes nothing.
 use mathlib.Core.Path.{_≡_, refl, sym, ap, _∙_}
 use mathlib.Core.List.{List, [], _∷_, _++_, append-assoc}
-use Prim.Native.Nat.{ℕ, zero, suc, _+_, _-_, _≤_, _<_, min}
+use Prim.Native.Nat.{ℕ, _+_, _-_, _≤_, _<_, min}
 use native.Mathlib.Omega.{arith}
 use native.Mathlib.Numerals.{add-one}
 use lib.ListN.{length, take, drop, set, getD, length-take, length-drop, length-append}
 use lib.Seq.{length-take-le, set-at, take-suc, getD-append-add, getD-drop}
-use Rattle.text.proofs.Lists.{drop-cons-add-one}
+use Rattle.text.proofs.Lists.{drop-cons-add-one, take-length-take-take}
 use Rattle.lines.specs.Lines.{heldPart, kept}
 
 pub record Moved (from end : ℕ) (was now : List ℕ) (n at : ℕ) : Type 0 where
@@ -46,14 +46,7 @@ moved-again {from} {end} {n} {at} {was} {now} m a b c =
     ∙ ap (λ (t : List ℕ). t ++ drop (n + 1) was) (sym ts) in
     record { is = r; place = omega (arith, m .place); most = omega arith; ends = omega (arith, m .place, m .ends); fits = omega (arith, length-drop from was) }
 
--- a part of a part from its start is a part of the whole
-take-length-take-take : (m k : ℕ) (x : List ℕ) → take (length (take m (take k x))) x ≡ take m (take k x)
-take-length-take-take zero k x = refl
-take-length-take-take (suc m) zero x = refl
-take-length-take-take (suc m) (suc k) [] = refl
-take-length-take-take (suc m) (suc k) (b ∷ x) = ap (λ (t : List ℕ). b ∷ t) (take-length-take-take m k x)
-
-abbrev pub Kept : ℕ → List ℕ → List ℕ → ℕ → ℕ → Type 0
+abbrev Kept : ℕ → List ℕ → List ℕ → ℕ → ℕ → Type 0
 Kept n now was from end =
     (n ≡ length (kept (heldPart was from end)))
     × ((now ≡ kept (heldPart was from end) ++ drop n was) × ((n ≤ 4097) × (n ≤ length was)))

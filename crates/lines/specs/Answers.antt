@@ -31,9 +31,13 @@ answerBy Any t n = anyOf rule1 t n
 abbrev pub rowAt : Answer → Row
 rowAt a = record { number = answerNumber a; seconds = answerTime a .seconds; offset = answerTime a .offset }
 
+-- 9 for a line of the wrong layout or too long
+abbrev pub wrongLayout : ℕ
+wrongLayout = 9
+
 abbrev pub rowBy : Line → List ℕ → Row
 rowBy (Asks f n at) t = rowAt (answerBy f t n)
-rowBy Wrong t = record { number = 9; seconds = pos 0; offset = pos 0 }
+rowBy Wrong t = record { number = wrongLayout; seconds = pos 0; offset = pos 0 }
 
 unfoldable pub rowOf : List ℕ → Row
 rowOf s = rowBy (lineOf s) (textOf s)

@@ -5,12 +5,11 @@ use Prim.Native.Nat.{ℕ, _+_, _^_}
 use mathlib.Core.Bool.{cond, _&&_}
 use mathlib.Core.List.{List}
 use lib.Dec.{leb}
-use lib.IntN.{pos, negsuc}
-use lib.ListN.{length, take, drop}
-use Rattle.ints.specs.Range.{In}
+use lib.ListN.{length}
 use Rattle.text.specs.Bytes.{same}
 use Rattle.text.specs.Quote.{bytes}
 use Rattle.text.specs.Places.{firstPlace, has}
+use Rattle.text.specs.Lines.{tab, field, rest}
 use Rattle.text.specs.Number.{signedOf, fitSigned}
 use Rattle.text.specs.declared.number.Integer.{Integer}
 use Rattle.text.specs.declared.number.Integer.the-variants.{Is, NotOne}
@@ -33,27 +32,17 @@ formOf s =
     (cond (same s (bytes "relative")) (As Relative)
     (cond (same s (bytes "any")) (As Any) Unknown))))
 
--- current seconds, current offset (signed numbers of 64 and 32 bits,
+-- current seconds and offset: signed numbers of 64 and 32 bits
 abbrev pub currentAt : Integer → Integer → Current
 currentAt (Is z) (Is o) = Known (At (timeAt z o))
 currentAt (Is z) NotOne = Neither
 currentAt NotOne o = Neither
 
--- or both `-`)
+-- `-` and `-`: the current time is missing
 unfoldable pub currentOf : List ℕ → List ℕ → Current
 currentOf s o =
     cond (same s (bytes "-") && same o (bytes "-")) (Known Missing)
     (currentAt (fitSigned (2 ^ 63) (signedOf s)) (fitSigned (2 ^ 31) (signedOf o)))
-
--- tab between fields: the field that opens s, and what follows its tab
-abbrev pub tab : ℕ
-tab = 9
-
-abbrev pub field : List ℕ → List ℕ
-field s = take (firstPlace tab s) s
-
-abbrev pub rest : List ℕ → List ℕ
-rest s = drop (firstPlace tab s + 1) s
 
 -- the text, which keeps further tabs, and its place
 abbrev pub textOf : List ℕ → List ℕ
@@ -73,8 +62,3 @@ lineOf s =
     cond (leb (length s) 4096 && (has tab s && (has tab (rest s) && has tab (rest (rest s)))))
     (asks (formOf (field s)) (currentOf (field (rest s)) (field (rest (rest s)))) (textPlace s))
     Wrong
-
--- 32 signed bits hold it, if it is a number
-abbrev pub Fits32 : Integer → Type 0
-Fits32 (Is z) = In (negsuc 2147483647) (pos 2147483647) z
-Fits32 NotOne = Unit {0}

@@ -1,8 +1,10 @@
-// The layout of a line: four fields with tabs between, of which the last keeps further tabs. A line is handed over without its end.
+// The layout of a line: four fields with tabs between, of which the last keeps further tabs. A line is given without its end.
 ghost use mathlib.Core.Path.{_≡_};
-ghost use Prim.Native.Nat.{_≤_};
-ghost use lib.ListN.{length, take, drop};
-ghost use Rattle.lines.specs.Layout.{formOf, currentAt, currentOf, asks as asksOf, lineOf, Fits32};
+ghost use mathlib.Core.Bool.{cond};
+ghost use Rattle.text.specs.Bytes.{same};
+ghost use Rattle.lines.specs.declared.layout.Named.the-variants.{As};
+ghost use Rattle.lines.specs.Layout.{formOf, currentAt, currentOf, asks as asksOf, lineOf};
+ghost use Rattle.lines.specs.Held.{Fits32};
 use text::bytes;
 use text::number;
 use text::number::Integer;
@@ -31,37 +33,23 @@ pub fn parse_line(line: &[u8]) -> Line
     if 4096 < line.len() {
         return Line::Wrong;
     }
-    let a = places::first_place(line, 9);
+    let a = places::first_place(line, b'\t');
     if line.len() <= a {
         return Line::Wrong;
     }
-    let rest = from(line, a + 1);
-    let b = places::first_place(rest, 9);
+    let rest = places::from(line, a + 1);
+    let b = places::first_place(rest, b'\t');
     if rest.len() <= b {
         return Line::Wrong;
     }
-    let last = from(rest, b + 1);
-    let c = places::first_place(last, 9);
+    let last = places::from(rest, b + 1);
+    let c = places::first_place(last, b'\t');
     if last.len() <= c {
         return Line::Wrong;
     }
-    let form = form_of(up_to(line, a));
-    let current = current_of(up_to(rest, b), up_to(last, c));
+    let form = form_of(places::up_to(line, a));
+    let current = current_of(places::up_to(rest, b), places::up_to(last, c));
     asks(form, current, a + 1 + (b + 1) + (c + 1))
-}
-
-pub(crate) fn from(s: &[u8], at: usize) -> &[u8]
-    requires { ⌜ at ≤ length (now s) ⌝ }
-    ensures { λ r. ⌜ now r ≡ drop at (now (s .entry)) ⌝ }
-{
-    &s[at..]
-}
-
-pub(crate) fn up_to(s: &[u8], at: usize) -> &[u8]
-    requires { ⌜ at ≤ length (now s) ⌝ }
-    ensures { λ r. ⌜ now r ≡ take at (now (s .entry)) ⌝ }
-{
-    &s[..at]
 }
 
 pub(crate) enum Named {
@@ -90,22 +78,23 @@ fn asks(form: Named, current: Current, at: usize) -> Line
 fn form_of(s: &[u8]) -> Named
     ensures { λ r. ⌜ r ≡ formOf (now (s .entry)) ⌝ }
 {
-    if bytes::same(s, b"header") {
-        return Named::As(Form::Header);
+    let n = Named::Unknown;
+    let n = form_named(s, b"any", Form::Any, n);
+    let n = form_named(s, b"relative", Form::Relative, n);
+    let n = form_named(s, b"iso", Form::Iso, n);
+    let n = form_named(s, b"raw", Form::Raw, n);
+    let n = form_named(s, b"header", Form::Header, n);
+    n
+}
+
+// The form if `s` is its name, else `other`.
+fn form_named(s: &[u8], name: &[u8], form: Form, other: Named) -> Named
+    ensures { λ r. ⌜ r ≡ cond (same (now (s .entry)) (now (name .entry))) (As form) other ⌝ }
+{
+    if bytes::same(s, name) {
+        return Named::As(form);
     }
-    if bytes::same(s, b"raw") {
-        return Named::As(Form::Raw);
-    }
-    if bytes::same(s, b"iso") {
-        return Named::As(Form::Iso);
-    }
-    if bytes::same(s, b"relative") {
-        return Named::As(Form::Relative);
-    }
-    if bytes::same(s, b"any") {
-        return Named::As(Form::Any);
-    }
-    Named::Unknown
+    other
 }
 
 // Numbers of 64 and of 32 bits, or both `-`.
@@ -126,10 +115,7 @@ fn current_at(seconds: Integer, offset: Integer) -> Current
 {
     match seconds {
         Integer::Is(z) => match offset {
-            Integer::Is(o) => Current::Is(Now::At(Time {
-                seconds: z,
-                offset: o as i32,
-            })),
+            Integer::Is(o) => Current::Is(Now::At(Time::new(z, o as i32))),
             Integer::NotOne => Current::Neither,
         },
         Integer::NotOne => Current::Neither,

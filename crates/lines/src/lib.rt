@@ -11,25 +11,39 @@ ghost use Prim.Native.Nat.{_≤_, _<_};
 ghost use lib.ListN.{length};
 ghost use Rattle.calendar.specs.Table.{IsMonths};
 ghost use Rattle.lines.specs.Answers.{answerBy, rowAt, rowOf, answerLine};
-ghost use Rattle.lines.specs.Rows.{writtenIn, roomWith};
+ghost use Rattle.text.specs.Room.{fits, roomAfter};
+ghost use Rattle.lines.specs.Rows.{writtenIn};
 use layout::Form;
 use layout::Line;
 use print::Row;
+use text::places;
 use time::Answer;
 use time::Now;
 
-// Writes the answer line of `line`, which is without its end, to the front of `out`, and hands back how many bytes that took. Those
+// The number of a line of the wrong layout, or too long. The readers' refusals have the numbers below it.
+const WRONG_LAYOUT: u64 = 9;
+
+// Writes the answer line of `line`, which is without its end, to the front of `out`, and returns how many bytes that took. The bytes
 // beyond stay. An answer that does not fit is not written: 0, and `out` holds what it held. 64 bytes are room for every answer.
+pub fn answer(line: &[u8], out: &mut [u8]) -> usize
+    ensures { λ r. ⌜ r ≡ writtenIn (answerLine (now (line .entry))) (now (out .entry)) ⌝ }
+    ensures { λ _. ⌜ now (out .exit) ≡ roomAfter (fits (answerLine (now (line .entry))) (now (out .entry))) (answerLine (now (line .entry))) (now (out .entry)) ⌝ }
+    ensures { λ r. ⌜ (r ≤ 64) × (64 ≤ length (now (out .entry)) → 0 < r) ⌝ }
+{
+    answer_with(&[], line, out)
+}
+
+// The same with a table of months, for many lines in a row: the whole table, or any leading part of it.
 pub fn answer_with(months: &[u32], line: &[u8], out: &mut [u8]) -> usize
     requires { ⌜ IsMonths (now months) ⌝ }
     ensures { λ r. ⌜ r ≡ writtenIn (answerLine (now (line .entry))) (now (out .entry)) ⌝ }
-    ensures { λ _. ⌜ now (out .exit) ≡ roomWith (answerLine (now (line .entry))) (now (out .entry)) ⌝ }
+    ensures { λ _. ⌜ now (out .exit) ≡ roomAfter (fits (answerLine (now (line .entry))) (now (out .entry))) (answerLine (now (line .entry))) (now (out .entry)) ⌝ }
     ensures { λ r. ⌜ (r ≤ 64) × (64 ≤ length (now (out .entry)) → 0 < r) ⌝ }
 {
     print::write_row(row_of(months, line), out)
 }
 
-// What a line asks, answered; 9 for one of the wrong layout.
+// What a line asks, answered, or refused where its layout is wrong.
 fn row_of(months: &[u32], line: &[u8]) -> Row
     requires { ⌜ IsMonths (now months) ⌝ }
     ensures { λ r. ⌜ r ≡ rowOf (now (line .entry)) ⌝ }
@@ -37,11 +51,11 @@ fn row_of(months: &[u32], line: &[u8]) -> Row
     let asked = layout::parse_line(line);
     match asked {
         Line::Asks(form, current, at) => {
-            let text = layout::from(line, at);
-            told(parse_as(months, form, text, current))
+            let text = places::from(line, at);
+            row_for(parse_as(months, form, text, current))
         }
         Line::Wrong => Row {
-            number: 9,
+            number: WRONG_LAYOUT,
             seconds: 0,
             offset: 0,
         },
@@ -62,7 +76,7 @@ fn parse_as(months: &[u32], form: Form, text: &[u8], current: Now) -> Answer
 }
 
 // An answer's number, seconds and offset.
-fn told(a: Answer) -> Row
+fn row_for(a: Answer) -> Row
     ensures { λ r. ⌜ r ≡ rowAt a ⌝ }
 {
     match a {

@@ -1,5 +1,5 @@
--- Letter case. In order: what says the same of a capital letter and of its small one; a text and its small letters, which has the
--- same words and the same numbers.
+-- Letter case. In order: tests that give the same result for a capital letter and for its small letter; a text and the text in
+-- small letters, which has the same words and the same numbers.
 -- Assumes nothing.
 use mathlib.Core.Path.{_≡_, refl, sym, ap, _∙_}
 use mathlib.Core.Bool.{true, false≢true}
@@ -18,8 +18,8 @@ use Rattle.text.proofs.Lists.{by-test, both}
 use Rattle.text.proofs.Numbers.{digit-range}
 
 -- ---- bytes
--- what says the same of a capital letter and of its small one
-pub of-lowerOf : {A : Type 0} (f : ℕ → A) → ((b : ℕ) → 65 ≤ b → b ≤ 90 → f (b + 32) ≡ f b) → (b : ℕ) → f (lowerOf b) ≡ f b
+-- a test that gives the same result for a capital letter and for its small letter
+of-lowerOf : {A : Type 0} (f : ℕ → A) → ((b : ℕ) → 65 ≤ b → b ≤ 90 → f (b + 32) ≡ f b) → (b : ℕ) → f (lowerOf b) ≡ f b
 unfolding lowerOf
 of-lowerOf f h b =
     by-test (between 65 90 b)
@@ -30,14 +30,14 @@ pub lowerOf-lowerOf : (b : ℕ) → lowerOf (lowerOf b) ≡ lowerOf b
 unfolding lowerOf
 lowerOf-lowerOf = of-lowerOf lowerOf (λ b h k. rw (le-leb 65 (b + 32) (omega arith), lt-leb (b + 32) 90 (omega arith), le-leb 65 b h, le-leb b 90 k))
 
-pub ascii-lowerOf : (b : ℕ) → ltb (lowerOf b) 128 ≡ ltb b 128
+ascii-lowerOf : (b : ℕ) → ltb (lowerOf b) 128 ≡ ltb b 128
 ascii-lowerOf = of-lowerOf (λ b. ltb b 128) (λ b h k. rw (lt-ltb (b + 32) 128 (omega arith), lt-ltb b 128 (omega arith)))
 
-pub isSpace-lowerOf : (b : ℕ) → isSpace (lowerOf b) ≡ isSpace b
+isSpace-lowerOf : (b : ℕ) → isSpace (lowerOf b) ≡ isSpace b
 unfolding isSpace
 isSpace-lowerOf = of-lowerOf isSpace (λ b h k. rw (le-leb 9 (b + 32) (omega arith), lt-leb (b + 32) 13 (omega arith), ne-eqb (b + 32) 32 (λ e. omega arith), le-leb 9 b (omega arith), lt-leb b 13 (omega arith), ne-eqb b 32 (λ e. omega arith)))
 
-pub isDigit-lowerOf : (b : ℕ) → isDigit (lowerOf b) ≡ isDigit b
+isDigit-lowerOf : (b : ℕ) → isDigit (lowerOf b) ≡ isDigit b
 unfolding isDigit
 isDigit-lowerOf = of-lowerOf isDigit (λ b h k. rw (le-leb 48 (b + 32) (omega arith), lt-leb (b + 32) 57 (omega arith), le-leb 48 b (omega arith), lt-leb b 57 (omega arith)))
 
@@ -78,15 +78,15 @@ lowers-of-same (x ∷ s) (y ∷ t) e =
     let k = both (eqb (lowerOf x) (lowerOf y)) (sameLetters s t) e in
     rw (eqb-true (lowerOf x) (lowerOf y) (k .0), lowers-of-same s t (k .1))
 
-pub lowers-append : (s t : List ℕ) → lowers (s ++ t) ≡ lowers s ++ lowers t
+lowers-append : (s t : List ℕ) → lowers (s ++ t) ≡ lowers s ++ lowers t
 lowers-append [] t = refl
 lowers-append (b ∷ s) t = rw (lowers-append s t)
 
-pub lowers-reverse : (s : List ℕ) → lowers (reverse s) ≡ reverse (lowers s)
+lowers-reverse : (s : List ℕ) → lowers (reverse s) ≡ reverse (lowers s)
 lowers-reverse [] = refl
 lowers-reverse (b ∷ s) = ap lowers (reverse-cons b s) ∙ lowers-append (reverse s) (b ∷ []) ∙ ap (λ (t : List ℕ). t ++ (lowerOf b ∷ [])) (lowers-reverse s) ∙ sym (reverse-cons (lowerOf b) (lowers s))
 
-pub trimStart-lowers : (s : List ℕ) → trimStart (lowers s) ≡ lowers (trimStart s)
+trimStart-lowers : (s : List ℕ) → trimStart (lowers s) ≡ lowers (trimStart s)
 unfolding trimStart
 trimStart-lowers [] = refl
 trimStart-lowers (b ∷ s) = by-test (isSpace b) (λ e. rw (isSpace-lowerOf b, e) (trimStart-lowers s)) (λ e. rw (isSpace-lowerOf b, e))
@@ -119,11 +119,11 @@ abbrev pub allLowers : List (List ℕ) → List (List ℕ)
 allLowers [] = []
 allLowers (w ∷ ws) = lowers w ∷ allLowers ws
 
-pub onto-lowers : (b : ℕ) (ws : List (List ℕ)) → onto (lowerOf b) (allLowers ws) ≡ allLowers (onto b ws)
+onto-lowers : (b : ℕ) (ws : List (List ℕ)) → onto (lowerOf b) (allLowers ws) ≡ allLowers (onto b ws)
 onto-lowers b [] = refl
 onto-lowers b (w ∷ ws) = refl
 
-pub pieces-lowers : (s : List ℕ) → pieces (separator Mark) (lowers s) ≡ allLowers (pieces (separator Mark) s)
+pieces-lowers : (s : List ℕ) → pieces (separator Mark) (lowers s) ≡ allLowers (pieces (separator Mark) s)
 unfolding pieces
 pieces-lowers [] = refl
 pieces-lowers (b ∷ s) =
@@ -131,7 +131,7 @@ pieces-lowers (b ∷ s) =
     (λ e. rw (isAlphanumeric-lowerOf b, e, pieces-lowers s) (onto-lowers b (pieces (separator Mark) s)))
     (λ e. rw (isAlphanumeric-lowerOf b, e, pieces-lowers s))
 
-pub full-lowers : (ws : List (List ℕ)) → full (allLowers ws) ≡ allLowers (full ws)
+full-lowers : (ws : List (List ℕ)) → full (allLowers ws) ≡ allLowers (full ws)
 unfolding full
 full-lowers [] = refl
 full-lowers ([] ∷ ws) = full-lowers ws
@@ -142,7 +142,7 @@ unfolding words
 words-lowers s = ap full (pieces-lowers s) ∙ full-lowers (pieces (separator Mark) s)
 
 -- ---- numbers
-pub readFrom-lowers : (v : ℕ) (s : List ℕ) → readFrom v (lowers s) ≡ readFrom v s
+readFrom-lowers : (v : ℕ) (s : List ℕ) → readFrom v (lowers s) ≡ readFrom v s
 unfolding readFrom
 readFrom-lowers v [] = refl
 readFrom-lowers v (b ∷ s) =

@@ -1,8 +1,8 @@
--- Signed plain decimal. In order: what the sign decides; what stands behind it; how many bytes it takes; which bytes they are; reading it
--- back; the digits put in front of a place, and the minus in front of them.
+-- Signed plain decimal. In order: what the sign decides; a text after it; how many bytes it takes; which bytes they are; reading
+-- it back; the digits written in front of a place, and the minus in front of them.
 -- Assumes nothing.
 use mathlib.Core.Path.{_≡_, refl, sym, ap, _∙_}
-use mathlib.Core.List.{List, [], _∷_, _++_}
+use mathlib.Core.List.{List, _∷_, _++_, append-assoc}
 use Prim.Native.Nat.{ℕ, suc, _+_, _-_, _^_, _≤_, _<_}
 use native.Mathlib.Omega.{arith}
 use lib.IntN.{ℤ, pos, negsuc, natAbs}
@@ -11,45 +11,46 @@ use lib.Signed.{_≤ℤ_, _<ℤ_}
 use Rattle.ints.specs.Range.{In}
 use Rattle.ints.proofs.Parts.{le-parts, lt-parts, parts-le, parts-lt}
 use Rattle.ints.proofs.Machine.{leZ-true, ltZ-true}
-use Rattle.text.specs.Number.{readFrom, signedOf, fitSigned}
+use Rattle.text.specs.Number.{signedOf, fitSigned}
 use Rattle.text.specs.Decimal.{decimal, decimalBefore, signed, signedBefore}
 use Rattle.text.specs.declared.number.Integer.the-variants.{Is}
-use Rattle.text.proofs.Decimals.{Between, decimalBefore-app, decimalBefore-between, length-decimal-pos, length-decimal-le, readFrom-decimal, decimal-between}
+use Rattle.text.proofs.Decimals.{Between, Between-append, length-decimal-pos, length-decimal-le, readFrom-decimal, decimal-between}
 use Rattle.text.proofs.Putting.{put-put}
 use Rattle.text.proofs.Texts.{signedOf-of-digits, signedOf-of-minus}
 
 -- ---- what the sign decides
 signedBefore-of-lt : (z : ℤ) (t : List ℕ) → z <ℤ pos 0 → signedBefore z t ≡ 45 ∷ decimalBefore (natAbs z) t
-unfolding signedBefore
+unfolding signedBefore signed decimalBefore
 signedBefore-of-lt (pos n) t h = absurd (omega (arith, lt-parts h))
 signedBefore-of-lt (negsuc n) t h = refl
 
 signedBefore-of-le : (z : ℤ) (t : List ℕ) → pos 0 ≤ℤ z → signedBefore z t ≡ decimalBefore (natAbs z) t
-unfolding signedBefore
+unfolding signedBefore signed decimalBefore
 signedBefore-of-le (pos n) t h = refl
 signedBefore-of-le (negsuc n) t h = absurd (omega (arith, le-parts h))
 
--- ---- what stands behind it
+-- ---- a text after it
 pub signedBefore-app : (z : ℤ) (s t : List ℕ) → signedBefore z (s ++ t) ≡ signedBefore z s ++ t
 unfolding signedBefore
-signedBefore-app (pos n) s t = decimalBefore-app n s t
-signedBefore-app (negsuc n) s t = ap (λ (v : List ℕ). 45 ∷ v) (decimalBefore-app (suc n) s t)
+signedBefore-app z s t = sym (append-assoc (signed z) s t)
 
 pub signedBefore-append : (z : ℤ) (t : List ℕ) → signedBefore z t ≡ signed z ++ t
-unfolding signed
-signedBefore-append z t = signedBefore-app z [] t
+unfolding signedBefore
+signedBefore-append z t = refl
 
 pub length-signedBefore : (z : ℤ) (t : List ℕ) → length (signedBefore z t) ≡ length (signed z) + length t
 length-signedBefore z t = ap length (signedBefore-append z t) ∙ length-append (signed z) t
 
 -- ---- how many bytes it takes
 pub length-signed-of-lt : (z : ℤ) → z <ℤ pos 0 → length (signed z) ≡ length (decimal (natAbs z)) + 1
-unfolding signed decimal
-length-signed-of-lt z h = ap length (signedBefore-of-lt z [] h) ∙ omega arith
+unfolding signed
+length-signed-of-lt (pos n) h = absurd (omega (arith, lt-parts h))
+length-signed-of-lt (negsuc n) h = omega arith
 
 pub length-signed-of-le : (z : ℤ) → pos 0 ≤ℤ z → length (signed z) ≡ length (decimal (natAbs z))
-unfolding signed decimal
-length-signed-of-le z h = ap length (signedBefore-of-le z [] h)
+unfolding signed
+length-signed-of-le (pos n) h = refl
+length-signed-of-le (negsuc n) h = absurd (omega (arith, le-parts h))
 
 pub length-decimal-le-signed : (z : ℤ) → length (decimal (natAbs z)) ≤ length (signed z)
 length-decimal-le-signed (pos n) = omega (arith, length-signed-of-le (pos n) (parts-le _ _ (omega arith)))
@@ -58,36 +59,36 @@ length-decimal-le-signed (negsuc n) = omega (arith, length-signed-of-lt (negsuc 
 pub length-signed-pos : (z : ℤ) → 0 < length (signed z)
 length-signed-pos z = omega (arith, length-decimal-le-signed z, length-decimal-pos (natAbs z))
 
--- at most 20 of a number that 64 bits hold
+-- at most 20 bytes, for a number of 64 bits
 pub length-signed-le : (z : ℤ) → natAbs z ≤ 2 ^ 63 → length (signed z) ≤ 20
 length-signed-le (pos n) h = omega (arith, length-signed-of-le (pos n) (parts-le _ _ (omega arith)), length-decimal-le 18 n (omega arith))
 length-signed-le (negsuc n) h = omega (arith, length-signed-of-lt (negsuc n) (parts-lt _ _ (omega arith)), length-decimal-le 18 (suc n) (omega arith))
 
 -- ---- which bytes they are
-pub signedBefore-between : (lo hi : ℕ) → lo ≤ 45 → 57 ≤ hi → (z : ℤ) (t : List ℕ) → Between lo hi t → Between lo hi (signedBefore z t)
-unfolding signedBefore
-signedBefore-between lo hi l h (pos n) t b = decimalBefore-between lo hi (omega arith) h n t b
-signedBefore-between lo hi l h (negsuc n) t b = (omega arith, omega arith, decimalBefore-between lo hi (omega arith) h (suc n) t b)
-
 pub signed-between : (lo hi : ℕ) → lo ≤ 45 → 57 ≤ hi → (z : ℤ) → Between lo hi (signed z)
 unfolding signed
-signed-between lo hi l h z = signedBefore-between lo hi l h z [] tt
+signed-between lo hi l h (pos n) = decimal-between lo hi (omega arith) h n
+signed-between lo hi l h (negsuc n) = (omega arith, omega arith, decimal-between lo hi (omega arith) h (suc n))
+
+pub signedBefore-between : (lo hi : ℕ) → lo ≤ 45 → 57 ≤ hi → (z : ℤ) (t : List ℕ) → Between lo hi t → Between lo hi (signedBefore z t)
+unfolding signedBefore
+signedBefore-between lo hi l h z t b = Between-append lo hi (signed z) t (signed-between lo hi l h z) b
 
 -- ---- reading it back
 pub signedOf-signed : (z : ℤ) → signedOf (signed z) ≡ Is z
-unfolding signed signedBefore decimal readFrom
+unfolding signed
 signedOf-signed (pos n) =
     signedOf-of-digits (decimal n) n (length-decimal-pos n) (decimal-between 48 57 (omega arith) (omega arith) n) (readFrom-decimal n)
 signedOf-signed (negsuc n) = signedOf-of-minus (decimal (suc n)) (suc n) (length-decimal-pos (suc n)) (readFrom-decimal (suc n))
 
--- in the width that holds it
+-- in 64 bits
 pub fitSigned-signed : (z : ℤ) → In (negsuc (2 ^ 63 - 1)) (pos (2 ^ 63 - 1)) z → fitSigned (2 ^ 63) (signedOf (signed z)) ≡ Is z
 unfolding fitSigned
 fitSigned-signed z r =
     let below : z <ℤ pos (2 ^ 63) = parts-lt _ _ (omega (arith, le-parts (r .high))) in
     rw (signedOf-signed z, leZ-true (r .low), ltZ-true below)
 
--- ---- put in front of a place: where it starts, and the room after it
+-- ---- written in front of a place: where it starts, and the buffer after the call
 abbrev pub PutSigned : ℤ → ℕ → List ℕ → ℕ → List ℕ → Type 0
 PutSigned z end l at r = (at ≡ end - length (signed z)) × (r ≡ take (end - length (signed z)) l ++ signedBefore z (drop end l))
 

@@ -1,33 +1,40 @@
--- Plain decimal: the digits of a number, as bytes, with no zero in front but for 0 itself, and `-` in front of a negative one.
+-- Plain decimal (RULES 9.1): the digits of a number, as bytes, with no zero in front except for 0 itself (proved as
+-- `decimal-digits`), and `-` in front of a negative number. `decimalBefore`, `signedBefore` and `twoBefore` have a text t after
+-- the digits, since a line is written from its end to its front.
 -- Assumes nothing.
 use Prim.Native.Nat.{ℕ, zero, suc, _+_, _/_, _%_}
 use Prim.Native.Char.{code}
-use mathlib.Core.Bool.{Bool, true, false}
-use mathlib.Core.List.{List, [], _∷_}
+use mathlib.Core.Bool.{cond}
+use mathlib.Core.List.{List, [], _∷_, _++_}
 use lib.Dec.{ltb}
 use lib.IntN.{ℤ, pos, negsuc}
 
--- the digits of n in front of t, where a test told whether n is a single digit; k bounds how often n is cut
-unfoldable pub decimalBy : ℕ → Bool → ℕ → List ℕ → List ℕ
-decimalBy zero single n t = (code "0" + n) ∷ t
-decimalBy (suc k) true n t = (code "0" + n) ∷ t
-decimalBy (suc k) false n t = decimalBy k (ltb (n / 10) 10) (n / 10) ((code "0" + n % 10) ∷ t)
+-- the byte of a digit
+abbrev pub digit : ℕ → ℕ
+digit d = code "0" + d
 
--- the digits of n, in front of t: n is cut fewer than n times
-unfoldable pub decimalBefore : ℕ → List ℕ → List ℕ
-decimalBefore n t = decimalBy n (ltb n 10) n t
+-- the digits of n, at most k of them: n itself if it is below 10; else the digits of n / 10 and then n % 10
+unfoldable pub digitsUpTo : ℕ → ℕ → List ℕ
+digitsUpTo zero n = []
+digitsUpTo (suc k) n =
+    let tens-and-ones = digitsUpTo k (n / 10) ++ digit (n % 10) ∷ [] in
+    cond (ltb n 10) (digit n ∷ []) tens-and-ones
 
+-- the digits of n: there are at most n + 1 of them
 unfoldable pub decimal : ℕ → List ℕ
-decimal n = decimalBefore n []
+decimal n = digitsUpTo (suc n) n
 
--- z in plain decimal, in front of t
-unfoldable pub signedBefore : ℤ → List ℕ → List ℕ
-signedBefore (pos n) t = decimalBefore n t
-signedBefore (negsuc n) t = code "-" ∷ decimalBefore (suc n) t
+unfoldable pub decimalBefore : ℕ → List ℕ → List ℕ
+decimalBefore n t = decimal n ++ t
 
+-- z in plain decimal
 unfoldable pub signed : ℤ → List ℕ
-signed z = signedBefore z []
+signed (pos n) = decimal n
+signed (negsuc n) = code "-" ∷ decimal (suc n)
+
+unfoldable pub signedBefore : ℤ → List ℕ → List ℕ
+signedBefore z t = signed z ++ t
 
 -- two digits of n, in front of t
 abbrev pub twoBefore : ℕ → List ℕ → List ℕ
-twoBefore n t = (code "0" + n / 10) ∷ (code "0" + n % 10) ∷ t
+twoBefore n t = digit (n / 10) ∷ digit (n % 10) ∷ t

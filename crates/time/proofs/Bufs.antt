@@ -1,4 +1,4 @@
--- A time written into a buffer. In order: the two answers, each with the buffer that it leaves; there is room for every time.
+-- A time written into a buffer: the two answers, each with the buffer that it leaves. That there is room for every time: Theorems.
 -- Assumes nothing.
 use mathlib.Core.Path.{_≡_, sym}
 use mathlib.Core.List.{List}

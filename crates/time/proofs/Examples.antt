@@ -1,12 +1,12 @@
--- Document 01's words on the range and on writing, computed: each line stands under the words that it shows.
+-- Document 01's words on the range and on writing, computed: each example is under the words that it shows.
 -- Assumes nothing.
 use mathlib.Core.Path.{_≡_, refl}
 use mathlib.Core.Bool.{true, false}
-use mathlib.Core.List.{[]}
+use mathlib.Core.List.{List, [], _∷_}
 use Prim.Native.Nat.{_^_, _-_}
 use lib.IntN.{pos, negsuc}
 use lib.ListN.{replicate}
-use Rattle.text.specs.Decimal.{decimalBy, decimalBefore, signed, signedBefore}
+use Rattle.text.specs.Decimal.{digitsUpTo, decimal, signed, signedBefore}
 use Rattle.text.specs.Quote.{bytes}
 use Rattle.calendar.specs.Calendar.{leap, lengths, monthLength, yearLength, yearStart, total, firstDay, spanOf, yearOf, monthOf}
 use Rattle.calendar.specs.Dates.{dateOf}
@@ -15,9 +15,11 @@ use Rattle.time.specs.Clock.{clockOf}
 use Rattle.time.specs.Range.{secondsInRange, offsetInRange}
 use Rattle.time.specs.Header.{signByte, headerSign, wholeMinutes, headerBytes, sizeOf, headerWritten}
 use Rattle.time.specs.Iso.{lineBytes, lineOf, lineWritten, shown, isoBytes, isoWritten}
+use Rattle.time.specs.Rows.{Row, writes, AllRight}
 use Rattle.time.specs.declared.Refusal.the-variants.{Offset, Range, Room}
 use Rattle.time.specs.declared.Written.the-variants.{Length, Refused}
 
+-- ---- the range
 -- "Range: seconds -377705023201 to 253402207200; current offset -93599 to 93599"
 range-ends : (secondsInRange (negsuc 377705023200) ≡ true) × (secondsInRange (negsuc 377705023201) ≡ false) × (secondsInRange (pos 253402207200) ≡ true) × (secondsInRange (pos 253402207201) ≡ false)
 unfolding secondsInRange
@@ -27,16 +29,22 @@ offset-ends : (offsetInRange (negsuc 93598) ≡ true) × (offsetInRange (negsuc 
 unfolding offsetInRange
 offset-ends = (refl, refl, refl, refl)
 
--- "seconds in plain decimal, space, `-` for a negative offset and otherwise `+`, two digits of hours, two of minutes"
-header-line : headerBytes (timeAt (pos 1745582210) (pos 7200)) ≡ bytes "1745582210 +0200"
-unfolding headerBytes signedBefore headerSign signByte wholeMinutes decimalBefore decimalBy
-header-line = refl
+-- ---- the header
+abbrev headers : List Row
+headers =
+    -- "seconds in plain decimal, space, `-` for a negative offset and otherwise `+`, two digits of hours, two of minutes"
+    writes (headerBytes (timeAt (pos 1745582210) (pos 7200))) (bytes "1745582210 +0200") ∷
+    -- "359999 writes `+9959`"
+    writes (headerBytes (timeAt (pos 5) (pos 359999))) (bytes "5 +9959") ∷
+    -- Git's published writer tests, t0006
+    writes (headerBytes (timeAt (pos 1466000000) (pos 7200))) (bytes "1466000000 +0200") ∷
+    writes (headerBytes (timeAt (pos 1466000000) (negsuc 7199))) (bytes "1466000000 -0200") ∷ []
 
--- "360000, which writes as 7; 359999 writes `+9959`"
-widest-offset : headerBytes (timeAt (pos 5) (pos 359999)) ≡ bytes "5 +9959"
-unfolding headerBytes signedBefore headerSign signByte wholeMinutes decimalBefore decimalBy
-widest-offset = refl
+headers-right : AllRight headers
+unfolding headerBytes signedBefore signed decimal digitsUpTo headerSign signByte wholeMinutes
+headers-right = (refl, (refl, (refl, (refl, tt))))
 
+-- "360000, which writes as 7"
 too-wide : headerWritten (timeAt (pos 5) (pos 360000)) (replicate 26 0) ≡ Refused Offset
 unfolding headerWritten
 too-wide = refl
@@ -48,32 +56,28 @@ least-offset = refl
 
 -- "the room lent is shorter than the bytes to be written": six bytes for `5 +0000`, which takes seven
 short-by-one : headerWritten (timeAt (pos 5) (pos 0)) (replicate 6 0) ≡ Refused Room
-unfolding headerWritten sizeOf signed signedBefore decimalBefore decimalBy
+unfolding headerWritten sizeOf signed decimal digitsUpTo
 short-by-one = refl
 
 -- "`size` is digits, plus 1 if negative, plus 6"; zero has one digit
 sizes : (sizeOf (pos 0) ≡ 7) × (sizeOf (negsuc 0) ≡ 8) × (sizeOf (pos 1745582210) ≡ 16)
-unfolding sizeOf signed signedBefore decimalBefore decimalBy
+unfolding sizeOf signed decimal digitsUpTo
 sizes = (refl, refl, refl)
 
--- "`YYYY-MM-DDTHH:MM:SS+HH:MM`"
-iso-line : isoBytes (timeAt (pos 1203039045) (negsuc 17999)) ≡ bytes "2008-02-14T20:30:45-05:00"
-unfolding isoBytes shown lineBytes clockOf signByte wholeMinutes dateOf monthOf yearOf spanOf monthLength yearLength firstDay yearStart total lengths leap
-iso-line = refl
+-- ---- the ISO line
+abbrev lines : List Row
+lines =
+    -- "`YYYY-MM-DDTHH:MM:SS+HH:MM`"
+    writes (isoBytes (timeAt (pos 1203039045) (negsuc 17999))) (bytes "2008-02-14T20:30:45-05:00") ∷
+    -- "The fields show the clock at the full offset, the offset is printed cut to minutes, with `-` if it is negative"
+    writes (isoBytes (timeAt (pos 0) (negsuc 89))) (bytes "1969-12-31T23:58:30-00:01") ∷
+    -- Git's published writer tests, t0006, but for offset 0, where Git prints `Z`
+    writes (isoBytes (timeAt (pos 1466000000) (pos 7200))) (bytes "2016-06-15T16:13:20+02:00") ∷
+    writes (isoBytes (timeAt (pos 1466000000) (negsuc 7199))) (bytes "2016-06-15T12:13:20-02:00") ∷ []
 
--- Git's published writer tests, t0006, but for offset 0, where Git prints `Z`
-git-writers : (isoBytes (timeAt (pos 1466000000) (pos 7200)) ≡ bytes "2016-06-15T16:13:20+02:00") × (isoBytes (timeAt (pos 1466000000) (negsuc 7199)) ≡ bytes "2016-06-15T12:13:20-02:00")
+lines-right : AllRight lines
 unfolding isoBytes shown lineBytes clockOf signByte wholeMinutes dateOf monthOf yearOf spanOf monthLength yearLength firstDay yearStart total lengths leap
-git-writers = (refl, refl)
-
-git-header-writers : (headerBytes (timeAt (pos 1466000000) (pos 7200)) ≡ bytes "1466000000 +0200") × (headerBytes (timeAt (pos 1466000000) (negsuc 7199)) ≡ bytes "1466000000 -0200")
-unfolding headerBytes signedBefore headerSign signByte wholeMinutes decimalBefore decimalBy
-git-header-writers = (refl, refl)
-
--- "The fields show the clock at the full offset, the offset is printed cut to minutes, with `-` if it is negative"
-iso-of-odd-offset : isoBytes (timeAt (pos 0) (negsuc 89)) ≡ bytes "1969-12-31T23:58:30-00:01"
-unfolding isoBytes shown lineBytes clockOf signByte wholeMinutes dateOf monthOf yearOf spanOf monthLength yearLength firstDay yearStart total lengths leap
-iso-of-odd-offset = refl
+lines-right = (refl, (refl, (refl, (refl, tt))))
 
 -- "writers 7, 6, 8": the largest seconds at an offset of a day, with no room
 seven-first : isoWritten (timeAt (pos (2 ^ 63 - 1)) (pos 86400)) [] ≡ Refused Offset

@@ -1,5 +1,5 @@
--- The header as it is written, from its end to its front. In order: what the sign decides; how large `sizeOf` is; the offset put in
--- front of a place; a header in front of what stands beyond it; the writer's three answers.
+-- The header as it is written, from its end to its front. In order: what the sign decides; the offset put in front of a
+-- place; `sizeOf` is the bytes written; the writer's three answers, each with the room that it leaves.
 -- Assumes nothing.
 use mathlib.Core.Path.{_≡_, refl, sym, ap, _∙_}
 use mathlib.Core.List.{List, _∷_, _++_}

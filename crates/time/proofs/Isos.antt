@@ -74,7 +74,7 @@ HasLine-of-At t i e =
     same p = cc
 
 -- ---- the answers of the line's writer: r, with the room that it leaves; first those of a clock's line, at an offset
-abbrev pub WroteClock : Written → List ℕ → Clock → ℤ → List ℕ → Type 0
+abbrev WroteClock : Written → List ℕ → Clock → ℤ → List ℕ → Type 0
 WroteClock r after c o room = (r ≡ writtenAt c room) × (after ≡ roomAfter (isWritten (writtenAt c room)) (clockLine c o) room)
 
 module _ (c : Clock) (o : ℤ) (room : List ℕ) where
@@ -102,7 +102,7 @@ module _ (c : Clock) (o : ℤ) (room : List ℕ) where
         (rw (y, z, s), rw (y, z, s) three)
 
 -- and of a time's
-abbrev pub WroteLine : Written → List ℕ → Time → List ℕ → Type 0
+abbrev WroteLine : Written → List ℕ → Time → List ℕ → Type 0
 WroteLine r after t room = (r ≡ lineWritten t room) × (after ≡ roomAfter (isWritten (lineWritten t room)) (lineBytes t) room)
 
 pub wroteLine-not : (t : Time) (r : Refusal) (room : List ℕ) → lineOf t ≡ NoLine r → WroteLine (Refused r) room t room

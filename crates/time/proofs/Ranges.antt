@@ -54,7 +54,7 @@ since1970-sub t n h =
 
 -- ---- an instant as an answer
 module _ (i : Instant) where
-  pub timeInRange-timeOf : timeInRange (timeOf i) ≡ ((leb 31715999 (i .seconds) && leb (i .seconds) 631138946400) && (leb 1 (i .offset) && leb (i .offset) 187199))
+  timeInRange-timeOf : timeInRange (timeOf i) ≡ ((leb 31715999 (i .seconds) && leb (i .seconds) 631138946400) && (leb 1 (i .offset) && leb (i .offset) 187199))
   unfolding timeInRange
   timeInRange-timeOf = rw (secondsInRange-since1970 (i .seconds), offsetInRange-sub (i .offset))
 

@@ -21,7 +21,7 @@ use Rattle.text.proofs.Signed.{length-signed-le}
 use Rattle.text.proofs.Lists.{by-test}
 use Rattle.text.proofs.Digits.{tens, ones}
 use Rattle.text.specs.Bytes.{isDigit, isSign}
-use Rattle.text.specs.Decimal.{decimalBy, decimalBefore, signed, signedBefore}
+use Rattle.text.specs.Decimal.{digitsUpTo, decimal, signed}
 use Rattle.text.specs.Quote.{bytes}
 use Rattle.time.specs.Clock.{clockOf, localOf}
 use Rattle.time.specs.Header.{sizeOf, headerBytes, headerWritten, signByte, wholeMinutes}
@@ -39,7 +39,7 @@ use Rattle.time.proofs.Isos.{WasWritten, wasWritten}
 -- wherever a header is written, its length is `size` and that of the bytes
 pub size-is-the-bytes-written : (t : Time) (room : List ℕ) (n : ℕ) → headerWritten t room ≡ Length n → (n ≡ sizeOf (t .seconds)) × (n ≡ length (headerBytes t))
 unfolding headerWritten
-size-is-the-bytes-written t room n e = (told, told ∙ sym (length-headerBytes t))
+size-is-the-bytes-written t room n e = (size, size ∙ sym (length-headerBytes t))
   where
     same : Length (sizeOf (t .seconds)) ≡ Length n → n ≡ sizeOf (t .seconds)
     same p = cc
@@ -47,8 +47,8 @@ size-is-the-bytes-written t room n e = (told, told ∙ sym (length-headerBytes t
     clash : (r : Refusal) → Refused r ≡ Length n → n ≡ sizeOf (t .seconds)
     clash r p = let z : _≡_ {A = ℕ} 0 1 = cc in absurd (omega arith)
 
-    told : n ≡ sizeOf (t .seconds)
-    told =
+    size : n ≡ sizeOf (t .seconds)
+    size =
         by-test (leb 360000 (natAbs (t .offset))) (λ y. clash Offset (rw y at e))
         (λ m. by-test (ltb (length room) (sizeOf (t .seconds))) (λ y. clash Room (rw (m, y) at e)) (λ k. same (rw (m, k) at e)))
 
@@ -59,7 +59,7 @@ size-at-most-26 z f = omega (arith, length-signed-le z (natAbs-le-of-SFits z f))
 
 -- and the least of them takes 26
 pub size-of-the-least : sizeOf (negsuc (2 ^ 63 - 1)) ≡ 26
-unfolding sizeOf signed signedBefore decimalBefore decimalBy
+unfolding sizeOf signed decimal digitsUpTo
 size-of-the-least = refl
 
 -- so 26 bytes are room enough: what is refused there is an offset too wide

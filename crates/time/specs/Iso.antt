@@ -12,7 +12,7 @@ use lib.ListN.{length}
 use Rattle.text.specs.Decimal.{twoBefore}
 use Rattle.time.specs.Clock.{clockOf}
 use Rattle.time.specs.Header.{signByte, wholeMinutes}
-use Rattle.time.specs.Range.{secondsInRange, instantOf, InRange}
+use Rattle.time.specs.Range.{secondsInRange, instantOf}
 use Rattle.time.specs.declared.Time.{Time}
 use Rattle.time.specs.declared.Refusal.the-variants.{Offset, Range, Room}
 use Rattle.time.specs.declared.Written.{Written}
@@ -84,8 +84,3 @@ isoBytes t = lineBytes (shown t)
 
 unfoldable pub isoWritten : Time → List ℕ → Written
 isoWritten t room = lineWritten (shown t) room
-
--- ---- of a private contract only
-abbrev pub LineInRange : Line → Type 0
-LineInRange (At i) = InRange i
-LineInRange (NoLine r) = Unit {0}

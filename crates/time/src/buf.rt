@@ -1,4 +1,4 @@
-// A buffer that holds the header of any time that has one, by value: gix-date lends a struct here, and we lend bytes.
+// A buffer that holds the header of any time that has one. It is passed and returned by value, where gix-date borrows a struct.
 ghost use mathlib.Core.Path.{_≡_};
 ghost use Rattle.time.specs.Buf.{storedOf};
 use crate::Time;

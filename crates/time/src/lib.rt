@@ -1,5 +1,5 @@
 // A time, what readers and writers answer, and the two writers. A time is seconds since 1970 and an offset in seconds, each of any
-// value that its width holds; only the calendar asks for less.
+// value that its width holds. Only calendar arithmetic needs the smaller range (`range`).
 pub mod buf;
 pub mod clock;
 mod format;
@@ -84,7 +84,7 @@ impl Time {
         self.write_iso_with(&[], room)
     }
 
-    // The same with the table of months lent, or a part that opens it, for callers that write many lines.
+    // The same with a borrowed table of months, the whole table or any leading part of it, for callers that write many lines.
     pub fn write_iso_with(self, months: &[u32], room: &mut [u8]) -> Written
         requires { ⌜ IsMonths (now months) ⌝ }
         ensures { λ r. ⌜ r ≡ isoWritten self (now (room .entry)) ⌝ }

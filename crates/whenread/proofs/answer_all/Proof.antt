@@ -15,9 +15,6 @@ Inv-loop months buffer₀ out₀ held₀ turns₀ buffer out held turns = (held 
 abbrev μ-loop : tie.MeasureT-loop
 μ-loop months buffer₀ out₀ held₀ turns₀ buffer out held turns = turns
 
-loop-holds : tie.Need-loop-holds Inv-loop μ-loop
-loop-holds c = (omega arith, refl, refl)
-
 read-and-answer-requires : tie.Need-read-and-answer-requires Inv-loop μ-loop
 read-and-answer-requires c κs = let at-loop = c .before .before .before in
     let start = at-loop .before .before .before .before in
@@ -29,21 +26,9 @@ same-length c = let e = c .before .before .before .before .before .before .befor
 same-length-2 : tie.Need-same-length-2 Inv-loop μ-loop
 same-length-2 c = let e = c .before .before .before .before .before .before .before .before .before .loop .inv .2 in search needs
 
-returns : tie.Need-returns Inv-loop μ-loop
-returns c = tt
-
 loop-again : tie.Need-loop-again Inv-loop μ-loop
 loop-again c = let inv = c .before .before .before .before .before .before .before .before .before .loop .inv in
     (c .before .before .before .before .before .read-and-answer .ensures, search needs, search needs)
-
-same-length-3 : tie.Need-same-length-3 Inv-loop μ-loop
-same-length-3 c = c .before .loop .inv .1
-
-same-length-4 : tie.Need-same-length-4 Inv-loop μ-loop
-same-length-4 c = c .before .loop .inv .2
-
-returns-2 : tie.Need-returns-2 Inv-loop μ-loop
-returns-2 c = tt
 
 pub answer-all-spec : {M : Type 1} → statement M
 answer-all-spec =
@@ -51,14 +36,14 @@ answer-all-spec =
     (tie.spec
     Inv-loop
     μ-loop
-    loop-holds
+    (λ c. (omega arith, refl, refl))
     read-and-answer-requires
     same-length
     same-length-2
-    returns
+    (λ c. tt)
     (λ c. search needs)
     (λ c. search needs)
     loop-again
-    same-length-3
-    same-length-4
-    returns-2)
+    (λ c. c .before .loop .inv .1)
+    (λ c. c .before .loop .inv .2)
+    (λ c. tt))

@@ -23,57 +23,21 @@ within c =
     let end = at-loop .before .before .before .before .args .end in
     omega (arith, c .answer-lines-with .ensures .1 .1 .0, at-loop .loop .inv .0, length-take (end - at-loop .loop .from) (drop (at-loop .loop .from) (at-loop .loop .buffer)))
 
-loop-holds : tie.Need-loop-holds Inv-loop μ-loop
-loop-holds c = (omega arith, refl, refl)
-
-sub-answer-lines-with : tie.Need-sub-answer-lines-with Inv-loop μ-loop
-sub-answer-lines-with c = omega arith
-
-answer-lines-with-requires : tie.Need-answer-lines-with-requires Inv-loop μ-loop
-answer-lines-with-requires c κs = c .before .before .before .before .before .before .before .before .pre .0
-
-keep-requires : tie.Need-keep-requires Inv-loop μ-loop
-keep-requires c κs = tt
-
 same-length : tie.Need-same-length Inv-loop μ-loop
 same-length c = let e = c .before .before .before .before .before .before .before .before .before .before .before .before .loop .inv .1 in search needs
 
 same-length-2 : tie.Need-same-length-2 Inv-loop μ-loop
 same-length-2 c = let e = c .before .before .before .before .before .before .before .before .before .before .before .before .loop .inv .2 in search needs
 
-returns : tie.Need-returns Inv-loop μ-loop
-returns c = c .before .before .keep .ensures .1 .1 .0
-
-write-answers-requires : tie.Need-write-answers-requires Inv-loop μ-loop
-write-answers-requires c κs = tt
-
 add-from : tie.Need-add-from Inv-loop μ-loop
 add-from c = record { fits = omega (arith, within (c .before .before .before .before .before .before), c .before .before .before .before .before .before .before .before .before .before .before .before .before .before .before .fits .end) }
-
-loop-less : tie.Need-loop-less Inv-loop μ-loop
-loop-less c = omega (arith, within (c .before .before .before .before .before .before), c .before .before .before .if1 .left)
 
 loop-again : tie.Need-loop-again Inv-loop μ-loop
 loop-again c = let inv = c .before .before .before .before .before .before .before .before .before .before .before .loop .inv in
     (within (c .before .before .before .before .before .before), inv .1, search needs)
 
-same-length-3 : tie.Need-same-length-3 Inv-loop μ-loop
-same-length-3 c = c .before .before .before .before .before .before .before .before .before .before .before .loop .inv .1
-
 same-length-4 : tie.Need-same-length-4 Inv-loop μ-loop
 same-length-4 c = let e = c .before .before .before .before .before .before .before .before .before .before .before .loop .inv .2 in search needs
-
-returns-2 : tie.Need-returns-2 Inv-loop μ-loop
-returns-2 c = omega arith
-
-same-length-5 : tie.Need-same-length-5 Inv-loop μ-loop
-same-length-5 c = c .before .loop .inv .1
-
-same-length-6 : tie.Need-same-length-6 Inv-loop μ-loop
-same-length-6 c = c .before .loop .inv .2
-
-returns-3 : tie.Need-returns-3 Inv-loop μ-loop
-returns-3 c = omega arith
 
 pub answer-held-spec : {M : Type 1} → statement M
 answer-held-spec =
@@ -81,22 +45,22 @@ answer-held-spec =
     (tie.spec
     Inv-loop
     μ-loop
-    loop-holds
-    sub-answer-lines-with
+    (λ c. (omega arith, refl, refl))
+    (λ c. omega arith)
     (λ c. search needs)
     (λ c. search needs)
-    answer-lines-with-requires
-    keep-requires
+    (λ c κs. c .before .before .before .before .before .before .before .before .pre .0)
+    (λ c κs. tt)
     same-length
     same-length-2
-    returns
-    write-answers-requires
+    (λ c. c .before .before .keep .ensures .1 .1 .0)
+    (λ c κs. tt)
     add-from
-    loop-less
+    (λ c. omega (arith, within (c .before .before .before .before .before .before), c .before .before .before .if1 .left))
     loop-again
-    same-length-3
+    (λ c. c .before .before .before .before .before .before .before .before .before .before .before .loop .inv .1)
     same-length-4
-    returns-2
-    same-length-5
-    same-length-6
-    returns-3)
+    (λ c. omega arith)
+    (λ c. c .before .loop .inv .1)
+    (λ c. c .before .loop .inv .2)
+    (λ c. omega arith))

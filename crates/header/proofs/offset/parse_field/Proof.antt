@@ -13,7 +13,7 @@ use Rattle.text.specs.Number.{plus}
 use Rattle.text.specs.Bytes.{isDigit}
 use Rattle.text.specs.declared.number.Integer.the-variants.{Is}
 use Rattle.text.proofs.Lists.{both}
-use Rattle.text.proofs.Numbers.{digit-range, AtMost-of-fit, fitSigned-take}
+use Rattle.text.proofs.Numbers.{AtMost-of-fit, fitSigned-take}
 use Rattle.header.specs.Offset.{fieldOf}
 use Rattle.header.proofs.Offsets.{fieldOf-of-digits}
 use borrow.Author.Needs.{needs}
@@ -25,11 +25,7 @@ digits : (c : tie.Then1) → let a = c .before .before .before .before .before .
 digits c = both _ _ (sym (c .before .both-digits .ensures) ∙ c .if1 .taken)
 
 two-digits-requires : tie.Need-two-digits-requires
-two-digits-requires c κs =
-    let d = digits c in
-    let x = digit-range _ (d .0) in
-    let y = digit-range _ (d .1) in
-    (x .0, x .1, y .0, y .1)
+two-digits-requires c κs = digits c
 
 returns : tie.Need-returns
 returns c =

@@ -7,7 +7,6 @@ use native.Mathlib.Omega.{arith}
 use lib.ListN.{length}
 use mir.Syntax.{w64}
 use Rattle.ints.proofs.Machine.{back}
-use Rattle.text.proofs.Numbers.{digit-range}
 use Rattle.header.proofs.Usual.{tests, Usual, Usual-of-tests, usualOf-of-tests, usualOf-of-no-test, usualOf-of-length, fieldsOf-of-usual}
 use borrow.Author.Needs.{needs}
 use Rattle.header.proofs.offset.usual_fields.Statement.{statement}
@@ -25,18 +24,10 @@ usual : (c : tie.Then2) → let a = c .before .before .before .before .before .b
 usual c = Usual-of-tests _ _ (length-is (c .before .before .before .before .before .before .before .before .before .before)) (told c)
 
 two-digits-requires : tie.Need-two-digits-requires
-two-digits-requires c κs =
-    let d = usual c .hours in
-    let x = digit-range _ (d .0) in
-    let y = digit-range _ (d .1) in
-    (x .0, x .1, y .0, y .1)
+two-digits-requires c κs = usual c .hours
 
 two-digits-requires-2 : tie.Need-two-digits-requires-2
-two-digits-requires-2 c κs =
-    let d = usual (c .before) .minutes in
-    let x = digit-range _ (d .0) in
-    let y = digit-range _ (d .1) in
-    (x .0, x .1, y .0, y .1)
+two-digits-requires-2 c κs = usual (c .before) .minutes
 
 returns : tie.Need-returns
 returns c =

@@ -1,12 +1,13 @@
--- `lines::cut::answer_at` meets its contract: the part from `at` on is lent, and comes back behind what stands before it.
+-- `lines::cut::answer_at` meets its contract: the part from `at` on is borrowed, and what comes before it stays.
 -- Assumes nothing.
 use mathlib.Core.Path.{_∙_, ap}
 use native.Mathlib.Omega.{arith}
 use lib.ListN.{length}
 use Rattle.text.proofs.Lists.{take-length-sub-drop}
-use Rattle.lines.specs.Rows.{writtenIn, roomWith}
+use Rattle.text.proofs.Putting.{put-behind}
+use Rattle.text.specs.Room.{fits, roomAfter}
+use Rattle.lines.specs.Rows.{writtenIn}
 use Rattle.lines.specs.Answers.{answerLine}
-use Rattle.lines.proofs.Buffers.{put-behind}
 use borrow.Author.Needs.{needs}
 use Rattle.lines.proofs.cut.answer_at.Statement.{statement}
 use Rattle.lines.proofs.cut.answer_at.Tie as tie
@@ -19,7 +20,7 @@ returns c = let at-answer = c .before .before in
     let a = answerLine (start .args .line .now) in (
       at-answer .answer-with .ensures .0 ∙ ap (writtenIn a) (take-length-sub-drop l at),
       (
-        put-behind l _ at (roomWith a) (start .pre .1) (at-answer .answer-with .ensures .1 .0),
+        put-behind l _ at (λ v. roomAfter (fits a v) a v) (start .pre .1) (at-answer .answer-with .ensures .1 .0),
         λ h. at-answer .answer-with .ensures .1 .1 .1 (omega (arith, h, ap length (take-length-sub-drop l at))),
       ),
     )

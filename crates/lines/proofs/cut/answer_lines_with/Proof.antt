@@ -1,7 +1,7 @@
 -- `lines::cut::answer_lines_with` meets its contract. The invariant: what is written, and the answers of what is left that fit, are the
 -- answers of the whole that fit. The measure is what is left.
 -- Assumes nothing.
-use Prim.Native.Nat.{_+_, _-_, _≤_, _<_}
+use Prim.Native.Nat.{_-_, _<_}
 use native.Mathlib.Omega.{arith}
 use borrow.Author.Needs.{needs}
 use lib.ListN.{length}
@@ -15,39 +15,12 @@ Inv-loop months s out₀ taken₀ written₀ out taken written = Going s out₀ 
 abbrev μ-loop : tie.MeasureT-loop
 μ-loop months s out₀ taken₀ written₀ out taken written = length s - taken
 
--- one line more is still within the buffer, and its answer within the room
-bounds : (c : tie.Else2 Inv-loop μ-loop) → let at-e = c .before .before .before .before .before .before .before in
-    let at-loop = at-e .before .before in
-    let start = at-loop .before .before .before .before in
-    (at-loop .loop .taken + (at-e .first-place .result + 1) ≤ length (start .args .s .now)) × (at-loop .loop .written + c .before .before .before .answer-at .result ≤ length (start .args .out .now))
-bounds c =
-    let at-answer = c .before .before .before in
-    let at-line = at-answer .before .before in
-    let at-e = at-line .before .before in
-    let at-rest = at-e .before in
-    let some : 0 < at-answer .answer-at .result = omega (arith, c .if2 .left) in
-    let g = going-again (at-rest .before .loop .inv) _ _ _ _ _ (at-rest .from .ensures) (at-e .first-place .ensures .0) (at-line .before .if1 .left) (at-line .up-to .ensures)
-    (at-answer .answer-at .ensures .0) some (at-answer .answer-at .ensures .1 .0) in
-    (g .inside, g .within)
-
 loop-holds : tie.Need-loop-holds Inv-loop μ-loop
 loop-holds c = going-start (c .before .before .before .args .s .now) (c .before .before .before .args .out .now)
-
-from-requires : tie.Need-from-requires Inv-loop μ-loop
-from-requires c κs = c .loop .inv .inside
-
-first-place-requires : tie.Need-first-place-requires Inv-loop μ-loop
-first-place-requires c κs = tt
-
-same-length : tie.Need-same-length Inv-loop μ-loop
-same-length c = c .before .before .before .loop .inv .size
 
 returns : tie.Need-returns Inv-loop μ-loop
 returns c = let at-rest = c .before .before in
     stop-no-line (at-rest .before .loop .inv) _ _ (at-rest .from .ensures) (c .before .first-place .ensures .0) (c .if1 .taken)
-
-up-to-requires : tie.Need-up-to-requires Inv-loop μ-loop
-up-to-requires c κs = c .before .first-place .ensures .1
 
 answer-at-requires : tie.Need-answer-at-requires Inv-loop μ-loop
 answer-at-requires c κs = let at-loop = c .before .before .before .before .before in
@@ -64,18 +37,7 @@ returns-2 c = let at-answer = c .before .before .before in
     stop-full (at-rest .before .loop .inv) _ _ _ _ _ (at-rest .from .ensures) (at-e .first-place .ensures .0) (at-line .before .if1 .left) (at-line .up-to .ensures)
     (at-answer .answer-at .ensures .0) (c .if2 .taken) (at-answer .answer-at .ensures .1 .1) (at-answer .answer-at .ensures .1 .0)
 
-add-taken : tie.Need-add-taken Inv-loop μ-loop
-add-taken c = record { fits = omega (arith, bounds c .0) }
-
-add-taken-2 : tie.Need-add-taken-2 Inv-loop μ-loop
-add-taken-2 c = record { fits = omega (arith, bounds c .0) }
-
-add-written : tie.Need-add-written Inv-loop μ-loop
-add-written c = record { fits = omega (arith, bounds c .1) }
-
-loop-less : tie.Need-loop-less Inv-loop μ-loop
-loop-less c = omega (arith, bounds c .0)
-
+-- one line more is still within the buffer, and its answer within the room
 loop-again : tie.Need-loop-again Inv-loop μ-loop
 loop-again c = let at-answer = c .before .before .before in
     let at-line = at-answer .before .before in
@@ -92,16 +54,16 @@ answer-lines-with-spec =
     Inv-loop
     μ-loop
     loop-holds
-    from-requires
-    first-place-requires
-    same-length
+    (λ c κs. search needs)
+    (λ c κs. search needs)
+    (λ c. c .before .before .before .loop .inv .size)
     returns
-    up-to-requires
+    (λ c κs. search needs)
     answer-at-requires
     same-length-2
     returns-2
-    add-taken
-    add-taken-2
-    add-written
-    loop-less
+    (λ c. record { fits = omega (arith, loop-again c .inside) })
+    (λ c. record { fits = omega (arith, loop-again c .inside) })
+    (λ c. record { fits = omega (arith, loop-again c .within) })
+    (λ c. omega (arith, loop-again c .inside))
     loop-again)

@@ -1,5 +1,6 @@
 -- `lines::layout::current_at` meets its contract: an offset that 32 bits hold stays what it is.
 -- Assumes nothing.
+use mathlib.Core.Path.{_∙_}
 use lib.IntN.{pos, negsuc}
 use mir.Syntax.{w32, w64}
 use Rattle.ints.specs.Range.{In}
@@ -14,13 +15,14 @@ use Rattle.lines.proofs.layout.current_at.Tie as tie
 offset-in : (c : tie.After-known-told2) → In (negsuc 2147483647) (pos 2147483647) (c .before .offset .given .0 .0)
 offset-in c = rw (c .before .offset .given .1) at (c .before .before .before .before .before .before .pre)
 
-cast-t7 : tie.Need-cast-t7
-cast-t7 c = fits w32 tt (known w64 tt (offset-in c))
+cast-new : tie.Need-cast-new
+cast-new c = fits w32 tt (known w64 tt (offset-in c))
 
 returns : tie.Need-returns
-returns c = let at-z = c .before .before .before in
-    rw (at-z .before .seconds .given .1, c .before .offset .given .1)
-    (λ i. Is (At (timeAt (back w64 (at-z .before .seconds .given .0 .0) (at-z .known-told .given .0 .1) i) (read w32 tt (known w64 tt (offset-in c)) .is i))))
+returns c = let at-o = c .before in
+    let at-z = at-o .before .before .before in
+    rw (at-z .before .seconds .given .1, at-o .before .offset .given .1)
+    (λ i. Is (At ((c .new .ensures ∙ λ j. timeAt (back w64 (at-z .before .seconds .given .0 .0) (at-z .known-told .given .0 .1) j) (read w32 tt (known w64 tt (offset-in at-o)) .is j)) i)))
 
 pub current-at-spec : {M : Type 1} → statement M
 current-at-spec =
@@ -28,7 +30,8 @@ current-at-spec =
     (tie.spec
     (λ c. search needs)
     (λ c. search needs)
-    cast-t7
+    cast-new
+    (λ c κs. search needs)
     (λ c. search needs)
     (λ c. search needs)
     returns

@@ -1,6 +1,7 @@
 -- `lines::layout::current_of` meets its contract.
 -- Assumes nothing.
-use mathlib.Core.Path.{_∙_}
+use mathlib.Core.Bool.{_&&_}
+use mathlib.Core.Path.{sym, _∙_}
 use Rattle.text.specs.Number.{signedOf}
 use Rattle.lines.specs.Layout.{currentAt, currentOf}
 use Rattle.lines.proofs.Layouts.{Fits32-of-fitSigned}
@@ -10,7 +11,7 @@ use Rattle.lines.proofs.layout.current_of.Tie as tie
 
 returns : tie.Need-returns
 unfolding currentOf
-returns c = let two = c .before in rw (← two .before .before .same .ensures, ← two .same2 .ensures, c .if1 .taken)
+returns c = let two = c .before in rw (sym (λ i. two .before .before .same .ensures i && two .same2 .ensures i) ∙ c .if1 .taken)
 
 current-at-requires : tie.Need-current-at-requires
 current-at-requires c κs = Fits32-of-fitSigned (signedOf (c .before .before .before .before .before .before .before .before .before .args .offset .now)) _ (c .signed-number2 .ensures)
@@ -20,7 +21,7 @@ unfolding currentOf
 returns-2 c = let at-offset = c .before in
     let at-if = at-offset .before .before in
     let two = at-if .before in
-    rw (← two .before .before .same .ensures, ← two .same2 .ensures, at-if .if1 .left)
+    rw (sym (λ i. two .before .before .same .ensures i && two .same2 .ensures i) ∙ at-if .if1 .left)
     (c .current-at .ensures ∙ (λ i. currentAt (at-offset .before .signed-number .ensures i) (at-offset .signed-number2 .ensures i)))
 
 pub current-of-spec : {M : Type 1} → statement M

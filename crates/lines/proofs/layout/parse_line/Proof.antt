@@ -4,7 +4,7 @@ use mathlib.Core.Path.{ap}
 use native.Mathlib.Omega.{arith}
 use lib.ListN.{length, length-drop}
 use Prim.Native.Nat.{_+_, _≤_}
-use Rattle.lines.proofs.Layouts.{lineOf-of-length, lineOf-no-tab, line-one-tab, line-two-tabs, line-three-tabs}
+use Rattle.lines.proofs.Layouts.{lineOf-of-length, lineOf-no-tab, lineOf-one-tab, lineOf-two-tabs, lineOf-three-tabs}
 use borrow.Author.Needs.{needs}
 use Rattle.lines.proofs.layout.parse_line.Statement.{statement}
 use Rattle.lines.proofs.layout.parse_line.Tie as tie
@@ -20,7 +20,7 @@ returns-3 c = let at-b = c .before in
     let at-rest = at-b .before in
     let at-a = at-rest .before .before in
     let start = at-a .before .before .before in
-    line-one-tab (start .args .line .now) _ _ _ (at-a .first-place .ensures .0) (at-rest .from .ensures) (at-b .first-place2 .ensures .0) (c .if3 .taken)
+    lineOf-one-tab (start .args .line .now) _ _ _ (at-a .first-place .ensures .0) (at-rest .from .ensures) (at-b .first-place2 .ensures .0) (c .if3 .taken)
 
 returns-4 : tie.Need-returns-4
 returns-4 c = let at-c = c .before in
@@ -29,7 +29,7 @@ returns-4 c = let at-c = c .before in
     let at-rest = at-b .before in
     let at-a = at-rest .before .before in
     let start = at-a .before .before .before in
-    line-two-tabs (start .args .line .now) _ _ _ (at-a .first-place .ensures .0) (at-rest .from .ensures) (at-b .first-place2 .ensures .0) _ _ (at-last .from2 .ensures) (at-c .first-place3 .ensures .0) (c .if4 .taken)
+    lineOf-two-tabs (start .args .line .now) _ _ _ (at-a .first-place .ensures .0) (at-rest .from .ensures) (at-b .first-place2 .ensures .0) _ _ (at-last .from2 .ensures) (at-c .first-place3 .ensures .0) (c .if4 .taken)
 
 add-asks-5 : tie.Need-add-asks-5
 add-asks-5 c = let at-c = c .before .before .before .before .before .before in
@@ -56,7 +56,7 @@ returns-5 c = let at-k = c .before in
     let at-if2 = at-rest .before in
     let at-a = at-if2 .before in
     let start = at-a .before .before .before in
-    line-three-tabs (start .args .line .now) _ _ _ (at-a .first-place .ensures .0) (at-rest .from .ensures) (at-b .first-place2 .ensures .0) _ _ (at-last .from2 .ensures) (at-c .first-place3 .ensures .0)
+    lineOf-three-tabs (start .args .line .now) _ _ _ (at-a .first-place .ensures .0) (at-rest .from .ensures) (at-b .first-place2 .ensures .0) _ _ (at-last .from2 .ensures) (at-c .first-place3 .ensures .0)
     _ _ _ _ _ _ (at-a .before .if1 .left) (at-if2 .if2 .left) (at-if3 .if3 .left) (at-if4 .if4 .left)
     (at-f .up-to .ensures) (at-g .up-to2 .ensures) (at-h .up-to3 .ensures) (at-n .form-of .ensures) (at-k .current-of .ensures) (c .asks .ensures)
 

@@ -6,18 +6,6 @@ use borrow.Author.Needs.{needs}
 use Rattle.time.proofs.buf.to_str.Statement.{statement}
 use Rattle.time.proofs.buf.to_str.Tie as tie
 
-slice-aggregate-write-to : tie.Need-slice-aggregate-write-to
-slice-aggregate-write-to c = search needs
-
-write-to-requires : tie.Need-write-to-requires
-write-to-requires c κs = search needs
-
-enum-known-answer : tie.Need-enum-known-answer
-enum-known-answer c = search needs
-
-enum-known-answer-2 : tie.Need-enum-known-answer-2
-enum-known-answer-2 c = search needs
-
 returns : tie.Need-returns
 returns c = let at-write = c .before .before .before .before in
     let start = at-write .before .before .before in
@@ -32,9 +20,9 @@ pub to-str-spec : {M : Type 1} → statement M
 to-str-spec =
     tie.close
     (tie.spec
-    slice-aggregate-write-to
-    write-to-requires
-    enum-known-answer
-    enum-known-answer-2
+    (λ c. search needs)
+    (λ c κs. search needs)
+    (λ c. search needs)
+    (λ c. search needs)
     returns
     returns-2)

@@ -6,11 +6,8 @@ use borrow.Author.Needs.{needs}
 use Rattle.time.proofs.buf.widest.Statement.{statement}
 use Rattle.time.proofs.buf.widest.Tie as tie
 
-size-requires : tie.Need-size-requires
-size-requires c κs = search needs
-
 returns : tie.Need-returns
 returns c = c .size .ensures .0 ∙ size-of-the-least
 
 pub widest-spec : {M : Type 1} → statement M
-widest-spec = tie.close (tie.spec size-requires returns)
+widest-spec = tie.close (tie.spec (λ c κs. search needs) returns)

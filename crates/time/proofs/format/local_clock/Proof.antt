@@ -6,15 +6,6 @@ use borrow.Author.Needs.{needs}
 use Rattle.time.proofs.format.local_clock.Statement.{statement}
 use Rattle.time.proofs.format.local_clock.Tie as tie
 
-add-local : tie.Need-add-local
-add-local c = search needs
-
-sub-local : tie.Need-sub-local
-sub-local c = search needs
-
-date-of-requires : tie.Need-date-of-requires
-date-of-requires c κs = search needs
-
 returns : tie.Need-returns
 unfolding clockOf
 returns c = let i = c .before .before .before .args .i in
@@ -22,4 +13,4 @@ returns c = let i = c .before .before .before .args .i in
     ((λ j. record { date = e .0 j; second = localOf i % 86400 }), (e .1 .0, (e .1 .1, search needs)))
 
 pub local-clock-spec : {M : Type 1} → statement M
-local-clock-spec = tie.close (tie.spec add-local sub-local date-of-requires returns)
+local-clock-spec = tie.close (tie.spec (λ c. search needs) (λ c. search needs) (λ c κs. search needs) returns)

@@ -9,18 +9,6 @@ use borrow.Author.Needs.{needs}
 use Rattle.time.proofs.format.put_clock.Statement.{statement}
 use Rattle.time.proofs.format.put_clock.Tie as tie
 
-put-field-requires : tie.Need-put-field-requires
-put-field-requires c κs = search needs
-
-put-field-requires-2 : tie.Need-put-field-requires-2
-put-field-requires-2 c κs = search needs
-
-put-field-requires-3 : tie.Need-put-field-requires-3
-put-field-requires-3 c κs = search needs
-
-same-length : tie.Need-same-length
-same-length c = search needs
-
 returns : tie.Need-returns
 returns c = let at-hours = c .before .before in
     let at-minutes = at-hours .before .before .before .before in
@@ -34,4 +22,4 @@ returns c = let at-hours = c .before .before in
 pub put-clock-spec : {M : Type 1} → statement M
 put-clock-spec =
     tie.close
-    (tie.spec put-field-requires put-field-requires-2 put-field-requires-3 same-length returns)
+    (tie.spec (λ c κs. search needs) (λ c κs. search needs) (λ c κs. search needs) (λ c. search needs) returns)

@@ -10,30 +10,6 @@ use borrow.Author.Needs.{needs}
 use Rattle.time.proofs.format.put_date.Statement.{statement}
 use Rattle.time.proofs.format.put_date.Tie as tie
 
-sub-year : tie.Need-sub-year
-sub-year c = search needs
-
-add-put-field : tie.Need-add-put-field
-add-put-field c = search needs
-
-put-field-requires : tie.Need-put-field-requires
-put-field-requires c κs = search needs
-
-add-put-field-2 : tie.Need-add-put-field-2
-add-put-field-2 c = search needs
-
-put-field-requires-2 : tie.Need-put-field-requires-2
-put-field-requires-2 c κs = search needs
-
-put-two-requires : tie.Need-put-two-requires
-put-two-requires c κs = search needs
-
-put-two-requires-2 : tie.Need-put-two-requires-2
-put-two-requires-2 c κs = search needs
-
-same-length : tie.Need-same-length
-same-length c = search needs
-
 returns : tie.Need-returns
 returns c = let at-hundreds = c .before .before in
     let at-year = at-hundreds .before .before .before .before in
@@ -51,12 +27,12 @@ pub put-date-spec : {M : Type 1} → statement M
 put-date-spec =
     tie.close
     (tie.spec
-    sub-year
-    add-put-field
-    put-field-requires
-    add-put-field-2
-    put-field-requires-2
-    put-two-requires
-    put-two-requires-2
-    same-length
+    (λ c. search needs)
+    (λ c. search needs)
+    (λ c κs. search needs)
+    (λ c. search needs)
+    (λ c κs. search needs)
+    (λ c κs. search needs)
+    (λ c κs. search needs)
+    (λ c. search needs)
     returns)

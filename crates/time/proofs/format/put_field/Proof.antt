@@ -8,18 +8,6 @@ use borrow.Author.Needs.{needs}
 use Rattle.time.proofs.format.put_field.Statement.{statement}
 use Rattle.time.proofs.format.put_field.Tie as tie
 
-put-two-requires : tie.Need-put-two-requires
-put-two-requires c κs = search needs
-
-sub-put-byte : tie.Need-sub-put-byte
-sub-put-byte c = search needs
-
-put-byte-requires : tie.Need-put-byte-requires
-put-byte-requires c κs = search needs
-
-same-length : tie.Need-same-length
-same-length c = search needs
-
 returns : tie.Need-returns
 returns c = let at-byte = c .before .before in
     let at-two = at-byte .before .before .before .before in
@@ -29,4 +17,4 @@ returns c = let at-byte = c .before .before in
 
 pub put-field-spec : {M : Type 1} → statement M
 put-field-spec =
-    tie.close (tie.spec put-two-requires sub-put-byte put-byte-requires same-length returns)
+    tie.close (tie.spec (λ c κs. search needs) (λ c. search needs) (λ c κs. search needs) (λ c. search needs) returns)

@@ -3,7 +3,7 @@
 use mathlib.Core.Path.{sym, _∙_}
 use mir.Syntax.{w32}
 use Rattle.ints.proofs.Machine.{back}
-use Rattle.time.proofs.Isos.{HasLine, HasLine-of-At, wroteLine-not, wroteLine-At}
+use Rattle.time.proofs.Isos.{HasLine-of-At, wroteLine-not, wroteLine-At}
 use borrow.Author.Needs.{needs}
 use Rattle.time.proofs.format.write_line_with.Statement.{statement}
 use Rattle.time.proofs.format.write_line_with.Tie as tie

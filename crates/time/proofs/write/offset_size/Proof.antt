@@ -11,11 +11,8 @@ use Rattle.time.proofs.write.offset_size.Tie as tie
 cast-magnitude : tie.Need-cast-magnitude
 cast-magnitude c = fits w64 tt (param w32 (c .fits .offset))
 
-magnitude-requires : tie.Need-magnitude-requires
-magnitude-requires c κs = search needs
-
 returns : tie.Need-returns
 returns c = c .magnitude .ensures ∙ ap natAbs (read w64 tt (param w32 (c .before .fits .offset)) .is)
 
 pub offset-size-spec : {M : Type 1} → statement M
-offset-size-spec = tie.close (tie.spec cast-magnitude magnitude-requires returns)
+offset-size-spec = tie.close (tie.spec cast-magnitude (λ c κs. search needs) returns)

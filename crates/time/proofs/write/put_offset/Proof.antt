@@ -6,30 +6,6 @@ use borrow.Author.Needs.{needs}
 use Rattle.time.proofs.write.put_offset.Statement.{statement}
 use Rattle.time.proofs.write.put_offset.Tie as tie
 
-put-two-requires : tie.Need-put-two-requires
-put-two-requires c κs = search needs
-
-sub-put-two : tie.Need-sub-put-two
-sub-put-two c = search needs
-
-put-two-requires-2 : tie.Need-put-two-requires-2
-put-two-requires-2 c κs = search needs
-
-sub-put-byte : tie.Need-sub-put-byte
-sub-put-byte c = search needs
-
-put-byte-requires : tie.Need-put-byte-requires
-put-byte-requires c κs = search needs
-
-sub-put-byte-2 : tie.Need-sub-put-byte-2
-sub-put-byte-2 c = search needs
-
-put-byte-requires-2 : tie.Need-put-byte-requires-2
-put-byte-requires-2 c κs = search needs
-
-same-length : tie.Need-same-length
-same-length c = search needs
-
 returns : tie.Need-returns
 returns c =
     let at-4 = c .before .before in
@@ -44,12 +20,12 @@ pub put-offset-spec : {M : Type 1} → statement M
 put-offset-spec =
     tie.close
     (tie.spec
-    put-two-requires
-    sub-put-two
-    put-two-requires-2
-    sub-put-byte
-    put-byte-requires
-    sub-put-byte-2
-    put-byte-requires-2
-    same-length
+    (λ c κs. search needs)
+    (λ c. search needs)
+    (λ c κs. search needs)
+    (λ c. search needs)
+    (λ c κs. search needs)
+    (λ c. search needs)
+    (λ c κs. search needs)
+    (λ c. search needs)
     returns)

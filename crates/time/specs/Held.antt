@@ -1,0 +1,10 @@
+-- What private contracts of the ISO writer's parts speak of. Nothing here is needed to read what `Time::write_iso` ensures.
+-- Assumes nothing.
+use Rattle.time.specs.Range.{InRange}
+use Rattle.time.specs.declared.format.Line.{Line}
+use Rattle.time.specs.declared.format.Line.the-variants.{At, Refused}
+
+-- the instant of a line is in range
+abbrev pub LineInRange : Line → Type 0
+LineInRange (At i) = InRange i
+LineInRange (Refused r) = Unit {0}
