@@ -1,9 +1,9 @@
 -- RULES 12.5: two answers that meet the contract of a public call are equal. Each statement is about the contract itself: `Post` is what
 -- the `ensures` lines of a call say, in the form that the proofs of its callers use. At exit `e .0` is the first parameter, `e .1 .0` the
--- second, `e .1 .1 .0` the third. In order: the law that proves all of them; times; writers; readers; the entries for C; the calendar; the
--- number at the start of a text. Not here: the other calls of `text`, each of which has an equation for its result, and `lines`.
+-- second, `e .1 .1 .0` the third. In order: times; writers; readers; the entries for C; the calendar; the number at the start of a text.
+-- Not here: the other calls of `text`, each of which has an equation for its result, and `lines`.
 -- Assumes nothing.
-use mathlib.Core.Path.{_≡_, _∙_, sym}
+use mathlib.Core.Path.{_≡_}
 use mathlib.Core.List.{List}
 use Prim.Native.Nat.{ℕ}
 use lib.IntN.{ℤ}
@@ -12,6 +12,7 @@ use Rattle.calendar.proofs.Walk.{IsMonths-unique}
 use Rattle.time.specs.declared.Answer.{Answer}
 use Rattle.time.specs.declared.Written.{Written}
 use Rattle.dates.specs.Contracts.{OneAnswer, OneAnswerAnd}
+use Rattle.dates.proofs.Contracts.{one-answer}
 use Rattle.chowderbell.specs.Entries.{HandedOut, HandedLength}
 use Rattle.time.proofs.Time.new.Reads as time-new
 use Rattle.time.proofs.Time.size.Reads as time-size
@@ -49,9 +50,6 @@ use Rattle.calendar.proofs.day_of.Reads as day-of
 use Rattle.calendar.proofs.day_number.Reads as day-number
 use Rattle.calendar.proofs.months_back.Reads as months-back
 use Rattle.text.proofs.number.leading_integer.Reads as leading-integer
-
-pub one-answer : {A : Type 0} {a b f : A} → a ≡ f → b ≡ f → a ≡ b
-one-answer p q = p ∙ sym q
 
 -- ---- a time, its size, the number of a refusal, a buffer by value, the range
 pub time-new-unique : OneAnswer time-new.Post
