@@ -1,4 +1,4 @@
--- The entries for C: what they take for a current time, and what they hand out for the answer of a reader or of a writer.
+-- RULES 2.1 for C: what the entries read as the current time, and what they return and store for the answer of a reader or a writer.
 -- Assumes nothing.
 use Prim.Native.Nat.{ℕ}
 use mathlib.Core.Path.{_≡_}
@@ -11,17 +11,17 @@ use Rattle.time.specs.declared.Now.{Now}
 use Rattle.time.specs.declared.Now.the-variants.{Missing, At}
 use Rattle.time.specs.declared.Written.{Written}
 
--- the current time: missing where the byte is 0, else the two numbers beside it
+-- the current time: missing if the byte is 0, and otherwise the two numbers
 abbrev pub nowOf : ℕ → ℤ → ℤ → Now
-nowOf has s o = cond (eqb has 0) Missing (At (timeAt s o))
+nowOf hasNow seconds offset = cond (eqb hasNow 0) Missing (At (timeAt seconds offset))
 
--- a reader's answer: its number, and its time, which is 0 at offset 0 for a refusal
+-- a reader returns the number of its answer and stores the time, which is 0 at offset 0 for a refusal
 pub record HandedOut (a : Answer) (number : ℕ) (seconds offset : ℤ) : Type 0 where
   pub number-is : number ≡ answerNumber a
   pub seconds-is : seconds ≡ answerTime a .seconds
   pub offset-is : offset ≡ answerTime a .offset
 
--- a writer's answer: its number, and its length, which is 0 for a refusal
+-- a writer returns the number of its answer and stores the length, which is 0 for a refusal
 pub record HandedLength (w : Written) (number length : ℕ) : Type 0 where
   pub number-is : number ≡ writtenNumber w
   pub length-is : length ≡ writtenLength w

@@ -1,2 +1,2 @@
--- What the entries for C take for a current time, and what they hand out.
+-- What the entries for C read as the current time, and what they return and store.
 pub mod Entries

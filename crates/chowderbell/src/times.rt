@@ -1,5 +1,6 @@
-// The entries that read and write times: each reader, each writer and `size`, on numbers and byte slices. A slice is passed as a
-// pointer and a length, a result as a pointer. They keep no pointer and no state.
+// The entries that read and write times: each reader, each writer and `size`. C passes a slice as a pointer and a length, and a
+// result as a pointer to where it is to be stored. Each entry returns 0 or the number of a refusal (RULES 2), except for
+// `chowderbell_size`. They keep no pointer and no state. `include/chowderbell.h` is the manual for callers.
 ghost use mathlib.Core.Path.{_≡_};
 ghost use Rattle.text.specs.Room.{roomAfter};
 ghost use Rattle.time.specs.Answers.{timeAt, isWritten};
@@ -39,7 +40,7 @@ pub extern "C" fn chowderbell_iso(text: &[u8], seconds: &mut i64, offset: &mut i
     hand_out(iso::parse_git_date_format(text), seconds, offset)
 }
 
-// The current time is missing where `has_now` is 0, and is the next two numbers otherwise.
+// The current time is missing if `has_now` is 0, and is the next two numbers otherwise.
 #[no_mangle]
 pub extern "C" fn chowderbell_relative(
     text: &[u8],
@@ -76,6 +77,7 @@ pub extern "C" fn chowderbell_any(
     )
 }
 
+// The length of a header. It cannot fail, so this is no number of a refusal.
 #[no_mangle]
 pub extern "C" fn chowderbell_size(seconds: i64, offset: i32) -> usize
     ensures { λ r. ⌜ r ≡ sizeOf seconds ⌝ }
@@ -120,7 +122,7 @@ fn now_of(has_now: u8, now_seconds: i64, now_offset: i32) -> Now
     Now::At(Time::new(now_seconds, now_offset))
 }
 
-// Returns the number of a reader's answer, and stores its time: 0 at offset 0 for a refusal.
+// Returns the number of a reader's answer and stores its time, which is 0 at offset 0 for a refusal.
 fn hand_out(a: Answer, seconds: &mut i64, offset: &mut i32) -> u8
     ensures { λ r. ⌜ HandedOut a r (now (seconds .exit)) (now (offset .exit)) ⌝ }
 {
@@ -140,7 +142,7 @@ fn hand_out(a: Answer, seconds: &mut i64, offset: &mut i32) -> u8
     }
 }
 
-// Returns the number of a writer's answer, and stores its length: 0 for a refusal.
+// Returns the number of a writer's answer and stores its length, which is 0 for a refusal.
 fn hand_length(w: Written, length: &mut usize) -> u8
     ensures { λ r. ⌜ HandedLength w r (now (length .exit)) ⌝ }
 {

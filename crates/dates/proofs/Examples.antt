@@ -1,4 +1,4 @@
--- Document 01's examples that are marked to be proved together: one table, and one statement about it.
+-- RULES 11: the examples marked P, one table and one statement about it.
 -- Assumes nothing.
 use mathlib.Core.List.{_++_}
 use Rattle.time.specs.Rows.{AllRight}

@@ -1,6 +1,6 @@
--- "Any" as its steps in turn, over any limits of raw. In order: what each step says of a text with a byte of 128 or more; the forms that
--- need no calendar, by the first byte; the steps with no test for such a byte in front of them, because the first step that looks at the
--- whole text says 1 by itself.
+-- "Any" as its steps in turn, for any limits of raw dates. In order: what the number step answers for a text with a byte of 128 or more;
+-- the forms that need no calendar, by the first byte; that the steps need no test for such a byte in front of them, because a step
+-- that looks at the whole text answers 1 by itself.
 -- Assumes nothing.
 use mathlib.Core.Path.{_≡_, refl, sym}
 use mathlib.Core.Bool.{false, false≢true}
@@ -9,7 +9,7 @@ use Prim.Native.Nat.{ℕ}
 use Prim.Native.Char.{code}
 use borrow.Author.Tests.{eqb-true, ne-eqb}
 use lib.Dec.{eqb}
-use lib.IntN.{ℤ, pos}
+use lib.IntN.{ℤ}
 use Rattle.text.specs.Bytes.{isDigit, ascii}
 use Rattle.text.specs.Number.{readFrom, digitsOf, unsignedOf, signedOf, fitSigned}
 use Rattle.text.proofs.Lists.{by-test}
@@ -21,7 +21,7 @@ use Rattle.time.specs.declared.Answer.the-variants.{Time, Refused}
 use Rattle.header.specs.Raw.{Limits, rawOf}
 use Rattle.iso.specs.Iso.{isoOf}
 use Rattle.relative.specs.Relative.{maxPairs, relativeOf}
-use Rattle.dates.specs.Any.{orElse, numberFrom, markedOf, atOf, plainOf, anyOf}
+use Rattle.dates.specs.Any.{orElse, leastPlain, numberFrom, markedOf, atOf, plainOf, anyOf}
 
 -- ---- a byte of 128 or more
 numberFrom-not-ascii : (least : ℤ) (s : List ℕ) → ascii s ≡ false → numberFrom least s ≡ Refused Form
@@ -48,25 +48,25 @@ pub plainOf-nil : (l : Limits) → plainOf l [] ≡ Refused Form
 unfolding plainOf atOf numberFrom signedOf fitSigned
 plainOf-nil l = refl
 
--- what opens with `@` is no number
+-- a text that starts with `@` is not a number
 pub plainOf-of-at : (l : Limits) (b : ℕ) (s : List ℕ) → b ≡ code "@" → plainOf l (b ∷ s) ≡ markedOf l s
 unfolding plainOf atOf numberFrom signedOf unsignedOf digitsOf readFrom isDigit fitSigned
 plainOf-of-at l b s e = rw e (orElse-Form (markedOf l s))
 
-pub plainOf-of-other : (l : Limits) (b : ℕ) (s : List ℕ) → (b ≡ code "@" → ⊥) → plainOf l (b ∷ s) ≡ numberFrom (pos 100000000) (b ∷ s)
+pub plainOf-of-other : (l : Limits) (b : ℕ) (s : List ℕ) → (b ≡ code "@" → ⊥) → plainOf l (b ∷ s) ≡ numberFrom leastPlain (b ∷ s)
 unfolding plainOf atOf
 plainOf-of-other l b s n = rw (ne-eqb b (code "@") n)
 
--- behind `@` raw says 1; without it nothing is settled
+-- after `@` the raw reader answers 1; without it no form here ends the search
 plainOf-not-ascii : (l : Limits) (s : List ℕ) → ascii s ≡ false → orElse (plainOf l s) (Refused NotAscii) ≡ Refused NotAscii
 unfolding plainOf atOf markedOf rawOf ascii
 plainOf-not-ascii l [] h = absurd (false≢true (sym h))
 plainOf-not-ascii l (b ∷ s) h =
     by-test (eqb b (code "@"))
     (λ e. rw (e, ascii-of-cons b s (eqb-true b (code "@") e) h))
-    (λ e. rw (e, numberFrom-not-ascii (pos 100000000) (b ∷ s) h))
+    (λ e. rw (e, numberFrom-not-ascii leastPlain (b ∷ s) h))
 
--- ---- the steps: 1 needs no test in front of them
+-- ---- the steps: no test for 1 is needed in front of them
 pub anyOf-in-turn : (l : Limits) (s : List ℕ) (now : Now) → anyOf l s now ≡ orElse (plainOf l s) (orElse (isoOf s) (orElse (relativeOf maxPairs s now) (rawOf l s)))
 unfolding anyOf isoOf
 anyOf-in-turn l s now = by-test (ascii s) (λ e. rw e) (λ e. rw e (sym (plainOf-not-ascii l s e)))

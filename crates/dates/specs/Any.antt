@@ -1,6 +1,5 @@
--- Document 01, "Any": `@` first: the rest as raw, else as a 64-bit number at offset 0. Failing that, the whole text: a 64-bit number of
--- at least 100000000; the ISO forms; relative, whose refusal other than 2 stands; raw; else 2. The limits of raw are a parameter, fixed
--- by rule 1 in the contracts.
+-- RULES 8, "any": the forms in the order in which they are tried. The limits on a raw date's offset are a parameter; the contracts
+-- use those of RULES 5.7, `rule1`.
 -- Assumes nothing.
 use Prim.Native.Nat.{ℕ, _-_, _^_}
 use Prim.Native.Char.{code}
@@ -23,7 +22,7 @@ use Rattle.header.specs.Raw.{Limits, rawOf}
 use Rattle.iso.specs.Iso.{isoOf}
 use Rattle.relative.specs.Relative.{maxPairs, relativeOf}
 
--- the refusals that end the search: 1, 3, 4, 5, 6. After a 2 the next form is tried. 7 and 8 are no reader's
+-- whether a refusal ends the search: every one but 2, after which the next form is tried. No reader answers 7 or 8
 abbrev pub settles : Refusal → Bool
 settles Form = false
 settles NotAscii = true
@@ -34,37 +33,47 @@ settles Range = true
 settles Offset = true
 settles Room = true
 
--- a time ends the search too
+-- whether an answer ends the search: a time does too
 abbrev pub isSettled : Answer → Bool
 isSettled (Time t) = true
 isSettled (Refused r) = settles r
 
--- failing that
+-- the first answer, or, failing that, the second
 abbrev pub orElse : Answer → Answer → Answer
 orElse a b = cond (isSettled a) a b
 
--- a 64-bit number from `least` on, at offset 0
+-- a number of at least `least`, as seconds at offset 0
 abbrev pub numbered : ℤ → Integer → Answer
 numbered least (Is z) = cond (leZ least z) (Time (timeAt z (pos 0))) (Refused Form)
 numbered least NotOne = Refused Form
 
+-- the text as a 64-bit number of at least `least`
 unfoldable pub numberFrom : ℤ → List ℕ → Answer
 numberFrom least s = numbered least (fitSigned (2 ^ 63) (signedOf s))
 
--- behind `@`: the rest as raw, else as a 64-bit number at offset 0; the least of those is -2^63
-unfoldable pub markedOf : Limits → List ℕ → Answer
-markedOf l s = orElse (rawOf l s) (numberFrom (negsuc (2 ^ 63 - 1)) s)
+-- the least 64-bit number, -2^63
+abbrev pub least64 : ℤ
+least64 = negsuc (2 ^ 63 - 1)
 
--- `@` first
+-- RULES 8.1, what follows `@`: a raw date, or else a 64-bit number at offset 0
+unfoldable pub markedOf : Limits → List ℕ → Answer
+markedOf l s = orElse (rawOf l s) (numberFrom least64 s)
+
+-- RULES 8.1: if the first byte is `@`
 unfoldable pub atOf : Limits → List ℕ → Answer
 atOf l [] = Refused Form
 atOf l (b ∷ s) = cond (eqb b (code "@")) (markedOf l s) (Refused Form)
 
--- failing that, the whole text: a 64-bit number of at least 100000000
-unfoldable pub plainOf : Limits → List ℕ → Answer
-plainOf l s = orElse (atOf l s) (numberFrom (pos 100000000) s)
+-- the least number that is read as seconds without `@`
+abbrev pub leastPlain : ℤ
+leastPlain = pos 100000000
 
--- then the ISO forms; relative; raw. 1 first
+-- RULES 8.2, failing that: the whole text as a 64-bit number of at least 100000000
+unfoldable pub plainOf : Limits → List ℕ → Answer
+plainOf l s = orElse (atOf l s) (numberFrom leastPlain s)
+
+-- RULES 8.2: then by the ISO forms; as a relative date, whose refusal other than 2 is the answer; as a raw date; otherwise 2. By
+-- RULES 2.2 the test for 1, a byte of 128 or more, comes first
 unfoldable pub anyOf : Limits → List ℕ → Now → Answer
 anyOf l s now =
     cond (ascii s)

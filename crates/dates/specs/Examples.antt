@@ -1,4 +1,4 @@
--- Document 01's examples that are marked to be proved together: one table, of headers and raw dates, ISO dates and relative dates.
+-- RULES 11: the examples marked P, as one table: headers and raw dates, ISO dates, relative dates.
 -- Assumes nothing.
 use mathlib.Core.List.{List, _++_}
 use Rattle.time.specs.Rows.{Row}

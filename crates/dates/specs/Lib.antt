@@ -1,3 +1,4 @@
--- Document 01, "Any"; the examples marked to be proved together.
+-- In order: RULES 8, "any"; the examples of RULES 11 that are marked P; RULES 12.5, what it means that a contract fixes the answer.
 pub mod Any
 pub mod Examples
+pub mod Contracts

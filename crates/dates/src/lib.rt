@@ -1,13 +1,20 @@
-// Dates as Git writes them and people type them, in any form: the forms are tried one after the other.
+// Reads a date in any form, as Git writes it or people type it: the forms are tried one after the other (RULES 8).
 ghost use mathlib.Core.Path.{_≡_};
 ghost use Rattle.calendar.specs.Table.{IsMonths};
 ghost use Rattle.header.specs.Raw.{rule1};
 ghost use Rattle.dates.specs.Any.{settles as settlesOf, isSettled, numbered as numberedOf, markedOf, plainOf, anyOf};
+use text::number;
 use text::number::Integer;
 use time::Answer;
 use time::Now;
 use time::Refusal;
 use time::Time;
+
+// A plain number below this is not read as seconds: `20080214` looks like a date.
+const LEAST_PLAIN: i64 = 100000000;
+
+// The least number of 64 signed bits.
+const LEAST_64: i64 = -9223372036854775808;
 
 // Reads a date in any form. Only a relative date uses the current time.
 pub fn parse(s: &[u8], current: Now) -> Answer
@@ -16,8 +23,8 @@ pub fn parse(s: &[u8], current: Now) -> Answer
     parse_with(&[], s, current)
 }
 
-// The same with a table of months, or a leading part of it, for callers that read many texts. There is no test for bytes of 128 or
-// more here: each step makes its own.
+// The same with a table of months, or a leading part of it, for callers that read many texts. No test for bytes of 128 or more is
+// needed here, because each reader below makes its own.
 pub fn parse_with(months: &[u32], s: &[u8], current: Now) -> Answer
     requires { ⌜ IsMonths (now months) ⌝ }
     ensures { λ r. ⌜ r ≡ anyOf rule1 (now (s .entry)) current ⌝ }
@@ -37,8 +44,8 @@ pub fn parse_with(months: &[u32], s: &[u8], current: Now) -> Answer
     header::raw::parse_raw(s)
 }
 
-// The forms that need no calendar: `@` with raw or a number behind it, or else a number too large to be the count of a relative date.
-// A text that opens with `@` is no number, so only one of the two is tried.
+// The forms that need no calendar: `@` and then a raw date or a number, or else a plain number of at least LEAST_PLAIN. A text that
+// starts with `@` is not a number, so only one of the two is tried.
 fn parse_plain(s: &[u8]) -> Answer
     ensures { λ r. ⌜ r ≡ plainOf rule1 (now (s .entry)) ⌝ }
 {
@@ -48,13 +55,10 @@ fn parse_plain(s: &[u8]) -> Answer
     if s[0] == b'@' {
         return parse_marked(&s[1..]);
     }
-    numbered(
-        100000000,
-        text::number::signed_number(s, 9223372036854775808),
-    )
+    numbered(LEAST_PLAIN, number::signed_number(s, number::HALF_64))
 }
 
-// Reads what follows `@`.
+// Reads what follows `@`: as a raw date, or else as any number of 64 signed bits.
 fn parse_marked(s: &[u8]) -> Answer
     ensures { λ r. ⌜ r ≡ markedOf rule1 (now (s .entry)) ⌝ }
 {
@@ -62,13 +66,10 @@ fn parse_marked(s: &[u8]) -> Answer
     if is_settled(raw) {
         return raw;
     }
-    numbered(
-        -9223372036854775808,
-        text::number::signed_number(s, 9223372036854775808),
-    )
+    numbered(LEAST_64, number::signed_number(s, number::HALF_64))
 }
 
-// A number from `least` on, as seconds at offset 0.
+// A number of at least `least`, as seconds at offset 0. Any other number is refused by 2.
 fn numbered(least: i64, n: Integer) -> Answer
     ensures { λ r. ⌜ r ≡ numberedOf least n ⌝ }
 {
@@ -81,7 +82,7 @@ fn numbered(least: i64, n: Integer) -> Answer
     Answer::Time(Time::new(z, 0))
 }
 
-// Whether an answer ends the search: a time does, and a refusal that settles.
+// Whether an answer ends the search, so that no further form is tried.
 fn is_settled(a: Answer) -> bool
     ensures { λ r. ⌜ r ≡ isSettled a ⌝ }
 {
@@ -91,7 +92,7 @@ fn is_settled(a: Answer) -> bool
     }
 }
 
-// The refusals that end the search: 1, 3, 4, 5, 6. After a 2 the next form is tried. No reader answers 7 or 8.
+// Whether a refusal ends the search: every one but 2, after which the next form is tried. No reader answers 7 or 8.
 fn settles(r: Refusal) -> bool
     ensures { λ b. ⌜ b ≡ settlesOf r ⌝ }
 {

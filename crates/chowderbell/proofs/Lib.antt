@@ -1,0 +1,2 @@
+-- Two answers that meet the contract of a public call are equal.
+pub mod OneAnswer

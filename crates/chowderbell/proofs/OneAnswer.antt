@@ -1,0 +1,176 @@
+-- RULES 12.5: two answers that meet the contract of a public call are equal. Each statement is about the contract itself: `Post` is what
+-- the `ensures` lines of a call say, in the form that the proofs of its callers use. At exit `e .0` is the first parameter, `e .1 .0` the
+-- second, `e .1 .1 .0` the third. In order: times; writers; readers; the entries for C; the calendar; the number at the start of a text.
+-- Not here: the other calls of `text`, each of which has an equation for its result, and `lines`.
+-- Assumes nothing.
+use mathlib.Core.Path.{_≡_}
+use mathlib.Core.List.{List}
+use Prim.Native.Nat.{ℕ}
+use lib.IntN.{ℤ}
+use denote.Ref.{now}
+use Rattle.calendar.proofs.Walk.{IsMonths-unique}
+use Rattle.time.specs.declared.Answer.{Answer}
+use Rattle.time.specs.declared.Written.{Written}
+use Rattle.dates.specs.Contracts.{OneAnswer, OneAnswerAnd}
+use Rattle.dates.proofs.Contracts.{one-answer}
+use Rattle.chowderbell.specs.Entries.{HandedOut, HandedLength}
+use Rattle.time.proofs.Time.new.Reads as time-new
+use Rattle.time.proofs.Time.size.Reads as time-size
+use Rattle.time.proofs.Time.count_positive_digits.Reads as count-positive-digits
+use Rattle.time.proofs.number_of.Reads as number-of
+use Rattle.time.proofs.buf.widest.Reads as widest
+use Rattle.time.proofs.buf.to_str.Reads as to-str
+use Rattle.time.proofs.range.instant_of.Reads as instant-of
+use Rattle.time.proofs.range.time_of.Reads as time-of
+use Rattle.time.proofs.range.in_range.Reads as in-range
+use Rattle.time.proofs.Time.write_to.Reads as write-to
+use Rattle.time.proofs.Time.write_iso.Reads as write-iso
+use Rattle.time.proofs.Time.write_iso_with.Reads as write-iso-with
+use Rattle.header.proofs.parse_header.Reads as parse-header
+use Rattle.header.proofs.raw.parse_raw.Reads as parse-raw
+use Rattle.iso.proofs.parse_git_date_format.Reads as parse-git-date-format
+use Rattle.iso.proofs.parse_git_date_format_with.Reads as parse-git-date-format-with
+use Rattle.relative.proofs.parse.Reads as relative-parse
+use Rattle.relative.proofs.parse_with.Reads as relative-parse-with
+use Rattle.dates.proofs.parse.Reads as dates-parse
+use Rattle.dates.proofs.parse_with.Reads as dates-parse-with
+use Rattle.chowderbell.proofs.times.chowderbell_header.Reads as chowderbell-header
+use Rattle.chowderbell.proofs.times.chowderbell_raw.Reads as chowderbell-raw
+use Rattle.chowderbell.proofs.times.chowderbell_iso.Reads as chowderbell-iso
+use Rattle.chowderbell.proofs.times.chowderbell_relative.Reads as chowderbell-relative
+use Rattle.chowderbell.proofs.times.chowderbell_any.Reads as chowderbell-any
+use Rattle.chowderbell.proofs.times.chowderbell_size.Reads as chowderbell-size
+use Rattle.chowderbell.proofs.times.chowderbell_write_header.Reads as chowderbell-write-header
+use Rattle.chowderbell.proofs.times.chowderbell_write_iso.Reads as chowderbell-write-iso
+use Rattle.calendar.proofs.months.Reads as months
+use Rattle.calendar.proofs.first_day.Reads as first-day
+use Rattle.calendar.proofs.month_length.Reads as month-length
+use Rattle.calendar.proofs.date_of.Reads as date-of
+use Rattle.calendar.proofs.day_of.Reads as day-of
+use Rattle.calendar.proofs.day_number.Reads as day-number
+use Rattle.calendar.proofs.months_back.Reads as months-back
+use Rattle.text.proofs.number.leading_integer.Reads as leading-integer
+
+-- ---- a time, its size, the number of a refusal, a buffer by value, the range
+pub time-new-unique : OneAnswer time-new.Post
+time-new-unique κ a r s e f = one-answer
+
+pub time-size-unique : OneAnswer time-size.Post
+time-size-unique κ a r s e f p q = one-answer (p .0) (q .0)
+
+pub count-positive-digits-unique : OneAnswer count-positive-digits.Post
+count-positive-digits-unique κ a r s e f p q = one-answer (p .0) (q .0)
+
+pub number-of-unique : OneAnswer number-of.Post
+number-of-unique κ a r s e f = one-answer
+
+pub widest-unique : OneAnswer widest.Post
+widest-unique κ a r s e f = one-answer
+
+pub to-str-unique : OneAnswer to-str.Post
+to-str-unique κ a r s e f = one-answer
+
+pub instant-of-unique : OneAnswer instant-of.Post
+instant-of-unique κ a r s e f p q = one-answer (p .0) (q .0)
+
+pub time-of-unique : OneAnswer time-of.Post
+time-of-unique κ a r s e f = one-answer
+
+pub in-range-unique : OneAnswer in-range.Post
+in-range-unique κ a r s e f = one-answer
+
+-- ---- the writers: what they return, and every byte of the room
+pub write-to-unique : OneAnswerAnd write-to.Post (List ℕ) (λ κ e. now (e .1 .0))
+write-to-unique κ a r s e f p q = (one-answer (p .0) (q .0), one-answer (p .1) (q .1))
+
+pub write-iso-unique : OneAnswerAnd write-iso.Post (List ℕ) (λ κ e. now (e .1 .0))
+write-iso-unique κ a r s e f p q = (one-answer (p .0) (q .0), one-answer (p .1) (q .1))
+
+pub write-iso-with-unique : OneAnswerAnd write-iso-with.Post (List ℕ) (λ κ e. now (e .1 .1 .0))
+write-iso-with-unique κ a r s e f p q = (one-answer (p .0) (q .0), one-answer (p .1) (q .1))
+
+-- ---- the readers
+pub parse-header-unique : OneAnswer parse-header.Post
+parse-header-unique κ a r s e f = one-answer
+
+pub parse-raw-unique : OneAnswer parse-raw.Post
+parse-raw-unique κ a r s e f = one-answer
+
+pub parse-git-date-format-unique : OneAnswer parse-git-date-format.Post
+parse-git-date-format-unique κ a r s e f = one-answer
+
+pub parse-git-date-format-with-unique : OneAnswer parse-git-date-format-with.Post
+parse-git-date-format-with-unique κ a r s e f = one-answer
+
+pub relative-parse-unique : OneAnswer relative-parse.Post
+relative-parse-unique κ a r s e f = one-answer
+
+pub relative-parse-with-unique : OneAnswer relative-parse-with.Post
+relative-parse-with-unique κ a r s e f = one-answer
+
+pub dates-parse-unique : OneAnswer dates-parse.Post
+dates-parse-unique κ a r s e f = one-answer
+
+pub dates-parse-with-unique : OneAnswer dates-parse-with.Post
+dates-parse-with-unique κ a r s e f = one-answer
+
+-- ---- the readers for C: the number returned, and the seconds and the offset stored
+HandedOut-unique : {a : Answer} {n m : ℕ} {s t o u : ℤ} → HandedOut a n s o → HandedOut a m t u → (n ≡ m) × _≡_ {A = ℤ × ℤ} (s, o) (t, u)
+HandedOut-unique p q =
+    (one-answer (p .number-is) (q .number-is), λ i. (one-answer (p .seconds-is) (q .seconds-is) i, one-answer (p .offset-is) (q .offset-is) i))
+
+pub chowderbell-header-unique : OneAnswerAnd chowderbell-header.Post (ℤ × ℤ) (λ κ e. (now (e .1 .0), now (e .1 .1 .0)))
+chowderbell-header-unique κ a r s e f = HandedOut-unique
+
+pub chowderbell-raw-unique : OneAnswerAnd chowderbell-raw.Post (ℤ × ℤ) (λ κ e. (now (e .1 .0), now (e .1 .1 .0)))
+chowderbell-raw-unique κ a r s e f = HandedOut-unique
+
+pub chowderbell-iso-unique : OneAnswerAnd chowderbell-iso.Post (ℤ × ℤ) (λ κ e. (now (e .1 .0), now (e .1 .1 .0)))
+chowderbell-iso-unique κ a r s e f = HandedOut-unique
+
+pub chowderbell-relative-unique : OneAnswerAnd chowderbell-relative.Post (ℤ × ℤ) (λ κ e. (now (e .1 .1 .1 .1 .0), now (e .1 .1 .1 .1 .1 .0)))
+chowderbell-relative-unique κ a r s e f = HandedOut-unique
+
+pub chowderbell-any-unique : OneAnswerAnd chowderbell-any.Post (ℤ × ℤ) (λ κ e. (now (e .1 .1 .1 .1 .0), now (e .1 .1 .1 .1 .1 .0)))
+chowderbell-any-unique κ a r s e f = HandedOut-unique
+
+-- ---- the size and the writers for C: the number returned, the length stored, and every byte of the room
+written-unique : {w : Written} {n m k l : ℕ} {t u b : List ℕ} → HandedLength w n k × (t ≡ b) → HandedLength w m l × (u ≡ b) → (n ≡ m) × _≡_ {A = ℕ × List ℕ} (k, t) (l, u)
+written-unique p q =
+    (one-answer (p .0 .number-is) (q .0 .number-is), λ i. (one-answer (p .0 .length-is) (q .0 .length-is) i, one-answer (p .1) (q .1) i))
+
+pub chowderbell-size-unique : OneAnswer chowderbell-size.Post
+chowderbell-size-unique κ a r s e f = one-answer
+
+pub chowderbell-write-header-unique : OneAnswerAnd chowderbell-write-header.Post (ℕ × List ℕ) (λ κ e. (now (e .1 .1 .1 .0), now (e .1 .1 .0)))
+chowderbell-write-header-unique κ a r s e f = written-unique
+
+pub chowderbell-write-iso-unique : OneAnswerAnd chowderbell-write-iso.Post (ℕ × List ℕ) (λ κ e. (now (e .1 .1 .1 .0), now (e .1 .1 .0)))
+chowderbell-write-iso-unique κ a r s e f = written-unique
+
+-- ---- the calendar
+pub months-unique : OneAnswer months.Post
+months-unique κ a r s e f p q = IsMonths-unique (one-answer (p .1) (q .1)) (p .0) (q .0)
+
+pub first-day-unique : OneAnswer first-day.Post
+first-day-unique κ a r s e f p q = one-answer (p .0) (q .0)
+
+pub month-length-unique : OneAnswer month-length.Post
+month-length-unique κ a r s e f p q = one-answer (p .0) (q .0)
+
+pub date-of-unique : OneAnswer date-of.Post
+date-of-unique κ a r s e f p q = one-answer (p .0) (q .0)
+
+pub day-of-unique : OneAnswer day-of.Post
+day-of-unique κ a r s e f p q = one-answer (p .0) (q .0)
+
+pub day-number-unique : OneAnswer day-number.Post
+day-number-unique κ a r s e f p q = one-answer (p .0) (q .0)
+
+pub months-back-unique : OneAnswer months-back.Post
+months-back-unique κ a r s e f p q = one-answer (p .0) (q .0)
+
+-- ---- the number at the start of a text
+pub leading-integer-unique : OneAnswer leading-integer.Post
+leading-integer-unique κ a r s e f p q =
+    λ i. record { number = one-answer (p .number-is) (q .number-is) i; end = one-answer (p .end-is) (q .end-is) i; signed = one-answer (p .signed-is) (q .signed-is) i }
