@@ -1,11 +1,11 @@
--- Where the raw reader accepts a text, what the header reader answers (`header-of-raw`): the same seconds; the same offset if the
--- byte after the offset's sign is a digit, and offset 0 otherwise. So the two agree exactly if it is a digit or the offset is 0
--- (`raw-header-alike`, `raw-header-alike-only`): not on `5 ++5+0`. It holds at any limits.
+-- What the header reader answers to a text that the raw reader accepts (`header-of-raw`): the same seconds; the same offset if
+-- the byte after the offset's sign is a digit, and offset 0 otherwise. So the two agree exactly if that byte is a digit or the
+-- offset is 0 (`raw-header-alike`, `raw-header-alike-only`), which is not so for `5 ++5+0`. This holds for any limits.
 -- Assumes nothing.
 use mathlib.Core.Path.{_≡_, refl, sym, ap, _∙_}
 use mathlib.Core.Bool.{Bool, true, false, cond}
 use mathlib.Core.List.{List}
-use mathlib.Core.Logic.{_⊎_, inl, inr, ⊎-elim}
+use mathlib.Core.Logic.{inl, inr, ⊎-elim}
 use Prim.Native.Nat.{ℕ}
 use native.Mathlib.Omega.{arith}
 use lib.IntN.{ℤ, pos}
@@ -18,10 +18,11 @@ use Rattle.text.proofs.Lists.{by-test}
 use Rattle.time.specs.Answers.{timeAt}
 use Rattle.time.specs.declared.Time.{Time}
 use Rattle.time.specs.declared.Answer.the-variants.{Time as At}
-use Rattle.header.specs.Offset.{fieldsOf, offsetOf}
+use Rattle.header.specs.Offset.{secondWord, fieldsOf, offsetOf}
 use Rattle.header.specs.Header.{number64, secondsOf, headerOffset, headerTime, headerOf}
 use Rattle.header.specs.Raw.{Limits, allows, rawTime, rawOf}
-use Rattle.header.specs.Held.{firstWord, secondWord}
+use Rattle.header.specs.Held.{firstWord}
+use Rattle.header.specs.Theorems.{Alike}
 use Rattle.header.specs.declared.offset.Field.the-variants.{Byte}
 use Rattle.header.specs.declared.offset.Fields.{Fields}
 use Rattle.header.specs.declared.offset.Parsed.{Parsed}
@@ -47,7 +48,7 @@ accepted l (Is z) (Offset f) t e =
 accepted l (Is z) NoOffset t e = let q : _≡_ {A = ℕ} 0 1 = cc in absurd (omega arith)
 accepted l NotOne p t e = let q : _≡_ {A = ℕ} 0 1 = cc in absurd (omega arith)
 
--- the offset that the header reader gives where raw gives o: o, if a digit follows the sign
+-- the offset that the header reader gives where raw gives o: o if a digit follows the sign, else 0
 abbrev keptOffset : List ℕ → ℤ → ℤ
 keptOffset v o = cond (isDigit (getD v 1 0)) o (pos 0)
 
@@ -55,7 +56,7 @@ headerTime-cond : (z : ℤ) (d : Bool) (f : Fields) → headerTime (Is z) (cond 
 headerTime-cond z true f = refl
 headerTime-cond z false f = refl
 
--- what the header reader answers where the raw reader, at any limits, accepts
+-- what the header reader answers to a text that the raw reader accepts, for any limits
 header-of-raw : (l : Limits) (s : List ℕ) (t : Time) → rawOf l s ≡ At t → headerOf s ≡ At (timeAt (t .seconds) (keptOffset (secondWord s) (t .offset)))
 unfolding rawOf headerOf secondsOf headerOffset
 header-of-raw l s t e =
@@ -73,10 +74,7 @@ header-of-raw l s t e =
     ))
     (λ a. let k = rw a at e in let q : _≡_ {A = ℕ} 0 1 = cc in absurd (omega arith))
 
--- they answer alike if the byte after the offset's sign is a digit, or the offset is 0
-abbrev pub Alike : List ℕ → Time → Type 0
-Alike s t = (isDigit (getD (secondWord s) 1 0) ≡ true) ⊎ (t .offset ≡ pos 0)
-
+-- they agree if the byte after the offset's sign is a digit, or the offset is 0
 pub raw-header-alike : (l : Limits) (s : List ℕ) (t : Time) → rawOf l s ≡ At t → Alike s t → headerOf s ≡ rawOf l s
 raw-header-alike l s t e alike = header-of-raw l s t e ∙ ap (λ (o : ℤ). At (timeAt (t .seconds) o)) kept ∙ sym e
   where

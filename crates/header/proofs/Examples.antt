@@ -1,5 +1,5 @@
--- Document 01's examples of headers and raw dates, asked of the definitions. In order: those that it marks to be proved together,
--- one table and one statement; its others, with the texts that can be read in two ways and the reading that is taken.
+-- The worked examples of headers and raw dates (RULES 11.1 to 11.4), proved of the definitions. In order: those marked P, one
+-- table and one statement; the others, and texts that could be read in two ways, each under the words that decide.
 -- Assumes nothing.
 use mathlib.Core.Path.{refl}
 use mathlib.Core.List.{List, [], _∷_, _++_}
@@ -26,7 +26,7 @@ pub marked-examples : AllRight marked
 unfolding isSpace isDigit isSign ascii run firstPlace has words pieces full readFrom digitsOf unsignedOf signedOf fit fitSigned digitsUpTo decimal signed signedBefore headerBytes headerSign signByte wholeMinutes fiveOrSeven fieldOf lastField fieldsOf offsetOf secondsOf headerOffset headerOfWords headerOf allows rawOfWords rawOf
 marked-examples = (refl, (refl, (refl, (refl, (refl, (refl, (refl, (refl, (refl, tt)))))))))
 
--- ---- its other examples of headers and raw dates
+-- ---- the other examples
 abbrev others : List Row
 others =
     reads (headerOf (bytes "1745582210 +0200")) (Time (timeAt (pos 1745582210) (pos 7200)))
@@ -34,35 +34,35 @@ others =
     ∷ reads (rawOf rule1 (bytes "5 +1500")) (Refused Form)
     ∷ reads (rawOf rule1 (bytes "5 +0010")) (Refused Form)
     ∷ reads (rawOf rule1 (bytes "5")) (Refused Form)
-    -- ---- texts that could be read in two ways, each under the words that decide
-    -- the sentences about the second word do not depend on how the first was read
+    -- ---- texts that could be read in two ways
+    -- RULES 5.4 does not depend on how the first word was read
     ∷ reads (headerOf (bytes "12abc +0100")) (Time (timeAt (pos 12) (pos 3600)))
-    -- words are parted by white space only
+    -- only white space separates words
     ∷ reads (headerOf (bytes "12+0100")) (Time (timeAt (pos 12) (pos 0)))
-    -- a sign before the fields is a sign of the offset: it turns the whole sum
+    -- RULES 5.5: "The sign in front belongs to the whole offset"
     ∷ reads (headerOf (bytes "5 -01-5")) (five (negsuc 3299))
-    -- "its leading digits as one": no prefix that would fit
+    -- RULES 5.2: "its leading digits are one", and not the longest prefix that fits
     ∷ reads (headerOf (bytes "99999999999999999999")) (Refused Form)
-    -- white space is 9 to 13 and 32: byte 31 is none
+    -- RULES 4.1: white space is the bytes 9 to 13 and 32, so byte 31 is not
     ∷ reads (headerOf (code "5" ∷ 31 ∷ bytes "+0100")) (five (pos 0))
-    -- "(hours, minutes, perhaps seconds)" are fields of the offset
+    -- RULES 5.4: "hours, minutes, and with 7 bytes seconds"
     ∷ reads (headerOf (bytes "5 +010203")) (five (pos 3723))
-    -- "a `:` anywhere", in a third word too
+    -- RULES 5.1: "a `:` anywhere", in a third word too
     ∷ reads (headerOf (bytes "5 x y:z")) (Refused Form)
-    -- the result fits, however many digits
+    -- RULES 4.4: the value decides whether a number fits, not the count of its digits
     ∷ reads (headerOf (bytes "00000000000000000000000000000000000000005")) (five (pos 0))
-    -- "fields may open with `+`": the seconds too
+    -- RULES 5.7: fields "may open with `+`", the seconds too
     ∷ reads (rawOf rule1 (bytes "5 +0100+0")) (five (pos 3600))
-    -- one limit for both signs
+    -- RULES 5.7: the limits are those of the fields, whatever the sign in front
     ∷ reads (rawOf rule1 (bytes "5 -1445")) (five (negsuc 53099))
-    -- fields are unsigned, so `-0` is not one; the header's are signed
+    -- RULES 4.3 and 5.7: `-0` is no unsigned number; RULES 5.4: it is a signed one
     ∷ reads (rawOf rule1 (bytes "5 +01-0")) (Refused Form)
     ∷ reads (headerOf (bytes "5 +01-0")) (five (pos 3600))
-    -- "exactly two words" is all that is asked
+    -- RULES 5.6: "exactly two words", whatever white space is around them
     ∷ reads (rawOf rule1 (code " " ∷ bytes "5 +0100" ++ 10 ∷ [])) (five (pos 3600))
-    -- the byte after the sign has to be a digit in a header alone
+    -- RULES 5.4: only in a header the byte after the sign has to be a digit
     ∷ reads (headerOf (bytes "5 ++5+0")) (five (pos 0))
-    -- a byte of 128 or more is tested before a `:`
+    -- RULES 2.2: 1 is tested before 2
     ∷ reads (headerOf (code ":" ∷ 128 ∷ [])) (Refused NotAscii)
     ∷ reads (rawOf rule1 (128 ∷ [])) (Refused NotAscii)
     -- the least and the largest offset

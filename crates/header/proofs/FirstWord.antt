@@ -1,5 +1,5 @@
--- The number of the first word, by the number that leads it: the same if white space or the end follows (`number64-firstWord`); with
--- other bytes behind it, a header's unless it has a sign (`secondsOf-firstWord`).
+-- The number of the first word, from the number at its front. Both are the same if white space or the end of the text follows
+-- (`number64-firstWord`). If other bytes follow, it is the number of a header only without a sign (`secondsOf-firstWord`).
 -- Assumes nothing.
 use mathlib.Core.Path.{_≡_, refl, sym, ap, _∙_}
 use mathlib.Core.Bool.{Bool, true, false, cond, not, _||_}

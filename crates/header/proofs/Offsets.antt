@@ -1,9 +1,9 @@
--- An offset's word. In order: its length; how large a field is, so that no sum wraps; two digits; which way its tests go.
+-- An offset's word. In order: its length; how large a field is, so that no sum overflows; two digits; the cases of `fieldsOf`.
 -- Assumes nothing.
 use mathlib.Core.Path.{_≡_}
 use mathlib.Core.Bool.{Bool, true, false}
 use mathlib.Core.List.{List}
-use Prim.Native.Nat.{ℕ, _+_, _-_, _*_, _^_, _≤_, _<_}
+use Prim.Native.Nat.{ℕ, _+_, _^_, _≤_, _<_}
 use native.Mathlib.Omega.{arith}
 use borrow.Author.Tests.{eqb-true}
 use lib.Dec.{eqb}
@@ -23,7 +23,7 @@ use Rattle.text.proofs.Numbers.{Short, Below, signedOf-short, unsignedOf-below,
 use Rattle.text.proofs.Texts.{signedOf-of-unsignedOf}
 use Rattle.header.specs.Offset.{fiveOrSeven, fieldOf, lastField, together, fieldsOf}
 use Rattle.header.specs.Header.{headerOffset}
-use Rattle.header.specs.Held.{Small, AllSmall}
+use Rattle.header.specs.Held.{Small, AllSmall, twoDigits}
 use Rattle.header.specs.declared.offset.Field.{Field}
 use Rattle.header.specs.declared.offset.Field.the-variants.{Signed, Byte}
 use Rattle.header.specs.declared.offset.Fields.{Fields}
@@ -34,7 +34,7 @@ unfolding fiveOrSeven
 le-of-fiveOrSeven n e = by-test (eqb n 5) (λ a. omega (arith, eqb-true n 5 a)) (λ a. omega (arith, eqb-true n 7 (rw a at e)))
 
 -- ---- how large a field is
--- two bytes' number is below 100 in size
+-- the number of two bytes is below 100 in size
 abbrev TwoBytes : Integer → Type 0
 TwoBytes (Is z) = In (negsuc 98) (pos 99) z
 TwoBytes NotOne = Unit {0}
@@ -67,18 +67,18 @@ together-small minus (Is h) (Is m) NotOne p q r = tt
 
 -- ---- two digits are a number of either kind
 module _ (w : List ℕ) (at : ℕ) (h : at + 2 ≤ length w) (x : isDigit (getD w at 0) ≡ true) (y : isDigit (getD w (at + 1) 0) ≡ true) where
-  abbrev twoDigits : ℕ
-  twoDigits = 10 * (getD w at 0 - 48) + (getD w (at + 1) 0 - 48)
+  abbrev value : ℕ
+  value = twoDigits (getD w at 0) (getD w (at + 1) 0)
 
-  unsignedOf-digits : unsignedOf (take 2 (drop at w)) ≡ Value twoDigits
+  unsignedOf-digits : unsignedOf (take 2 (drop at w)) ≡ Value value
   unsignedOf-digits = rw (take-two-drop w at h) (unsignedOf-two-digits (getD w at 0) (getD w (at + 1) 0) x y)
 
-  pub fieldOf-of-digits : (by : Field) → fieldOf by w at ≡ Is (pos twoDigits)
+  pub fieldOf-of-digits : (by : Field) → fieldOf by w at ≡ Is (pos value)
   unfolding fieldOf
-  fieldOf-of-digits Signed = signedOf-of-unsignedOf (take 2 (drop at w)) twoDigits unsignedOf-digits
+  fieldOf-of-digits Signed = signedOf-of-unsignedOf (take 2 (drop at w)) value unsignedOf-digits
   fieldOf-of-digits Byte = rw (fit-take 255 (drop at w) (omega arith), unsignedOf-digits)
 
--- ---- which way the tests go
+-- ---- the cases of `fieldsOf`
 module _ (by : Field) (w : List ℕ) where
   pub fieldsOf-of-tests : fiveOrSeven (length w) ≡ true → isSign (getD w 0 0) ≡ true
       → fieldsOf by w ≡ together (eqb (getD w 0 0) 45) (fieldOf by w 1) (fieldOf by w 3) (lastField by w)

@@ -1,5 +1,6 @@
--- One pass over a text: where its scans stop, and what the places tell. In order: what was passed is ASCII and has no `:`; in a text
--- without a byte that ends a scan the places bound its words; all that the pass finds (`FirstWords-of-pass`).
+-- One pass over a text: the places where its scans stop, and what they say about the text. In order: the bytes that were passed
+-- are ASCII and no `:`; in a text without a byte that ends a scan, the places bound its words; all that the pass finds
+-- (`FirstWords-of-pass`).
 -- Assumes nothing.
 use mathlib.Core.Path.{_≡_, refl, sym, ap, _∙_}
 use mathlib.Core.Bool.{Bool, true, false, cond, not, _||_, false≢true}
@@ -21,8 +22,8 @@ use Rattle.text.proofs.Runs.{past-add, same-drop-past, has-drop-nil}
 use Rattle.text.proofs.Taking.{ltb-zero-length-words, getD-words-zero, drop-one-words}
 use Rattle.text.proofs.Numbers.{numeral-le-run}
 use Rattle.text.proofs.Plain.{plain, isPlain-of-isSign, isPlain-of-isDigit, ascii-cons, ascii-space, has-cons-of-ne, has-space, past-isPlain}
-use Rattle.header.specs.Offset.{onlyWord}
-use Rattle.header.specs.Held.{endsAt, spanOf, nowhere, secondWord, LeadsWithNumber, FirstWords}
+use Rattle.header.specs.Offset.{onlyWord, secondWord}
+use Rattle.header.specs.Held.{endsAt, spanOf, nowhere, LeadsWithNumber, FirstWords}
 use Rattle.header.proofs.FirstWord.{number64-firstWord, secondsOf-firstWord}
 
 -- ---- the places, from the end of the number on

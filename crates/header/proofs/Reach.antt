@@ -1,20 +1,19 @@
--- The offsets that a header can give: every one from -362439 to 362439, and no other. In order: none beyond (`header-offset-in`);
--- each is reached, beside any seconds (`header-offset-reached`), by a text whose fields are digits alone. So signs inside the
--- fields reach nothing new.
+-- The offsets that a header can give: every one from -362439 to 362439, and no other. In order: there is no other
+-- (`header-offset-in`); each of them is reached, with any seconds (`header-offset-reached`), by a text whose fields are digits
+-- alone. So signs inside the fields add nothing.
 -- Assumes nothing.
 use mathlib.Core.Path.{_≡_, refl, _∙_}
 use mathlib.Core.Bool.{true, false}
 use mathlib.Core.List.{List, [], _∷_}
-use Prim.Native.Nat.{ℕ, suc, _+_, _-_, _*_, _/_, _≤_, _<_, min}
+use Prim.Native.Nat.{ℕ, suc, _+_, _*_, _≤_, _<_}
 use native.Mathlib.Omega.{arith}
 use lib.IntN.{ℤ, pos, negsuc, natAbs}
-use Rattle.ints.specs.Range.{In}
 use Rattle.ints.proofs.Parts.{le-parts, parts-le, natAbs-parts, one-up, one-dn}
 use Rattle.ints.proofs.Machine.{in-add, in-mul, in-neg}
 use Rattle.text.specs.Bytes.{isSpace, isSign, ascii}
 use Rattle.text.specs.Places.{has}
 use Rattle.text.specs.Words.{words}
-use Rattle.text.specs.Decimal.{signedBefore, twoBefore}
+use Rattle.text.specs.Decimal.{twoBefore}
 use Rattle.text.specs.declared.number.Integer.{Integer}
 use Rattle.text.specs.declared.number.Integer.the-variants.{Is, NotOne}
 use Rattle.text.proofs.Lists.{by-test}
@@ -27,17 +26,14 @@ use Rattle.time.specs.declared.Answer.the-variants.{Time as At, Refused}
 use Rattle.header.specs.Offset.{onlyWord, offsetOf}
 use Rattle.header.specs.Held.{Small, AllSmall}
 use Rattle.header.specs.Header.{headerOf, headerOfWords, headerTime, headerOffset, secondsOf}
+use Rattle.header.specs.Theorems.{Seconds64, HeaderOffset, hoursIn, minutesIn, secondsIn, sevenBytes, headerWith}
 use Rattle.header.specs.declared.offset.Fields.{Fields}
 use Rattle.header.specs.declared.offset.Parsed.{Parsed}
 use Rattle.header.specs.declared.offset.Parsed.the-variants.{Offset, NoOffset}
 use Rattle.header.proofs.Offsets.{headerOffset-all-small}
-use Rattle.header.proofs.ReadBack.{Seconds64, signByte-between, two-between, offsetOf-fieldsAre, headerOffset-seven, headerOf-signedBefore}
+use Rattle.header.proofs.ReadBack.{signByte-between, two-between, offsetOf-fieldsAre, headerOffset-seven, headerOf-signedBefore}
 
--- from -362439, `-999999`, to 362439
-abbrev pub HeaderOffset : ℤ → Type 0
-HeaderOffset o = In (negsuc 362438) (pos 362439) o
-
--- ---- none beyond
+-- ---- no other
 zero-in : HeaderOffset (pos 0)
 zero-in = record { low = parts-le _ _ (omega arith); high = parts-le _ _ (omega arith) }
 
@@ -73,29 +69,12 @@ pub header-offset-in : (s : List ℕ) (t : Time) → headerOf s ≡ At t → Hea
 header-offset-in s t e = rw e at (headerOf-within s)
 
 -- ---- each is reached
--- n seconds as hours, minutes and seconds, each at most 99, the larger first
-abbrev hoursIn : ℕ → ℕ
-hoursIn n = min (n / 3600) 99
-
-abbrev minutesIn : ℕ → ℕ
-minutesIn n = min ((n - hoursIn n * 3600) / 60) 99
-
-abbrev secondsIn : ℕ → ℕ
-secondsIn n = n - hoursIn n * 3600 - minutesIn n * 60
-
 module _ (n : ℕ) (h : n ≤ 362439) where
   seconds-lt : secondsIn n < 100
   seconds-lt = omega arith
 
   clock-is : hoursIn n * 3600 + minutesIn n * 60 + secondsIn n ≡ n
   clock-is = omega arith
-
--- an offset in 7 bytes, and a header with it
-abbrev pub sevenBytes : ℤ → List ℕ
-sevenBytes o = signByte o ∷ twoBefore (hoursIn (natAbs o)) (twoBefore (minutesIn (natAbs o)) (twoBefore (secondsIn (natAbs o)) []))
-
-abbrev pub headerWith : ℤ → ℤ → List ℕ
-headerWith z o = signedBefore z (32 ∷ sevenBytes o)
 
 sevenBytes-between : (o : ℤ) → natAbs o ≤ 362439 → Between 33 57 (sevenBytes o)
 sevenBytes-between o h =
@@ -114,7 +93,7 @@ read-sevenBytes z (pos n) h =
 read-sevenBytes z (negsuc n) h =
     rw (headerOffset-seven 45 (hoursIn (suc n)) (minutesIn (suc n)) refl (omega arith) (omega arith) (secondsIn (suc n)) (seconds-lt (suc n) h), offsetOf-fieldsAre true (hoursIn (suc n)) (minutesIn (suc n)) (secondsIn (suc n)) (suc n) (clock-is (suc n) h))
 
--- every offset from -362439 to 362439 is some header's, beside any seconds of 64 bits
+-- every offset from -362439 to 362439 is that of a header, with any seconds of 64 bits
 pub header-offset-reached : (z o : ℤ) → Seconds64 z → HeaderOffset o → headerOf (headerWith z o) ≡ At (timeAt z o)
 header-offset-reached z o r p =
     let h : natAbs o ≤ 362439 = omega (arith, le-parts (p .low), le-parts (p .high), natAbs-parts o, one-up o, one-dn o) in

@@ -1,38 +1,39 @@
--- What the writer writes, the header reader reads back: the seconds, and the offset cut toward zero to whole minutes
--- (`header-read-back`). In order: the seconds' word; an offset's word of digits; any header of such words; the promise.
+-- What the writer writes, the header reader reads back (RULES 12.2): the seconds, and the offset cut toward zero to whole
+-- minutes, from the bytes of a header (`header-read-back`) and from the room that a call has written to
+-- (`header-read-back-in-room`). In order: the seconds' word; an offset's word of digits; any header of such words; what the
+-- writer writes.
 -- Assumes nothing.
 use mathlib.Core.Path.{_≡_, refl, ap, _∙_}
 use mathlib.Core.Bool.{Bool, true, false, cond}
 use mathlib.Core.List.{List, [], _∷_}
-use Prim.Native.Nat.{ℕ, suc, _+_, _-_, _*_, _/_, _%_, _^_, _≤_, _<_}
+use Prim.Native.Nat.{ℕ, suc, _+_, _*_, _/_, _%_, _≤_, _<_}
 use native.Mathlib.Omega.{arith}
 use lib.Dec.{eqb}
 use lib.IntN.{ℤ, pos, negsuc, negℤ, natAbs}
-use lib.ListN.{length}
-use Rattle.ints.specs.Range.{In}
+use lib.ListN.{length, take}
 use Rattle.text.specs.Bytes.{isSpace, isSign}
 use Rattle.text.specs.Words.{words}
 use Rattle.text.specs.Decimal.{signed, signedBefore, twoBefore}
 use Rattle.text.specs.declared.number.Integer.the-variants.{Is}
+use Rattle.text.specs.Room.{roomAfter}
 use Rattle.text.proofs.Numbers.{isDigit-of-le}
 use Rattle.text.proofs.Decimals.{Between, twoBefore-between}
 use Rattle.text.proofs.Signed.{signedBefore-append, length-signed-pos, signedBefore-between, signed-between, fitSigned-signed}
 use Rattle.text.proofs.Taking.{words-append, words-of-whole}
-use Rattle.time.specs.Answers.{timeAt}
-use Rattle.time.specs.Header.{headerBytes, headerSign, offsetBytes, signByte, wholeMinutes, cutToMinutes}
+use Rattle.time.specs.Answers.{timeAt, isWritten}
+use Rattle.time.specs.Header.{headerBytes, headerSign, headerWritten, offsetBytes, signByte, wholeMinutes, cutToMinutes}
 use Rattle.time.specs.declared.Time.{Time}
+use Rattle.time.specs.declared.Written.the-variants.{Length}
 use Rattle.time.specs.declared.Answer.the-variants.{Time as At}
 use Rattle.header.specs.Offset.{fiveOrSeven, fieldOf, lastField, fieldsOf, offsetOf}
 use Rattle.header.specs.Header.{headerOf, headerOfWords, headerTime, secondsOf, headerOffset}
+use Rattle.header.specs.Theorems.{Seconds64}
 use Rattle.header.specs.declared.offset.Fields.{Fields}
 use Rattle.header.specs.declared.offset.Parsed.the-variants.{Offset}
 use Rattle.text.proofs.Texts.{ascii-of-between, no-colon-of-between, whole-of-between, Between-le, signedOf-two}
+use Rattle.header.proofs.Written.{offset-lt-of-written, take-roomAfter}
 
 -- ---- the seconds' word
--- the seconds that 64 bits hold
-abbrev pub Seconds64 : ℤ → Type 0
-Seconds64 z = In (negsuc (2 ^ 63 - 1)) (pos (2 ^ 63 - 1)) z
-
 secondsOf-signed : (z : ℤ) → Seconds64 z → secondsOf (signed z) ≡ Is z
 unfolding secondsOf
 secondsOf-signed z r = rw (fitSigned-signed z r)
@@ -101,9 +102,14 @@ read-written z (pos n) h =
 read-written z (negsuc n) h =
     rw (headerOffset-five 45 (suc n / 60 / 60) (suc n / 60 % 60) refl (omega arith) (omega arith), offsetOf-fieldsAre true (suc n / 60 / 60) (suc n / 60 % 60) 0 (suc n / 60 * 60) (omega arith))
 
--- every time of 64-bit seconds and an offset under 100 hours, written and read: the seconds, and the offset cut to whole minutes
+-- the bytes of a header with an offset under 100 hours read back with the same seconds, and the offset cut to whole minutes
 pub header-read-back : (t : Time) → Seconds64 (t .seconds) → natAbs (t .offset) < 360000
     → headerOf (headerBytes t) ≡ At (timeAt (t .seconds) (cutToMinutes (t .offset)))
 unfolding headerBytes headerSign
 header-read-back t r h =
     headerOf-signedBefore (t .seconds) (written (t .offset)) r (omega arith) (written-between (t .offset) h) ∙ read-written (t .seconds) (t .offset) h
+
+-- and so does what a call that wrote n bytes has left in the first n bytes of the room
+pub header-read-back-in-room : (t : Time) (room : List ℕ) (n : ℕ) → Seconds64 (t .seconds) → headerWritten t room ≡ Length n
+    → headerOf (take n (roomAfter (isWritten (headerWritten t room)) (headerBytes t) room)) ≡ At (timeAt (t .seconds) (cutToMinutes (t .offset)))
+header-read-back-in-room t room n r e = rw (take-roomAfter t room n e) (header-read-back t r (offset-lt-of-written t room n e))

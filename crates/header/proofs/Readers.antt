@@ -1,5 +1,5 @@
--- What the readers answer by what one pass finds: `headerOf-of-words`, `rawOf-of-words`. The raw reader tests no `:`, because no number and
--- no offset holds one (`no-colon-of-raw`).
+-- What the readers answer, from what one pass finds: `headerOf-of-words`, `rawOf-of-words`. The raw reader does not test for a
+-- `:`, because no number and no offset holds one (`no-colon-of-raw`).
 -- Assumes nothing.
 use mathlib.Core.Path.{_≡_, refl, sym, _∙_}
 use mathlib.Core.Bool.{Bool, true, false, cond, false≢true}
@@ -17,10 +17,10 @@ use Rattle.text.proofs.Numbers.{fitSigned-value}
 use Rattle.text.proofs.Texts.{Lacking, not-has-of-words, no-colon-of-between, between-of-signedOf}
 use Rattle.time.specs.declared.Answer.the-variants.{Refused}
 use Rattle.time.specs.declared.Refusal.the-variants.{Form}
-use Rattle.header.specs.Offset.{onlyWord, fiveOrSeven, fieldsOf}
+use Rattle.header.specs.Offset.{onlyWord, secondWord, fiveOrSeven, fieldsOf}
 use Rattle.header.specs.Header.{number64, secondsOf, headerOffset, headerTime, headerOfWords, headerOf}
 use Rattle.header.specs.Raw.{Limits, rawTime, rawOfWords, rawOf}
-use Rattle.header.specs.Held.{firstWord, secondWord, WordsRead}
+use Rattle.header.specs.Held.{firstWord, WordsRead}
 use Rattle.header.specs.declared.offset.Field.{Field}
 use Rattle.header.specs.declared.offset.Field.the-variants.{Byte}
 use Rattle.header.specs.declared.offset.Fields.{Fields}
@@ -31,7 +31,7 @@ use Rattle.header.specs.declared.walk.Walked.the-variants.{Words}
 use Rattle.header.proofs.FirstWord.{number64-nil}
 use Rattle.header.proofs.Unsigned.{fieldsOf-some, no-colon-of-fieldsOf}
 
--- ---- by the first word and the only other
+-- ---- from the first word and the only other
 secondsOf-nil : secondsOf [] ≡ NotOne
 unfolding secondsOf run signedOf fitSigned
 secondsOf-nil = refl
@@ -68,7 +68,7 @@ pub no-colon-of-raw : (s : List ℕ) (z : ℤ) (f : Fields) → number64 (firstW
 unfolding isSpace
 no-colon-of-raw s z f n p = not-has-of-words 58 isSpace refl s (lacking (words isSpace s) z f n p)
 
--- so where there is one, raw sees no offset behind a number
+-- so if there is one, raw has no number or no offset
 rawTime-NoOffset : (l : Limits) (i : Integer) (p : Parsed) → ((z : ℤ) (f : Fields) → i ≡ Is z → p ≡ Offset f → ⊥) → rawTime l i p ≡ rawTime l i NoOffset
 rawTime-NoOffset l (Is z) (Offset f) never = absurd (never z f refl refl)
 rawTime-NoOffset l (Is z) NoOffset never = refl
@@ -79,7 +79,7 @@ rawTime-of-colon : (l : Limits) (s : List ℕ) (colon : Bool) → colon ≡ has 
 rawTime-of-colon l s true h = rw (fieldsOf-nil Byte) (rawTime-NoOffset l _ _ (λ z f n p. false≢true (sym (no-colon-of-raw s z f n p) ∙ sym h)))
 rawTime-of-colon l s false h = refl
 
--- ---- by what one pass finds
+-- ---- from what one pass finds
 module _ (s : List ℕ) (f : First) (w : WordsRead s (Words f)) where
   pub headerOf-of-colon : f .colon ≡ true → headerOf s ≡ Refused Form
   unfolding headerOf

@@ -1,5 +1,5 @@
--- An offset's word whose fields are unsigned numbers, as the raw reader asks: its fields are the same signed (`fieldsOf-signed`),
--- and there is no `:` in it (`no-colon-of-fieldsOf`).
+-- An offset's word whose fields are unsigned numbers, as in a raw date: read as signed numbers they are the same
+-- (`fieldsOf-signed`), and there is no `:` in the word (`no-colon-of-fieldsOf`).
 -- Assumes nothing.
 use mathlib.Core.Path.{_≡_, refl, sym, _∙_}
 use mathlib.Core.Bool.{Bool, true, false, false≢true}
@@ -57,7 +57,7 @@ together-same minus NotOne m x f e p q r = let z : _≡_ {A = ℕ} 0 1 = cc in a
 together-same minus (Is h) NotOne x f e p q r = let z : _≡_ {A = ℕ} 0 1 = cc in absurd (omega arith)
 together-same minus (Is h) (Is m) NotOne f e p q r = let z : _≡_ {A = ℕ} 0 1 = cc in absurd (omega arith)
 
--- numbers all three
+-- all three are numbers
 record Numbers (h m x : Integer) : Type 0 where
   hours : ℤ
   hours-is : h ≡ Is hours

@@ -1,4 +1,4 @@
--- The examples of headers and raw dates that the rules mark to be proved together.
+-- The worked examples of headers and raw dates that are marked P (RULES 11.1, 11.3 and 11.4): they are proved together.
 -- Assumes nothing.
 use mathlib.Core.List.{List, [], _∷_}
 use lib.IntN.{ℤ, pos, negsuc}
@@ -23,7 +23,7 @@ marked =
     ∷ reads (headerOf (bytes "5 +01:00")) (Refused Form)
     ∷ reads (headerOf (bytes "5 +00-5")) (five (negsuc 299))
     ∷ reads (headerOf (bytes "5 +0100 x")) (five (pos 0))
-    -- offset -30 writes `-0000`, which reads as 0
+    -- offset -30 is written `-0000`, which is read as 0
     ∷ writes (headerBytes (timeAt (pos 5) (negsuc 29))) (bytes "5 -0000")
     ∷ reads (headerOf (bytes "5 -0000")) (five (pos 0))
     ∷ reads (rawOf rule1 (bytes "5 +1445")) (five (pos 53100))

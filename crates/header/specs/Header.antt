@@ -1,5 +1,5 @@
--- Document 01, "Reading headers and raw dates": the header, `1745582210 +0200`, seconds since 1970 and an offset in seconds. Two
--- anchors: `12abc` is 12 at offset 0, and `5 +00-5` is 5 at offset -300.
+-- Headers (RULES 5.1 to 5.5), such as `1745582210 +0200`: seconds since 1970 and an offset in seconds. Two examples: `12abc` is
+-- 12 at offset 0, and `5 +00-5` is 5 at offset -300.
 -- Assumes nothing.
 use Prim.Native.Nat.{ℕ, _^_}
 use Prim.Native.Char.{code}
@@ -22,34 +22,35 @@ use Rattle.header.specs.declared.offset.Field.the-variants.{Signed}
 use Rattle.header.specs.declared.offset.Parsed.{Parsed}
 use Rattle.header.specs.declared.offset.Parsed.the-variants.{Offset, NoOffset}
 
--- a 64-bit number
+-- a 64-bit number (RULES 4.2)
 abbrev pub number64 : List ℕ → Integer
 number64 w = fitSigned (2 ^ 63) (signedOf w)
 
--- the first, or the other where it is no number
+-- the first if it is a number, else the other
 abbrev pub orElse : Integer → Integer → Integer
 orElse (Is z) other = Is z
 orElse NotOne other = other
 
--- first word: a 64-bit number, else its leading digits as one
+-- RULES 5.2: the first word is a 64-bit number, or else its leading digits are one
 unfoldable pub secondsOf : List ℕ → Integer
 secondsOf w = orElse (number64 w) (number64 (leading isDigit w))
 
--- a second word is an offset if it has 5 or 7 bytes, a sign, then a digit, and its two-byte fields are signed numbers
+-- RULES 5.4: a second word is an offset if it has 5 or 7 bytes, of which the first is a sign and the second a digit, and if its
+-- two-byte fields are signed numbers
 unfoldable pub headerOffset : List ℕ → Parsed
 headerOffset w = cond (isDigit (getD w 1 0)) (fieldsOf Signed w) NoOffset
 
--- no number is 2; no offset, or a bad one, is offset 0 and not a refusal
+-- RULES 5.2 and 5.4: without a number the answer is 2; without an offset, the offset is 0, which is not a refusal
 abbrev pub headerTime : Integer → Parsed → Answer
 headerTime (Is s) (Offset f) = Time (readTime s f)
 headerTime (Is s) NoOffset = Time (timeAt s (pos 0))
 headerTime NotOne p = Refused Form
 
--- no word is 2; no second word, or a third word, gives offset 0
+-- RULES 5.3: without a second word, or with a third, the offset is 0. Without any word the answer is 2
 unfoldable pub headerOfWords : List (List ℕ) → Answer
 headerOfWords [] = Refused Form
 headerOfWords (w ∷ ws) = headerTime (secondsOf w) (headerOffset (onlyWord ws))
 
--- a byte of 128 or more is 1; then a `:` anywhere is 2
+-- a byte of 128 or more is 1 (RULES 2.1); then a `:` anywhere is 2 (RULES 5.1)
 unfoldable pub headerOf : List ℕ → Answer
 headerOf s = cond (ascii s) (cond (has (code ":") s) (Refused Form) (headerOfWords (words isSpace s))) (Refused NotAscii)

@@ -1,8 +1,7 @@
--- What the code holds on the way to an answer: fields that are small enough to add up, the number that a text's first word leads
--- with, the form that every commit has, and what one pass over a text finds. Nothing here is needed to read what `parse_header` and
--- `parse_raw` ensure.
+-- What the code holds on the way to an answer: fields that are small enough to add up, the number at the front of the first word,
+-- the usual form, and what one pass over a text finds. Nothing here is needed to read what `parse_header` and `parse_raw` ensure.
 -- Assumes nothing.
-use Prim.Native.Nat.{ℕ, _+_, _^_}
+use Prim.Native.Nat.{ℕ, _+_, _-_, _*_, _^_}
 use Prim.Native.Char.{code}
 use mathlib.Core.Path.{_≡_}
 use mathlib.Core.Bool.{Bool, true, false, cond, _&&_}
@@ -18,7 +17,7 @@ use Rattle.text.specs.Number.{LeadsWith}
 use Rattle.text.specs.declared.number.Integer.the-variants.{NotOne}
 use Rattle.text.specs.declared.number.LeadingInteger.{LeadingInteger}
 use Rattle.text.specs.declared.words.Span.{Span}
-use Rattle.header.specs.Offset.{onlyWord, fieldsOf}
+use Rattle.header.specs.Offset.{secondWord, fieldsOf}
 use Rattle.header.specs.Header.{number64, secondsOf}
 use Rattle.header.specs.declared.offset.Field.the-variants.{Byte}
 use Rattle.header.specs.declared.offset.Fields.{Fields}
@@ -38,11 +37,15 @@ abbrev pub AllSmall : Parsed → Type 0
 AllSmall (Offset f) = Small f
 AllSmall NoOffset = Unit {0}
 
--- the number that the first word leads with, and where it ends
+-- the value of two digits
+abbrev pub twoDigits : ℕ → ℕ → ℕ
+twoDigits tens ones = 10 * (tens - code "0") + (ones - code "0")
+
+-- the number at the front of the first word, and where it ends
 abbrev pub LeadsWithNumber : List ℕ → LeadingInteger → Type 0
 LeadsWithNumber s r = let first = past isSpace s 0 in LeadsWith (2 ^ 63) (drop first s) first r
 
--- the tail that every commit's date has from a place on: a space, a sign, four digits, and nothing more
+-- whether the usual tail begins at a place: a space, a sign, four digits, and nothing more
 unfoldable pub isUsual : List ℕ → ℕ → Bool
 isUsual s at =
     let byte : ℕ → ℕ = λ i. getD s (at + i) 0 in
@@ -53,7 +56,7 @@ isUsual s at =
 unfoldable pub usualOf : List ℕ → ℕ → Parsed
 usualOf s at = cond (isUsual s at) (fieldsOf Byte (drop (at + 1) s)) NoOffset
 
--- no word goes on at a place: white space or the end is there
+-- whether a word ends at a place: white space or the end of the text is there
 unfoldable pub endsAt : List ℕ → ℕ → Bool
 endsAt s at = eqb (run (no isSpace) (drop at s)) 0
 
@@ -63,17 +66,14 @@ spanOf start end = record { start = start; end = end }
 abbrev pub nowhere : Span
 nowhere = spanOf 0 0
 
--- the first word, and the second where there is no third; the empty text if there is none, which is neither number nor offset
+-- the first word; the empty text if there is none, which is no number
 abbrev pub firstWord : List ℕ → List ℕ
 firstWord s = getD (words isSpace s) 0 []
-
-abbrev pub secondWord : List ℕ → List ℕ
-secondWord s = onlyWord (drop 1 (words isSpace s))
 
 abbrev pub hasColon : List ℕ → Bool
 hasColon s = has (code ":") s
 
--- what one pass finds. A `:` ends each scan, so where there is one the bounds of the second word are empty
+-- what one pass finds. A `:` ends every scan, so if there is one the bounds of the second word are empty
 pub record FirstWords (s : List ℕ) (f : First) : Type 0 where
   pub number-is : f .number ≡ secondsOf (firstWord s)
   pub whole-is : cond (f .whole) (f .number) NotOne ≡ number64 (firstWord s)

@@ -1,6 +1,6 @@
--- Document 01, "Reading headers and raw dates": what an offset's word holds, where the two readers say the same: 5 or 7 bytes, a
--- sign, then two-byte fields: hours, minutes, perhaps seconds. They differ in the numbers that a field may be. Two anchors:
--- `+0130` is 5400, and `-01-5`, whose minutes are -5, is -3300.
+-- The word of an offset, as far as headers and raw dates agree on it (RULES 5.4 to 5.7): 5 or 7 bytes, of which the first is a
+-- sign, and then two-byte fields: hours, minutes, and with 7 bytes seconds. They differ in the numbers that a field may be. Two
+-- examples: `+0130` is 5400, and `-01-5`, whose minutes are -5, is -3300.
 -- Assumes nothing.
 use Prim.Native.Nat.{ℕ}
 use Prim.Native.Char.{code}
@@ -9,7 +9,8 @@ use mathlib.Core.List.{List, [], _∷_}
 use lib.Dec.{eqb}
 use lib.IntN.{ℤ, pos, negℤ, _+ℤ_, _*ℤ_}
 use lib.ListN.{length, take, drop, getD}
-use Rattle.text.specs.Bytes.{isSign}
+use Rattle.text.specs.Bytes.{isSpace, isSign}
+use Rattle.text.specs.Words.{words}
 use Rattle.text.specs.Number.{signedOf, unsignedOf, fit, plus}
 use Rattle.text.specs.declared.number.Integer.{Integer}
 use Rattle.text.specs.declared.number.Integer.the-variants.{Is, NotOne}
@@ -21,11 +22,15 @@ use Rattle.header.specs.declared.offset.Fields.{Fields}
 use Rattle.header.specs.declared.offset.Parsed.{Parsed}
 use Rattle.header.specs.declared.offset.Parsed.the-variants.{Offset, NoOffset}
 
--- of the words past the first: the second word, if there is no third. The empty text stands for none, and is no offset
+-- of the words past the first: the second word, if there is no third. Otherwise it is the empty text, which is no offset
 abbrev pub onlyWord : List (List ℕ) → List ℕ
 onlyWord [] = []
 onlyWord (w ∷ []) = w
 onlyWord (w ∷ v ∷ ws) = []
+
+-- the second word of a text, if there is no third
+abbrev pub secondWord : List ℕ → List ℕ
+secondWord s = onlyWord (drop 1 (words isSpace s))
 
 -- 5 or 7 bytes
 unfoldable pub fiveOrSeven : ℕ → Bool
@@ -36,11 +41,11 @@ unfoldable pub fieldOf : Field → List ℕ → ℕ → Integer
 fieldOf Signed w at = signedOf (take 2 (drop at w))
 fieldOf Byte w at = plus (fit 255 (unsignedOf (take 2 (drop at w))))
 
--- perhaps seconds: with 7 bytes
+-- the seconds: a field if there are 7 bytes, otherwise 0
 unfoldable pub lastField : Field → List ℕ → Integer
 lastField by w = cond (eqb (length w) 7) (fieldOf by w 5) (Is (pos 0))
 
--- hours, minutes, seconds behind a sign, if all are numbers
+-- hours, minutes and seconds after a sign, if all are numbers
 abbrev pub together : Bool → Integer → Integer → Integer → Parsed
 together minus (Is h) (Is m) (Is x) = Offset (record { minus = minus; hours = h; minutes = m; seconds = x })
 together minus NotOne m x = NoOffset
@@ -58,10 +63,10 @@ fieldsOf by w =
 abbrev sumOf : Fields → ℤ
 sumOf f = f .hours *ℤ pos 3600 +ℤ f .minutes *ℤ pos 60 +ℤ f .seconds
 
--- what they mean: a sign before the fields is a sign of the offset, and turns the whole sum
+-- RULES 5.5: the sign in front belongs to the whole offset
 unfoldable pub offsetOf : Fields → ℤ
 offsetOf f = cond (f .minus) (negℤ (sumOf f)) (sumOf f)
 
--- the time that seconds and the fields beside them give
+-- the time of these seconds and fields
 abbrev pub readTime : ℤ → Fields → Time
 readTime s f = timeAt s (offsetOf f)

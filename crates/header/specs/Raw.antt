@@ -1,5 +1,5 @@
--- Document 01, "Reading headers and raw dates": raw dates. The limits on hours and minutes are a parameter, fixed by rule 1. Two
--- anchors: `5 +1445` is 5 at offset 53100, and `5 ++5+0` is 5 at offset 18000.
+-- Raw dates (RULES 5.6 and 5.7). The limits on hours and minutes are a parameter; those of RULES 5.7 are called rule 1. Two
+-- examples: `5 +1445` is 5 at offset 53100, and `5 ++5+0` is 5 at offset 18000.
 -- Assumes nothing.
 use Prim.Native.Nat.{ℕ}
 use mathlib.Core.Bool.{Bool, cond, _&&_, _||_}
@@ -23,12 +23,12 @@ use Rattle.header.specs.declared.offset.Parsed.the-variants.{Offset, NoO
 use Rattle.header.specs.declared.raw.Rule.{Rule}
 use Rattle.header.specs.declared.raw.Rule.the-variants.{One}
 
--- which hours and which minutes are let through
+-- which hours and which minutes are allowed
 pub record Limits : Type 0 where
   pub hours : ℤ → Bool
   pub minutes : ℤ → Bool
 
--- hours at most 14; minutes 0, 15, 30 or 45
+-- hours are at most 14; minutes are 0, 15, 30 or 45
 abbrev pub rule1 : Limits
 rule1 =
     record {
@@ -40,21 +40,22 @@ rule1 =
 abbrev pub limitsOf : Rule → Limits
 limitsOf One = rule1
 
--- within the limits; seconds 0
+-- the fields are within the limits, and seconds are 0
 unfoldable pub allows : Limits → Fields → Bool
 allows l f = l .hours (f .hours) && l .minutes (f .minutes) && eqZ (f .seconds) (pos 0)
 
--- 2 unless both are read, and the limits let the fields through
+-- the answer is 2 unless there are a number and an offset, and the limits allow its fields
 abbrev pub rawTime : Limits → Integer → Parsed → Answer
 rawTime l (Is s) (Offset f) = cond (allows l f) (Time (readTime s f)) (Refused Form)
 rawTime l (Is s) NoOffset = Refused Form
 rawTime l NotOne p = Refused Form
 
--- exactly two words, the first a 64-bit number, the second 5 or 7 bytes opening with a sign; fields are unsigned 8-bit
+-- RULES 5.6: exactly two words, of which the first is a 64-bit number and the second an offset; RULES 5.7: its fields are
+-- unsigned 8-bit numbers
 unfoldable pub rawOfWords : Limits → List (List ℕ) → Answer
 rawOfWords l [] = Refused Form
 rawOfWords l (w ∷ ws) = rawTime l (number64 w) (fieldsOf Byte (onlyWord ws))
 
--- a byte of 128 or more is 1
+-- a byte of 128 or more is 1 (RULES 2.1)
 unfoldable pub rawOf : Limits → List ℕ → Answer
 rawOf l s = cond (ascii s) (rawOfWords l (words isSpace s)) (Refused NotAscii)

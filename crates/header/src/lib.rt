@@ -1,6 +1,7 @@
-// The dates of commits: the header reader, `1745582210 +0200`, and in `raw` the stricter one. Each
-// answers for every text, of any length and any bytes, in one pass from front to end, and copies no
-// part of it. The usual form (number, space, sign, four digits) is recognised as soon as the number
+// Headers and raw dates (RULES 5), the forms in which commits hold dates. `parse_header` reads a
+// header, such as `1745582210 +0200`. `raw::parse_raw` reads a raw date, and is stricter. Both
+// answer for every text, of any length and any bytes, in one pass from front to end, and copy
+// nothing. The usual form (number, space, sign, four digits) is recognised as soon as the number
 // ends. Any other text reads those six bytes twice.
 mod offset;
 pub mod raw;
@@ -21,9 +22,10 @@ use time::Answer;
 use time::Refusal;
 use time::Time;
 
-// A header date. 1 for a byte of 128 or more, then 2 for a `:` anywhere and for a first word that
-// gives no number. A bad or surplus second word is no refusal: it gives offset 0. A number alone and the
-// usual form need no further look at the words.
+// Reads a header (RULES 5.1 to 5.5). The answer is refusal 1 if the text holds a byte of 128 or
+// more, and then refusal 2 if it holds a `:` or its first word gives no number. Without a second
+// word, with one that is no offset, or with a third word, the offset is 0. A number alone and the
+// usual form need no scan for words.
 pub fn parse_header(s: &[u8]) -> Answer
     ensures { λ r. ⌜ r ≡ headerOf (now (s .entry)) ⌝ }
 {
@@ -40,7 +42,7 @@ pub fn parse_header(s: &[u8]) -> Answer
     header_time(number, Parsed::Offset(f))
 }
 
-// A text of any other form: all its words are read.
+// Reads a text of any other form word by word.
 fn parse_other(s: &[u8], opening: LeadingInteger) -> Answer
     requires { ⌜ LeadsWithNumber (now s) opening ⌝ }
     ensures { λ r. ⌜ r ≡ headerOf (now (s .entry)) ⌝ }
@@ -57,7 +59,7 @@ fn parse_other(s: &[u8], opening: LeadingInteger) -> Answer
     header_time(number, parse_offset(words::within(s, word)))
 }
 
-// No number is 2; no offset is 0.
+// Without a number the answer is refusal 2. Without an offset, the offset is 0.
 fn header_time(n: Integer, p: Parsed) -> Answer
     requires { ⌜ AllSmall p ⌝ }
     ensures { λ r. ⌜ r ≡ headerTime n p ⌝ }
@@ -71,14 +73,14 @@ fn header_time(n: Integer, p: Parsed) -> Answer
     }
 }
 
-// A header whose offset is missing or bad is not refused: it is the time at offset 0.
+// A header without an offset is not refused (RULES 5.4). It is the time t, at offset 0.
 fn without_offset(t: Time) -> Answer
     ensures { λ r. ⌜ r ≡ At t ⌝ }
 {
     Answer::Time(t)
 }
 
-// A digit has to follow the sign; a text of fewer than two bytes has none there.
+// The word of a header's offset (RULES 5.4): a digit has to follow the sign.
 fn parse_offset(w: &[u8]) -> Parsed
     ensures { λ r. ⌜ r ≡ headerOffset (now (w .entry)) ⌝ }
 {

@@ -1,29 +1,32 @@
-// What an offset's word holds, for both readers: 5 or 7 bytes, a sign, and behind it two-byte
-// fields: hours, minutes, perhaps seconds. The readers differ in the numbers that a field may be. The
-// word of every commit, a sign and four digits, is read in one step.
+// The word of an offset, for both readers (RULES 5.4 to 5.7): 5 or 7 bytes, of which the first is a
+// sign, and then two-byte fields: hours, minutes, and with 7 bytes seconds. The readers differ in
+// the numbers that a field may be. The usual word, a sign and four digits, is read in one step.
 ghost use mathlib.Core.Path.{_≡_};
 ghost use mathlib.Core.Bool.{true, _&&_};
-ghost use Prim.Native.Nat.{_+_, _-_, _*_, _≤_};
+ghost use Prim.Native.Nat.{_+_, _≤_};
 ghost use lib.IntN.{pos};
 ghost use lib.ListN.{length};
 ghost use Rattle.text.specs.Bytes.{isDigit};
 ghost use Rattle.text.specs.Number.{plus, AtMost};
 ghost use Rattle.header.specs.Offset.{fiveOrSeven, fieldOf, lastField, fieldsOf, offsetOf, readTime};
-ghost use Rattle.header.specs.Held.{Small, usualOf};
+ghost use Rattle.header.specs.Held.{Small, twoDigits, usualOf};
 use text::bytes;
 use text::number;
 use text::number::Integer;
 use text::number::Number;
 use time::Time;
 
-// What a field may be: a signed number, so `-5` is one; or an unsigned one of 8 bits, which `+5` is
-// and `-5` is not.
+// The largest unsigned 8-bit number.
+const LARGEST_8_BIT: u64 = 255;
+
+// Which numbers a field may be. In a header it is a signed number, so `-5` is a field. In a raw
+// date it is an unsigned 8-bit number, so `+5` is a field and `-5` is not.
 pub enum Field {
     Signed,
     Byte,
 }
 
-// The sign in front, and the numbers behind it.
+// The sign of an offset, and the fields after it.
 pub struct Fields {
     pub minus: bool,
     pub hours: i64,
@@ -31,14 +34,16 @@ pub struct Fields {
     pub seconds: i64,
 }
 
+// The fields of an offset, or no offset.
 pub enum Parsed {
     Offset(Fields),
     NoOffset,
 }
 
-// The fields of the tail that every commit's date has behind its number: a space, a sign, four digits, and nothing more. Both
-// readers read the same from it, since two digits are a field of either kind. The six bytes are tested
-// without a branch between them; any other tail gives no offset.
+// The fields of the usual tail, which follows the number of nearly every date: a space, a sign,
+// four digits, and nothing more. Both readers read the same from it, since two digits are a field
+// of either kind. The six bytes are tested without a branch between them. There is no offset if the
+// tail is of another form.
 pub fn usual_fields(s: &[u8], at: usize) -> Parsed
     requires { ⌜ at ≤ length (now s) ⌝ }
     ensures { λ r. ⌜ r ≡ usualOf (now (s .entry)) at ⌝ }
@@ -65,6 +70,7 @@ pub fn usual_fields(s: &[u8], at: usize) -> Parsed
     Parsed::NoOffset
 }
 
+// The fields of the word w, if it is an offset.
 pub fn parse_fields(w: &[u8], by: Field) -> Parsed
     ensures { λ r. ⌜ r ≡ fieldsOf by (now (w .entry)) ⌝ }
 {
@@ -100,8 +106,8 @@ fn five_or_seven(n: usize) -> bool
     (n == 5) | (n == 7)
 }
 
-// The two bytes from `at`. Two digits are a number of either kind, and nearly all fields are two
-// digits.
+// The field in the two bytes from `at`. Nearly all fields are two digits, which are a number of
+// either kind.
 fn parse_field(w: &[u8], at: usize, by: Field) -> Integer
     requires { ⌜ at + 2 ≤ length (now w) ⌝ }
     ensures { λ r. ⌜ r ≡ fieldOf by (now (w .entry)) at ⌝ }
@@ -112,8 +118,8 @@ fn parse_field(w: &[u8], at: usize, by: Field) -> Integer
         return Integer::Is(two_digits(tens, ones));
     }
     match by {
-        Field::Signed => number::signed_number(&w[at..at + 2], 2147483648),
-        Field::Byte => widened(number::unsigned_number(&w[at..at + 2], 255)),
+        Field::Signed => number::signed_number(&w[at..at + 2], number::HALF_32),
+        Field::Byte => as_integer(number::unsigned_number(&w[at..at + 2], LARGEST_8_BIT)),
     }
 }
 
@@ -125,12 +131,12 @@ fn both_digits(tens: u8, ones: u8) -> bool
 
 fn two_digits(tens: u8, ones: u8) -> i64
     requires { ⌜ (isDigit tens ≡ true) × (isDigit ones ≡ true) ⌝ }
-    ensures { λ r. ⌜ r ≡ pos (10 * (tens - 48) + (ones - 48)) ⌝ }
+    ensures { λ r. ⌜ r ≡ pos (twoDigits tens ones) ⌝ }
 {
     (10 * (tens - b'0') + (ones - b'0')) as i64
 }
 
-// Only a word of 7 bytes has seconds. They are 0 in one of 5.
+// The seconds. Only a word of 7 bytes has them; in a word of 5 bytes they are 0.
 fn last_field(w: &[u8], by: Field) -> Integer
     ensures { λ r. ⌜ r ≡ lastField by (now (w .entry)) ⌝ }
 {
@@ -140,7 +146,8 @@ fn last_field(w: &[u8], by: Field) -> Integer
     Integer::Is(0)
 }
 
-fn widened(n: Number) -> Integer
+// The same number, as a signed one.
+fn as_integer(n: Number) -> Integer
     requires { ⌜ AtMost 255 n ⌝ }
     ensures { λ r. ⌜ r ≡ plus n ⌝ }
 {
@@ -150,7 +157,7 @@ fn widened(n: Number) -> Integer
     }
 }
 
-// The one place that makes a time from an offset's fields.
+// The time of these seconds and fields. Both readers make their times here.
 pub fn read_time(z: i64, f: Fields) -> Time
     requires { ⌜ Small f ⌝ }
     ensures { λ r. ⌜ r ≡ readTime z f ⌝ }
@@ -158,7 +165,7 @@ pub fn read_time(z: i64, f: Fields) -> Time
     Time::new(z, seconds_of(f))
 }
 
-// The sign turns the whole sum, not the hours alone.
+// The sign belongs to the whole sum, not to the hours alone (RULES 5.5).
 fn seconds_of(f: Fields) -> i32
     requires { ⌜ Small f ⌝ }
     ensures { λ r. ⌜ r ≡ offsetOf f ⌝ }
@@ -166,7 +173,9 @@ fn seconds_of(f: Fields) -> i32
     let h = f.hours;
     let m = f.minutes;
     let x = f.seconds;
-    let sum = h * 3600 + m * 60 + x;
+    let hours = h * 3600;
+    let rest = m * 60 + x;
+    let sum = hours + rest;
     if f.minus {
         return (0 - sum) as i32;
     }

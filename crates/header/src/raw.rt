@@ -1,5 +1,5 @@
-// The raw reader: two words, the header's form with nothing forgiven. Its limits on hours and
-// minutes are those of a rule.
+// The raw reader (RULES 5.6 and 5.7): exactly two words, a number and an offset, with limits on the
+// hours and the minutes. Anything else is refused.
 ghost use mathlib.Core.Path.{_≡_};
 ghost use Rattle.header.specs.Raw.{rule1, limitsOf, allows as allowsOf, rawTime, rawOf};
 ghost use Rattle.header.specs.Held.{AllSmall, LeadsWithNumber};
@@ -15,21 +15,21 @@ use text::words;
 use time::Answer;
 use time::Refusal;
 
-// Which hours and which minutes are let through: `limitsOf` has the limits of each.
+// Which limits hold for hours and minutes. Those of RULES 5.7 are called rule 1 in the code.
 enum Rule {
     One,
 }
 
-// A raw date, by rule 1. 1 for a byte of 128 or more, then 2 for anything but a number and an
-// offset within the limits.
+// Reads a raw date, by rule 1. The answer is refusal 1 if the text holds a byte of 128 or more, and
+// then refusal 2 if it is anything but a number and an offset within the limits.
 pub fn parse_raw(s: &[u8]) -> Answer
     ensures { λ r. ⌜ r ≡ rawOf rule1 (now (s .entry)) ⌝ }
 {
     parse_raw_by(s, Rule::One)
 }
 
-// A number alone, and the form that every commit has, are recognised as soon as the number ends, as the
-// header reader does.
+// A number alone and the usual form are recognised as soon as the number ends, as in
+// `parse_header`.
 fn parse_raw_by(s: &[u8], rule: Rule) -> Answer
     ensures { λ r. ⌜ r ≡ rawOf (limitsOf rule) (now (s .entry)) ⌝ }
 {
@@ -46,7 +46,7 @@ fn parse_raw_by(s: &[u8], rule: Rule) -> Answer
     raw_time(rule, number, Parsed::Offset(f))
 }
 
-// A text of any other form: all its words are read. A `:` needs no test here, since no number and no
+// Reads a text of any other form word by word. It is not tested for a `:`, since no number and no
 // offset holds one.
 fn parse_other(s: &[u8], opening: LeadingInteger, rule: Rule) -> Answer
     requires { ⌜ LeadsWithNumber (now s) opening ⌝ }
@@ -68,7 +68,7 @@ fn parse_other(s: &[u8], opening: LeadingInteger, rule: Rule) -> Answer
     Answer::Refused(Refusal::Form)
 }
 
-// 2 unless both are read, and the rule lets the fields through.
+// The answer is refusal 2 unless there are a number and an offset, and the rule allows the fields.
 fn raw_time(rule: Rule, n: Integer, p: Parsed) -> Answer
     requires { ⌜ AllSmall p ⌝ }
     ensures { λ r. ⌜ r ≡ rawTime (limitsOf rule) n p ⌝ }
@@ -85,7 +85,7 @@ fn raw_time(rule: Rule, n: Integer, p: Parsed) -> Answer
     Answer::Refused(Refusal::Form)
 }
 
-// Rule 1: hours at most 14; minutes 0, 15, 30 or 45. By any rule seconds are 0.
+// Rule 1: hours are at most 14, and minutes are 0, 15, 30 or 45. By every rule seconds are 0.
 fn allows(rule: Rule, f: Fields) -> bool
     ensures { λ r. ⌜ r ≡ allowsOf (limitsOf rule) f ⌝ }
 {
@@ -97,7 +97,7 @@ fn allows(rule: Rule, f: Fields) -> bool
     }
 }
 
-// Rule 1's minutes, tested one by one: so they become one test of bits.
+// The minutes of rule 1. The compiler makes one test of bits from these four.
 fn is_quarter(m: i64) -> bool
     ensures { λ r. ⌜ r ≡ rule1 .minutes m ⌝ }
 {

@@ -1,8 +1,8 @@
-// One pass over a text, for both readers: the number that its first word leads with, and the bounds of
-// its only other word. The pass pauses behind the number (`open`), where the readers recognise the form
-// that every commit has. For a text of another form it goes on from there (`read_words`). A `:` or a byte
-// of 128 or more ends every scan, so bytes already scanned are known to be free of both, and each byte is
-// looked at once but for those at which a scan stops. Nothing is copied.
+// One pass over a text, for both readers. `open` reads the number at the front of the first word
+// and stops where it ends; there the readers recognise the usual form. For any other text
+// `read_words` goes on from that place and finds the bounds of the second word. A `:` or a byte of
+// 128 or more ends every scan, so bytes already scanned are known to be free of both. Every byte is
+// looked at once, except those at which a scan stops.
 ghost use mathlib.Core.Path.{_≡_};
 ghost use mathlib.Core.Bool.{cond, not, _||_};
 ghost use lib.ListN.{drop};
@@ -18,9 +18,9 @@ use text::scan;
 use text::scan::Class;
 use text::words::Span;
 
-// What the words hold: the number of the first one as a header reads it, whether that number is the whole
-// word, the bounds of the second word, and whether there is a `:` anywhere. The bounds are empty if
-// there is no second word, or a third, or a `:`.
+// What a text holds: the number of its first word as a header reads it (RULES 5.2), whether that
+// number is the whole word, the bounds of the second word, and whether there is a `:` anywhere. The
+// bounds are empty if there is no second word, or a third, or a `:`.
 pub struct First {
     pub number: Integer,
     pub whole: bool,
@@ -28,19 +28,21 @@ pub struct First {
     pub colon: bool,
 }
 
+// What the pass finds, or that the text is not ASCII.
 pub enum Walked {
     Words(First),
     NotAscii,
 }
 
-// Past white space: the number that the first word leads with.
+// The number at the front of the first word, and where it ends.
 pub fn open(s: &[u8]) -> LeadingInteger
     ensures { λ r. ⌜ LeadsWithNumber (now (s .entry)) r ⌝ }
 {
-    number::leading_integer(s, first_word(s), 9223372036854775808)
+    number::leading_integer(s, first_word(s), number::HALF_64)
 }
 
-// Nearly no text opens with white space, and no byte above 32 is white space.
+// Where the first word begins. Few texts begin with white space, so the first byte is tested before
+// the scan: no byte above a space is white space.
 fn first_word(s: &[u8]) -> usize
     ensures { λ r. ⌜ r ≡ past isSpace (now (s .entry)) 0 ⌝ }
 {
@@ -53,8 +55,8 @@ fn first_word(s: &[u8]) -> usize
     scan::past(s, 0, Class::Space)
 }
 
-// Past the rest of the first word, white space, the second word, and white space again, there is nothing
-// left, or a third word, or a byte that ended a scan.
+// Scans past the rest of the first word, white space, the second word, and white space again. At
+// that place the text ends, or a third word begins, or there is a byte that ended a scan.
 pub fn read_words(s: &[u8], opening: LeadingInteger) -> Walked
     requires { ⌜ LeadsWithNumber (now s) opening ⌝ }
     ensures { λ r. ⌜ WordsRead (now (s .entry)) r ⌝ }
@@ -80,7 +82,7 @@ pub fn read_words(s: &[u8], opening: LeadingInteger) -> Walked
     Walked::NotAscii
 }
 
-// Whether no word goes on at a place: white space is there, or the end of the text.
+// Whether a word ends at a place: white space is there, or the end of the text.
 fn ends_at(s: &[u8], at: usize) -> bool
     ensures { λ r. ⌜ r ≡ endsAt (now (s .entry)) at ⌝ }
 {
@@ -90,7 +92,8 @@ fn ends_at(s: &[u8], at: usize) -> bool
     true
 }
 
-// A number with a sign counts only as a whole word. Digits count with any bytes behind them.
+// The number as a header reads it (RULES 5.2): a number with a sign counts only if it is the whole
+// word, and digits count whatever follows them.
 fn number_in(n: Integer, whole: bool, signed: bool) -> Integer
     ensures { λ r. ⌜ r ≡ cond (whole || not signed) n NotOne ⌝ }
 {
@@ -115,7 +118,7 @@ fn only_bounds(start: usize, end: usize, third: bool) -> Span
     Span { start, end }
 }
 
-// What there is from a place on: whether it is all ASCII, and whether there is a `:`.
+// What a text holds from a place on: whether it is all ASCII, and whether there is a `:`.
 struct Rest {
     ascii: bool,
     colon: bool,

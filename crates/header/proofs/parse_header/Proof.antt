@@ -1,8 +1,8 @@
--- `header::parse_header` meets its contract: of a number alone, and in the usual form, the number and the fields behind it are the
--- answer; any other text is read word by word.
+-- `header::parse_header` meets its contract: for a number alone and for the usual form, the number and the fields after it
+-- decide; any other text is read word by word.
 -- Assumes nothing.
 use mathlib.Core.Path.{sym, _∙_}
-use Rattle.header.proofs.Usual.{end-le-length, usual-small, headerOf-of-usual, headerOf-of-alone}
+use Rattle.header.proofs.Shortcuts.{end-le-length, usual-small, headerOf-of-usual, headerOf-of-alone}
 use borrow.Author.Needs.{needs}
 use Rattle.header.proofs.parse_header.Statement.{statement}
 use Rattle.header.proofs.parse_header.Tie as tie

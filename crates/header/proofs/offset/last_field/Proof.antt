@@ -1,4 +1,4 @@
--- `header::offset::last_field` meets its contract: its test is the definition's.
+-- `header::offset::last_field` meets its contract: its test is that of the definition.
 -- Assumes nothing.
 use borrow.Author.Tests.{eq-eqb, ne-eqb}
 use Rattle.header.specs.Offset.{lastField}

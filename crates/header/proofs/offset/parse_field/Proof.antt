@@ -1,5 +1,5 @@
--- `header::offset::parse_field` meets its contract: two digits are a number of either kind, and two bytes' number fits the width at
--- which it is read.
+-- `header::offset::parse_field` meets its contract: two digits are a number of either kind, and the number of two bytes fits the
+-- width at which it is read.
 -- Assumes nothing.
 use mathlib.Core.Path.{_≡_, sym, ap, _∙_}
 use mathlib.Core.Bool.{true}
@@ -33,8 +33,8 @@ returns c =
     let start = c .before .before .before .before .before .before in
     ap Is (back w64 (c .two-digits .result) (c .two-digits .ok) ∙ c .two-digits .ensures) ∙ sym (fieldOf-of-digits _ _ (start .pre) (d .0) (d .1) (start .args .by))
 
-widened-requires : tie.Need-widened-requires
-widened-requires c κs = AtMost-of-fit 255 255 _ _ (c .unsigned-number .ensures) (omega arith)
+as-integer-requires : tie.Need-as-integer-requires
+as-integer-requires c κs = AtMost-of-fit 255 255 _ _ (c .unsigned-number .ensures) (omega arith)
 
 returns-2 : tie.Need-returns-2
 unfolding fieldOf
@@ -44,7 +44,7 @@ returns-2 c =
 
 returns-3 : tie.Need-returns-3
 unfolding fieldOf
-returns-3 c = rw (c .before .before .before .enum-told2 .given .1) (c .widened .ensures ∙ ap plus (rw add-sub-cancel-left at (c .before .unsigned-number .ensures)))
+returns-3 c = rw (c .before .before .before .enum-told2 .given .1) (c .as-integer .ensures ∙ ap plus (rw add-sub-cancel-left at (c .before .unsigned-number .ensures)))
 
 pub parse-field-spec : {M : Type 1} → statement M
 parse-field-spec =
@@ -68,6 +68,6 @@ parse-field-spec =
     (λ c. search needs)
     (λ c. search needs)
     (λ c κs. search needs)
-    widened-requires
+    as-integer-requires
     returns-2
     returns-3)

@@ -1,5 +1,5 @@
--- `header::offset::parse_fields` meets its contract: the tests are the definition's, and a field is read where a word of 5 bytes
--- has it.
+-- `header::offset::parse_fields` meets its contract: the tests are those of the definition, and a word of 5 bytes or more has the
+-- bytes of each field.
 -- Assumes nothing.
 use mathlib.Core.Path.{_≡_, sym, _∙_}
 use Prim.Native.Nat.{_≤_}
@@ -45,13 +45,13 @@ returns c = rw (opened (c .before .before .before), sym (c .before .before .pars
 parse-field-requires-2 : tie.Need-parse-field-requires-2
 parse-field-requires-2 c κs = omega (arith, long (c .before .before .before .before .before .before .before))
 
--- the minutes are none
+-- the minutes are no number
 returns-2 : tie.Need-returns-2
 returns-2 c =
     let at-h = c .before .before .before in
     rw (opened (at-h .before .before .before .before), hours-is at-h, sym (c .before .before .parse-field2 .ensures) ∙ c .enum-told2 .given .1)
 
--- the seconds are none
+-- the seconds are no number
 returns-3 : tie.Need-returns-3
 returns-3 c =
     let at-m = c .before .before .before in

@@ -1,4 +1,4 @@
--- `header::offset::usual_fields` meets its contract: its tests are the definition's, and two digits are a field.
+-- `header::offset::usual_fields` meets its contract: its tests are those of the definition, and two digits are a field.
 -- Assumes nothing.
 use mathlib.Core.Path.{_≡_, sym, _∙_}
 use mathlib.Core.Bool.{true}
@@ -17,11 +17,11 @@ length-is : (c : tie.Then1) → let a = c .before .before .args in length (a .s 
 length-is c = omega (arith, c .if1 .taken, c .before .before .pre)
 
 -- and are those of the usual form
-told : (c : tie.Then2) → let a = c .before .before .before .before .before .before .before .before .before .before .before .before .args in tests (a .s .now) (a .at) ≡ true
-told c = rw (← c .before .before .before .is-sign .ensures, ← c .before .before .both-digits .ensures, ← c .before .both-digits2 .ensures) (c .if2 .taken)
+are-usual : (c : tie.Then2) → let a = c .before .before .before .before .before .before .before .before .before .before .before .before .args in tests (a .s .now) (a .at) ≡ true
+are-usual c = rw (← c .before .before .before .is-sign .ensures, ← c .before .before .both-digits .ensures, ← c .before .both-digits2 .ensures) (c .if2 .taken)
 
 usual : (c : tie.Then2) → let a = c .before .before .before .before .before .before .before .before .before .before .before .before .args in Usual (a .s .now) (a .at)
-usual c = Usual-of-tests _ _ (length-is (c .before .before .before .before .before .before .before .before .before .before)) (told c)
+usual c = Usual-of-tests _ _ (length-is (c .before .before .before .before .before .before .before .before .before .before)) (are-usual c)
 
 two-digits-requires : tie.Need-two-digits-requires
 two-digits-requires c κs = usual c .hours
@@ -36,7 +36,7 @@ returns c =
       back w64 (c .before .two-digits .result) (c .before .two-digits .ok) ∙ c .before .two-digits .ensures,
       back w64 (c .two-digits2 .result) (c .two-digits2 .ok) ∙ c .two-digits2 .ensures,
     )
-    (sym (usualOf-of-tests _ _ (length-is (at-test .before .before .before .before .before .before .before .before .before .before)) (told at-test) ∙ fieldsOf-of-usual _ _ (usual at-test) _))
+    (sym (usualOf-of-tests _ _ (length-is (at-test .before .before .before .before .before .before .before .before .before .before)) (are-usual at-test) ∙ fieldsOf-of-usual _ _ (usual at-test) _))
 
 -- another byte among them
 returns-2 : tie.Need-returns-2

@@ -1,4 +1,4 @@
--- `header::raw::allows` meets its contract: its tests, which compare bits, are the rule's.
+-- `header::raw::allows` meets its contract: its tests, which compare bits, are those of the rule.
 -- Assumes nothing.
 use mathlib.Core.Path.{_≡_, _∙_, ap}
 use mathlib.Core.Bool.{Bool, _&&_}

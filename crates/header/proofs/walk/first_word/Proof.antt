@@ -1,4 +1,5 @@
--- `header::walk::first_word` meets its contract: no byte, or none of white space, is passed.
+-- `header::walk::first_word` meets its contract: an empty text, and one whose first byte is above a space, begin with no white
+-- space.
 -- Assumes nothing.
 use mathlib.Core.Path.{sym}
 use native.Mathlib.Omega.{arith}

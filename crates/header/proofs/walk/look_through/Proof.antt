@@ -1,4 +1,5 @@
--- `header::walk::look_through` meets its contract. The invariant: what was seen so far, with what is left, tells of the whole.
+-- `header::walk::look_through` meets its contract. The invariant: what was found so far and what is left give the
+-- answer for the whole.
 -- Assumes nothing.
 use mathlib.Core.Path.{_≡_, refl, sym, ap, _∙_}
 use mathlib.Core.Bool.{Bool, _&&_, _||_, and-true, or-false, and-assoc, or-assoc}

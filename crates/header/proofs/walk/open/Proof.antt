@@ -1,4 +1,4 @@
--- `header::walk::open` meets its contract: what is read opens the first word.
+-- `header::walk::open` meets its contract: what is read is at the front of the first word.
 -- Assumes nothing.
 use borrow.Author.Needs.{needs}
 use Rattle.header.proofs.walk.open.Statement.{statement}

@@ -1,5 +1,5 @@
--- `header::walk::read_words` meets its contract: its places are those of the law, what was passed has no byte that ends a scan, and
--- the rest tells.
+-- `header::walk::read_words` meets its contract: its places are those of the law. The bytes before the last of them are ASCII and
+-- hold no `:`, so the bytes from there on decide for the whole text.
 -- Assumes nothing.
 use mathlib.Core.Path.{_≡_, sym, _∙_}
 use Rattle.text.specs.Bytes.{ascii}
@@ -9,7 +9,7 @@ use borrow.Author.Needs.{needs}
 use Rattle.header.proofs.walk.read_words.Statement.{statement}
 use Rattle.header.proofs.walk.read_words.Tie as tie
 
--- so the rest tells of the whole
+-- so the rest decides for the whole text
 module _ (c : tie.After-look-through) where
   third-is : let a = c .before .before .before .before .before .before .args in c .before .past4 .result ≡ third (a .s .now) (a .opening .end)
   third-is =

@@ -1,0 +1,46 @@
+-- What the theorems about headers speak of (docs/PROMISES.md): the seconds that 64 bits hold; the offsets that a header can give,
+-- and a header for each of them; the texts on which the raw and the header reader agree. No contract cites these.
+-- Assumes nothing.
+use Prim.Native.Nat.{ℕ, _-_, _*_, _/_, _^_, min}
+use mathlib.Core.Path.{_≡_}
+use mathlib.Core.Bool.{true}
+use mathlib.Core.List.{List, [], _∷_}
+use mathlib.Core.Logic.{_⊎_}
+use lib.IntN.{ℤ, pos, negsuc, natAbs}
+use lib.ListN.{getD}
+use Rattle.ints.specs.Range.{In}
+use Rattle.text.specs.Bytes.{isDigit}
+use Rattle.text.specs.Decimal.{signedBefore, twoBefore}
+use Rattle.time.specs.Header.{signByte, space}
+use Rattle.time.specs.declared.Time.{Time}
+use Rattle.header.specs.Offset.{secondWord}
+
+-- the seconds that 64 bits hold
+abbrev pub Seconds64 : ℤ → Type 0
+Seconds64 z = In (negsuc (2 ^ 63 - 1)) (pos (2 ^ 63 - 1)) z
+
+-- the offsets that a header can give: from -362439, which is `-999999`, to 362439
+abbrev pub HeaderOffset : ℤ → Type 0
+HeaderOffset o = In (negsuc 362438) (pos 362439) o
+
+-- n seconds as hours, minutes and seconds, each at most 99: as many hours as can be, then as many minutes
+abbrev pub hoursIn : ℕ → ℕ
+hoursIn n = min (n / 3600) 99
+
+abbrev pub minutesIn : ℕ → ℕ
+minutesIn n = min ((n - hoursIn n * 3600) / 60) 99
+
+abbrev pub secondsIn : ℕ → ℕ
+secondsIn n = n - hoursIn n * 3600 - minutesIn n * 60
+
+-- an offset in 7 bytes: a sign, and two digits of each
+abbrev pub sevenBytes : ℤ → List ℕ
+sevenBytes o = signByte o ∷ twoBefore (hoursIn (natAbs o)) (twoBefore (minutesIn (natAbs o)) (twoBefore (secondsIn (natAbs o)) []))
+
+-- a header of these seconds and this offset
+abbrev pub headerWith : ℤ → ℤ → List ℕ
+headerWith z o = signedBefore z (space ∷ sevenBytes o)
+
+-- where raw accepts s as t, the two readers agree if the byte after the offset's sign is a digit, or the offset is 0
+abbrev pub Alike : List ℕ → Time → Type 0
+Alike s t = (isDigit (getD (secondWord s) 1 0) ≡ true) ⊎ (t .offset ≡ pos 0)
