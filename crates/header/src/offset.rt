@@ -14,6 +14,7 @@ use text::bytes;
 use text::number;
 use text::number::Integer;
 use text::number::Number;
+use text::number::Width;
 use time::Time;
 
 // The largest unsigned 8-bit number.
@@ -118,7 +119,7 @@ fn parse_field(w: &[u8], at: usize, by: Field) -> Integer
         return Integer::Is(two_digits(tens, ones));
     }
     match by {
-        Field::Signed => number::signed_number(&w[at..at + 2], number::HALF_32),
+        Field::Signed => number::signed_number(&w[at..at + 2], Width::Bits32),
         Field::Byte => as_integer(number::unsigned_number(&w[at..at + 2], LARGEST_8_BIT)),
     }
 }

@@ -14,6 +14,7 @@ use text::bytes;
 use text::number;
 use text::number::Integer;
 use text::number::LeadingInteger;
+use text::number::Width;
 use text::scan;
 use text::scan::Class;
 use text::words::Span;
@@ -38,7 +39,7 @@ pub enum Walked {
 pub fn open(s: &[u8]) -> LeadingInteger
     ensures { λ r. ⌜ LeadsWithNumber (now (s .entry)) r ⌝ }
 {
-    number::leading_integer(s, first_word(s), number::HALF_64)
+    number::leading_integer(s, first_word(s), Width::Bits64)
 }
 
 // Where the first word begins. Few texts begin with white space, so the first byte is tested before

@@ -1,7 +1,7 @@
 -- Numbers: an optional sign and then digits only, at least one, whose value fits the width (RULES 4.2 to 4.4). Values are
 -- unbounded; only `fit` and `fitSigned` know a width.
 -- Assumes nothing.
-use Prim.Native.Nat.{ℕ, suc, _+_, _-_, _*_, _≤_}
+use Prim.Native.Nat.{ℕ, suc, _+_, _-_, _*_, _≤_, _^_}
 use Prim.Native.Char.{code}
 use mathlib.Core.Path.{_≡_}
 use mathlib.Core.Bool.{cond, _&&_}
@@ -12,6 +12,8 @@ use lib.ListN.{take, getD}
 use lib.Signed.{leZ, ltZ}
 use Rattle.text.specs.Bytes.{isDigit, isSign}
 use Rattle.text.specs.Places.{run}
+use Rattle.text.specs.declared.number.Width.{Width}
+use Rattle.text.specs.declared.number.Width.the-variants.{Bits32, Bits64}
 use Rattle.text.specs.declared.number.Number.{Number}
 use Rattle.text.specs.declared.number.Number.the-variants.{Value, Not}
 use Rattle.text.specs.declared.number.Integer.{Integer}
@@ -51,7 +53,12 @@ unfoldable pub fit : ℕ → Number → Number
 fit limit (Value n) = cond (leb n limit) (Value n) Not
 fit limit Not = Not
 
--- from -half to half - 1: in 64 signed bits half is 2 ^ 63, in 32 signed bits 2 ^ 31
+-- half of a width of w bits is 2 to the w - 1
+abbrev pub halfOf : Width → ℕ
+halfOf Bits32 = 2 ^ 31
+halfOf Bits64 = 2 ^ 63
+
+-- signed bits hold the numbers from -half to half - 1
 unfoldable pub fitSigned : ℕ → Integer → Integer
 fitSigned half (Is z) = cond (leZ (negℤ (pos half)) z && ltZ z (pos half)) (Is z) NotOne
 fitSigned half NotOne = NotOne

@@ -9,7 +9,7 @@ ghost use lib.IntN.{pos, negℤ};
 ghost use lib.ListN.{drop};
 ghost use Rattle.text.specs.Bytes.{isDigit};
 ghost use Rattle.text.specs.Places.{leading, past};
-ghost use Rattle.text.specs.Number.{digitsOf, unsignedOf, signedOf, fit, fitSigned};
+ghost use Rattle.text.specs.Number.{digitsOf, unsignedOf, signedOf, fit, fitSigned, halfOf};
 ghost use Rattle.text.specs.Number.{AtMost, LeadsWith};
 ghost use Rattle.text.specs.Held.{signedBy};
 ghost use Rattle.text.specs.declared.number.Number.the-variants.{Value, Not};
@@ -17,11 +17,26 @@ use crate::bytes;
 use crate::scan;
 use crate::scan::Class;
 
+// The width of a signed number.
+pub enum Width {
+    Bits32,
+    Bits64,
+}
+
 // 2^63: 64 signed bits hold -HALF_64 to HALF_64 - 1.
-pub const HALF_64: u64 = 9223372036854775808;
+const HALF_64: u64 = 9223372036854775808;
 
 // 2^31: 32 signed bits hold -HALF_32 to HALF_32 - 1.
-pub const HALF_32: u64 = 2147483648;
+const HALF_32: u64 = 2147483648;
+
+fn half_of(width: Width) -> u64
+    ensures { λ r. ⌜ (r ≡ halfOf width) × (0 < r) × (r ≤ 2 ^ 63) ⌝ }
+{
+    match width {
+        Width::Bits32 => HALF_32,
+        Width::Bits64 => HALF_64,
+    }
+}
 
 // An unsigned number, or no number.
 pub enum Number {
@@ -48,13 +63,11 @@ pub fn unsigned_number(s: &[u8], limit: u64) -> Number
     digits(s, 0, limit)
 }
 
-// The whole text as a signed number: an optional `+` or `-`, then digits. The value is from -half
-// to half - 1; callers pass `HALF_64` or `HALF_32`.
-pub fn signed_number(s: &[u8], half: u64) -> Integer
-    requires { ⌜ (0 < half) × (half ≤ 2 ^ 63) ⌝ }
-    ensures { λ r. ⌜ r ≡ fitSigned half (signedOf (now (s .entry))) ⌝ }
+// The whole text as a signed number of a width: an optional `+` or `-`, then digits.
+pub fn signed_number(s: &[u8], width: Width) -> Integer
+    ensures { λ r. ⌜ r ≡ fitSigned (halfOf width) (signedOf (now (s .entry))) ⌝ }
 {
-    let read = leading_integer(s, 0, half);
+    let read = leading_integer(s, 0, width);
     if read.end < s.len() {
         return Integer::NotOne;
     }
@@ -155,9 +168,15 @@ pub struct LeadingInteger {
     pub signed: bool,
 }
 
-// The optional `+` or `-` and the leading digits of the text from `from` on, with a value from
-// -half to half - 1.
-pub fn leading_integer(s: &[u8], from: usize, half: u64) -> LeadingInteger
+// The optional `+` or `-` and the leading digits of the text from `from` on, as a number of a width.
+pub fn leading_integer(s: &[u8], from: usize, width: Width) -> LeadingInteger
+    ensures { λ r. ⌜ LeadsWith (halfOf width) (drop from (now (s .entry))) from r ⌝ }
+{
+    leading_between(s, from, half_of(width))
+}
+
+// The same, with a value from -half to half - 1.
+fn leading_between(s: &[u8], from: usize, half: u64) -> LeadingInteger
     requires { ⌜ (0 < half) × (half ≤ 2 ^ 63) ⌝ }
     ensures { λ r. ⌜ LeadsWith half (drop from (now (s .entry))) from r ⌝ }
 {

@@ -7,7 +7,7 @@ use Prim.Native.Nat.{ℕ, _≤_, _<_}
 use native.Mathlib.Omega.{arith}
 use lib.ListN.{length}
 use lib.Seq.{take-all}
-use Rattle.text.specs.Number.{signedOf, fitSigned, numeral}
+use Rattle.text.specs.Number.{signedOf, fitSigned, halfOf, numeral}
 use Rattle.text.proofs.Numbers.{signedOf-of-numeral-lt}
 use borrow.Author.Needs.{needs}
 use Rattle.text.proofs.number.signed_number.Statement.{statement}
@@ -26,7 +26,7 @@ returns-2 c =
     let at-read = c .before .before in
     let a = at-read .before .before .args in
     let h : length (a .s .now) ≤ numeral (a .s .now) = omega (arith, at-read .leading-integer .ensures .end-is, c .if1 .left) in
-    at-read .leading-integer .ensures .number-is ∙ ap (λ (t : List ℕ). fitSigned (a .half) (signedOf t)) (take-all _ _ h)
+    at-read .leading-integer .ensures .number-is ∙ ap (λ (t : List ℕ). fitSigned (halfOf (a .width)) (signedOf t)) (take-all _ _ h)
 
 pub signed-number-spec : {M : Type 1} → statement M
 signed-number-spec = tie.close (tie.spec (λ c κs. search needs) returns returns-2)
