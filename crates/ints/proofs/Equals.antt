@@ -1,4 +1,5 @@
--- The test of two integers for equality. In order: which way it goes; the machine, which compares bits.
+-- The test whether two integers are equal. In order: its result when they are, and when they are not; the machine's test, which
+-- compares bits.
 -- Assumes nothing.
 use mathlib.Core.Path.{_≡_, refl, sym, ap, _∙_}
 use mathlib.Core.Bool.{Bool, true, false, false≢true}

@@ -1,4 +1,4 @@
--- Whether two integers are the same, as a test.
+-- A test whether two integers are equal.
 -- Assumes nothing.
 use mathlib.Core.Bool.{Bool, false}
 use lib.Dec.{eqb}

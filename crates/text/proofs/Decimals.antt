@@ -1,5 +1,6 @@
--- Plain decimal. In order: the two clauses of `decimal`, and a proof by them; what follows the digits; the promise on the digits; reading
--- them gives the number back; how many digits there are; the same digits put in front of a text one by one, from the last.
+-- Plain decimal. In order: the two clauses of `decimal`, and a proof by them; a text after the digits; the promise about the
+-- digits; reading them gives the number back; how many digits there are; the same digits added to the front of a text one by one,
+-- from the last.
 -- Assumes nothing.
 use mathlib.Core.Path.{_≡_, sym, ap, _∙_, refl}
 use mathlib.Core.Bool.{Bool, true, false}
@@ -49,7 +50,7 @@ by-digits P one more n = go n n (omega arith)
         by-test (ltb n 10) (λ e. one n (ltb-true n 10 e))
         (λ e. let m : 10 ≤ n = ltb-false n 10 e in more n m (go k (n / 10) (omega arith)))
 
--- ---- what follows the digits
+-- ---- a text after the digits
 pub decimalBefore-append : (n : ℕ) (t : List ℕ) → decimalBefore n t ≡ decimal n ++ t
 unfolding decimalBefore
 decimalBefore-append n t = refl
@@ -70,7 +71,7 @@ unfolding decimalBefore
 decimalBefore-of-le n t h = rw (decimal-of-le n h) (append-assoc (decimal (n / 10)) (digit (n % 10) ∷ []) t)
 
 -- ---- the digits
--- every byte from lo to hi
+-- every byte is from lo to hi
 abbrev pub Between : ℕ → ℕ → List ℕ → Type 0
 Between lo hi [] = Unit {0}
 Between lo hi (b ∷ s) = (lo ≤ b) × (b ≤ hi) × Between lo hi s
@@ -102,13 +103,13 @@ length-decimal-pos =
     by-digits (λ (n : ℕ). 0 < length (decimal n)) (λ n m. omega (arith, length-decimal-of-lt n m))
     (λ n m b. omega (arith, length-decimal-of-le n m))
 
--- the first byte
+-- the first digit
 one-le-decimal : (n : ℕ) → 0 < n → code "1" ≤ getD (decimal n) 0 0
 one-le-decimal =
     by-digits (λ (n : ℕ). 0 < n → code "1" ≤ getD (decimal n) 0 0) (λ n m h. rw (decimal-of-lt n m) (omega arith))
     (λ n m b h. rw (decimal-of-le n m, List·getD-append (decimal (n / 10)) (digit (n % 10) ∷ []) 0 0 (length-decimal-pos (n / 10))) (b (omega arith)))
 
--- the promise: every byte is a digit, and the first one is no `0` but for the number 0
+-- the promise: every byte is a digit, and the first one is not `0` unless the number is 0
 pub decimal-digits : (n : ℕ) → Between (code "0") (code "9") (decimal n) × (0 < n → code "1" ≤ getD (decimal n) 0 0)
 decimal-digits n = (decimal-between 48 57 (omega arith) (omega arith) n, one-le-decimal n)
 
@@ -153,11 +154,11 @@ le-length-decimal (suc k) n h =
     let m : 10 ^ k ≤ n / 10 = omega arith in
     omega (arith, length-decimal-of-le n (omega arith), le-length-decimal k (n / 10) m)
 
--- so just k + 1 digits between the two
+-- so exactly k + 1 digits between the two
 pub length-decimal-between : (k n : ℕ) → 10 ^ k ≤ n → n < 10 ^ suc k → length (decimal n) ≡ suc k
 length-decimal-between k n h i = omega (arith, le-length-decimal k n h, length-decimal-le k n i)
 
--- k digits stand behind those of n / 10 ^ k
+-- n has k more digits than n / 10 ^ k
 pub length-decimal-div : (k n : ℕ) → 10 ^ k ≤ n → length (decimal n) ≡ k + length (decimal (n / 10 ^ k))
 length-decimal-div zero n h = ap (λ (m : ℕ). length (decimal m)) (sym (div-one n)) ∙ sym (zero-add _)
 length-decimal-div (suc k) n h =
@@ -168,13 +169,14 @@ length-decimal-div (suc k) n h =
     let e : length (decimal (n / 10)) ≡ k + length (decimal (n / 10 ^ suc k)) = rw d at (length-decimal-div k (n / 10) m) in
     omega (arith, length-decimal-of-le n (omega arith), e)
 
--- ---- the digits put in front of a text one by one, from the last
--- `single` says whether n is one digit, and k bounds the steps: a form that computes without appending
+-- ---- the digits added to the front of a text one by one, from the last
+-- a form that does not append: `single` says whether n is one digit, and k bounds the steps
 decimalBy : ℕ → Bool → ℕ → List ℕ → List ℕ
 decimalBy zero single n t = digit n ∷ t
 decimalBy (suc k) true n t = digit n ∷ t
 decimalBy (suc k) false n t = decimalBy k (ltb (n / 10) 10) (n / 10) (digit (n % 10) ∷ t)
 
+-- it gives the same digits
 decimalBy-decimalBefore : (k : ℕ) (single : Bool) (n : ℕ) (t : List ℕ) → ltb n 10 ≡ single → n ≤ k → decimalBy k single n t ≡ decimalBefore n t
 unfolding decimalBy
 decimalBy-decimalBefore zero single n t e h = sym (decimalBefore-of-lt n t (omega arith))

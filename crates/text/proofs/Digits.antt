@@ -1,4 +1,4 @@
--- Digits. In order: what a digit is not, and what is none; two digits of a number below 100, and their value.
+-- Digits. In order: a digit is no sign, no white space and no other mark; two digits of a number below 100, and their value.
 -- Assumes nothing.
 use mathlib.Core.Path.{_≡_, refl, sym, ap, _∙_}
 use mathlib.Core.Bool.{Bool, true, false, _&&_, false≢true}
@@ -17,7 +17,7 @@ use Rattle.text.proofs.Lists.{by-test, both}
 use Rattle.text.proofs.Numbers.{digit-range, isDigit-of-le}
 
 -- ---- what a digit is not
--- bytes that a test tells apart
+-- two bytes are different if a test holds for one only
 eqb-of-test : (t : ℕ → Bool) (b x : ℕ) → t b ≡ true → t x ≡ false → eqb b x ≡ false
 eqb-of-test t b x p q = ne-eqb b x (λ e. false≢true (sym q ∙ ap t (sym e) ∙ p))
 
@@ -33,7 +33,7 @@ isSpace-of-digit b p =
     let n : 9 ≤ b = omega (arith, r .0) in
     rw (le-leb 9 b n, lt-leb b 13 l, ne-eqb b 32 (λ e. omega (arith, r .0, e)))
 
--- nor is a sign a digit
+-- a sign is no digit
 pub isDigit-of-sign : (b : ℕ) → isSign b ≡ true → isDigit b ≡ false
 isDigit-of-sign b h = by-test (isDigit b) (λ p. absurd (false≢true (sym (isSign-of-digit b p) ∙ h))) (λ p. p)
 
@@ -42,7 +42,7 @@ unfolding run
 leading-of-isSign [] e = refl
 leading-of-isSign (b ∷ w) e = rw (isDigit-of-sign b e)
 
--- white space is byte 32 at most
+-- white space is at most byte 32
 pub space-range : (b : ℕ) → isSpace b ≡ true → b ≤ 32
 unfolding isSpace
 space-range b e = by-test (leb 9 b && leb b 13) (λ k. omega (arith, leb-true b 13 (both (leb 9 b) (leb b 13) k .1))) (λ k. omega (arith, eqb-true b 32 (rw k at e)))
@@ -90,7 +90,7 @@ unsignedOf-two n h =
     let e : 10 * (48 + n / 10 - 48) + (48 + n % 10 - 48) ≡ n = omega arith in
     unsignedOf-two-digits (48 + n / 10) (48 + n % 10) (tens n h) (ones n) ∙ ap Value e
 
--- in any width that holds it
+-- in any width that holds n
 pub fit-two : (n limit : ℕ) → n < 100 → n ≤ limit → fit limit (unsignedOf (twoBefore n [])) ≡ Value n
 unfolding fit
 fit-two n limit h k = ap (fit limit) (unsignedOf-two n h) ∙ rw (le-leb n limit k)

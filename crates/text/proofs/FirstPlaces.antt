@@ -1,5 +1,5 @@
--- The first place of a byte. In order: the clauses of `firstPlace`; what stands there; it is told by the bytes up to it; a text cut at
--- each b, as its first b cuts it; a text with no b in it.
+-- The first place of a byte b. In order: the clauses of `firstPlace`; the byte at that place is b; the first n bytes decide
+-- whether it is among them; a text cut at its first b and at each b; a text that does not hold b.
 -- Assumes nothing.
 use mathlib.Core.Path.{_≡_, refl, ap, _∙_}
 use mathlib.Core.Bool.{Bool, true, false}
@@ -24,13 +24,13 @@ pub firstPlace-later : (b x : ℕ) (s : List ℕ) → eqb x b ≡ false → firs
 unfolding firstPlace run
 firstPlace-later b x s e = rw e
 
--- where it is, b stands
+-- the byte at that place is b
 pub getD-firstPlace : (b : ℕ) (s : List ℕ) → firstPlace b s < length s → getD s (firstPlace b s) 0 ≡ b
 unfolding firstPlace run
 getD-firstPlace b [] h = absurd (not-suc-le-zero h)
 getD-firstPlace b (x ∷ s) h = by-test (eqb x b) (λ e. rw e (eqb-true x b e)) (λ e. rw e (getD-firstPlace b s (omega (arith, rw e at h))))
 
--- it is told by the first n bytes, if it stands among them
+-- if the first n bytes hold b, the first place in them is the first place in the whole
 firstPlace-of-take : (b n : ℕ) (s : List ℕ) → n ≤ length s → firstPlace b (take n s) < n → firstPlace b s ≡ firstPlace b (take n s)
 unfolding firstPlace run
 firstPlace-of-take b zero s k h = absurd (not-suc-le-zero h)
@@ -57,7 +57,7 @@ module _ (b n k : ℕ) (s : List ℕ) (r : ℕ) (e : r ≡ firstPlace b (take n 
 abbrev pub at : ℕ → ℕ → Bool
 at b x = eqb x b
 
--- cut at each b: what stands before the first, and what follows it, cut on
+-- cut at each b: first what comes before the first b, then the pieces of what follows it
 pieces-cons : (b : ℕ) (s : List ℕ) → firstPlace b s < length s → pieces (at b) s ≡ take (firstPlace b s) s ∷ pieces (at b) (drop (suc (firstPlace b s)) s)
 unfolding pieces firstPlace run
 pieces-cons b [] h = absurd (not-suc-le-zero h)
@@ -66,13 +66,13 @@ pieces-cons b (x ∷ s) h = by-test (eqb x b) (λ e. rw e) (λ e. rw (e, pieces-
 pub pieces-of-lt : (b : ℕ) (s : List ℕ) → firstPlace b s < length s → pieces (at b) s ≡ take (firstPlace b s) s ∷ pieces (at b) (drop (firstPlace b s + 1) s)
 pieces-of-lt b s h = rw add-one (pieces-cons b s h)
 
--- with no b it is one piece
+-- a text that does not hold b is one piece
 pub pieces-of-le : (b : ℕ) (s : List ℕ) → length s ≤ firstPlace b s → pieces (at b) s ≡ s ∷ []
 unfolding pieces firstPlace run
 pieces-of-le b [] h = refl
 pieces-of-le b (x ∷ s) h = by-test (eqb x b) (λ e. absurd (omega (arith, rw e at h))) (λ e. rw (e, pieces-of-le b s (omega (arith, rw e at h))))
 
--- ---- a text with no b in it
+-- ---- a text that does not hold b
 abbrev pub Free : ℕ → List ℕ → Type 0
 Free b [] = Unit {0}
 Free b (x ∷ s) = (eqb x b ≡ false) × Free b s

@@ -1,10 +1,10 @@
--- What a walker owns, and a separator, for every walk by hand over them. A walker holds a `&`, so it is Copy: what it owns is had as
--- often as it is asked for. A separator owns only facts, which are had anew from its machine value.
---     Row, Row-vals, Row-tells     a walker's type in a signature with one lifetime, and that its machine value is a function of it
---     By-val, By-vals, By-tells, By-typed, By-makes      the same of a separator, and what it owns
---     typed, at-fits       a walker's machine value is of its MIR type, and its place fits a machine word
+-- What a walker owns, and what a separator owns, for the proofs by hand over their MIR. A walker holds a `&`, so it is Copy: what
+-- it owns can be copied any number of times. A separator owns only facts, which follow from its machine value.
+--     Row, Row-vals, Row-tells     a walker's type in a signature with one lifetime; its machine value is a function of it
+--     By-val, By-vals, By-tells, By-typed, By-makes      the same for a separator, and what it owns
+--     typed, at-fits       a walker's machine value has its MIR type, and its place fits a machine word
 --     text-of      what a walker owns gives what its text owns, and is kept
---     placed       what a walker owns is what one with the same text at another place owns
+--     placed       what a walker owns is also what a walker with the same text at another place owns
 -- Assumes nothing.
 use mathlib.Core.Path.{_≡_, refl}
 use Prim.Native.Nat.{ℕ, _<_, _^_}

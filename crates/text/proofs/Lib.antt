@@ -1,6 +1,6 @@
 -- Laws. In order: lists at a place that a loop has reached; runs of bytes and places; the first place of a byte; taking words; a
--- walker's words, and what a walker owns; lines and fields; numbers; digits; trimming; decimal digits; bytes put in front of a place;
--- texts whose bytes are known; ASCII texts and plain bytes; signed decimals; letter case; the document's examples.
+-- walker's words, and what a walker owns; lines and fields; numbers; digits; trimming; plain decimal; bytes written in front of a
+-- place; texts whose bytes are known; ASCII texts and plain bytes; signed decimals; letter case; examples of the rules.
 pub mod Lists
 pub mod Runs
 pub mod FirstPlaces

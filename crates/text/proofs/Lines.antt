@@ -1,5 +1,5 @@
--- Lines and fields. In order: a text cut at its first newline, or without one; the lines of two texts one behind the other; a text in
--- which no line has its end; what is left behind the lines that have theirs; a line cut into fields one after the other.
+-- Lines and fields. In order: a text cut at its first newline, or without one; the lines of two texts, one after the other; a text
+-- in which no line is ended; what is left after the ended lines; a line cut into fields one after the other.
 -- Assumes nothing.
 use mathlib.Core.Path.{_≡_, refl, sym, ap, _∙_}
 use mathlib.Core.List.{List, [], _∷_, _++_}
@@ -32,7 +32,7 @@ endedLines-cut (b ∷ s) (suc e) p h =
     by-test (eqb b newline) (λ y. absurd (omega (arith, firstPlace-here newline b s y)))
     (λ y. rw (y, endedLines-cut s e (omega (arith, firstPlace-later newline b s y)) (omega arith)))
 
--- the line at t, and those behind it, of a text that was cut there
+-- the line that begins at t, and the lines after it, of a text that was cut there
 pub endedLines-at : (s left line : List ℕ) (t e : ℕ) → left ≡ drop t s → e ≡ firstPlace newline left → e < length left → line ≡ take e left
     → endedLines (drop t s) ≡ line ∷ endedLines (drop (t + (e + 1)) s)
 endedLines-at s left line t e pr pe h pl =
@@ -41,7 +41,7 @@ endedLines-at s left line t e pr pe h pl =
     ∙ (λ i. sym pl i ∷ endedLines (drop (suc e) (pr i)))
     ∙ ap (λ (v : List ℕ). line ∷ endedLines v) (drop-drop (suc e) t s ∙ ap (λ (v : ℕ). drop v s) q)
 
--- ---- two texts, one behind the other
+-- ---- two texts, one after the other
 pub linesOf-cut : (s z : List ℕ) (e : ℕ) → e ≡ firstPlace newline s → e < length s → linesOf (s ++ z) ≡ take e s ∷ linesOf (drop (suc e) s ++ z)
 unfolding linesOf
 linesOf-cut [] z e p h = absurd (omega arith)
@@ -50,7 +50,7 @@ linesOf-cut (b ∷ s) z (suc e) p h =
     by-test (eqb b newline) (λ y. absurd (omega (arith, firstPlace-here newline b s y)))
     (λ y. rw (y, linesOf-cut s z e (omega (arith, firstPlace-later newline b s y)) (omega arith)))
 
--- ---- no line has its end
+-- ---- no line is ended
 pub headOf : List (List ℕ) → List ℕ
 headOf [] = []
 headOf (l ∷ ls) = l
@@ -71,7 +71,7 @@ onto-first b (l ∷ ls) = refl
 not-nil : (ls : List (List ℕ)) → [] ∷ ls ≡ [] → ⊥
 not-nil ls e = let w : _≡_ {A = ℕ} 0 1 = cc in omega arith
 
--- such a text opens the first line of what follows
+-- such a text is the beginning of the first line of what follows
 pub linesOf-open : (s : List ℕ) (b : ℕ) (z : List ℕ) → endedLines (b ∷ s) ≡ [] → linesOf (b ∷ s ++ z) ≡ (b ∷ s ++ headOf (linesOf z)) ∷ tailOf (linesOf z)
 unfolding linesOf endedLines
 linesOf-open [] b z h = by-test (eqb b newline) (λ y. absurd (not-nil (endedLines []) (rw y at h))) (λ y. rw y (onto-first b (linesOf z)))
@@ -87,7 +87,7 @@ endedLines-take (suc k) (b ∷ s) h =
     by-test (eqb b newline) (λ y. absurd (not-nil (endedLines s) (rw y at h)))
     (λ y. rw y (ap (ontoFirst b) (endedLines-take k s (ontoFirst-nil b (endedLines s) (rw y at h)))))
 
--- ---- what is left behind the lines that have their end: there no line has its end
+-- ---- what is left after the ended lines: no line in it is ended
 pub left : List ℕ → List ℕ
 left s = drop (takenBy (endedLines s)) s
 

@@ -1,5 +1,5 @@
--- Lists at a place that a loop has reached, and proofs by a test. In order: `by-test`, `both`; what is left at a place; what stands
--- before it; parts; texts of two lengths; beyond the end.
+-- Lists at a place that a loop has reached, and proofs by a test. In order: `by-test`, `both`; what is left at a place; what comes
+-- before it; parts of a list; texts of two lengths; places past the end.
 -- Assumes nothing.
 use mathlib.Core.Path.{_≡_, refl, sym, ap, _∙_}
 use mathlib.Core.Bool.{Bool, true, false, _&&_, false≢true, and-false}
@@ -13,12 +13,12 @@ use lib.ListN.{length, getD, take, drop, length-drop}
 use Rattle.text.specs.Bytes.{same, sameLetters}
 use lib.Seq.{drop-cons, take-all, take-suc}
 
--- by a test: each case may rewrite by what the test says there
+-- by a test: each case may rewrite by the result of the test
 pub by-test : {A : Type 0} (t : Bool) → (t ≡ true → A) → (t ≡ false → A) → A
 by-test true f g = f refl
 by-test false f g = g refl
 
--- what both halves of a test tell
+-- both halves of a test hold
 pub both : (a b : Bool) → (a && b) ≡ true → (a ≡ true) × (b ≡ true)
 both true b e = (refl, e)
 both false b e = absurd (false≢true e)
@@ -27,7 +27,7 @@ both false b e = absurd (false≢true e)
 pub drop-cons-add-one : (s : List ℕ) (i : ℕ) → i < length s → drop i s ≡ getD s i 0 ∷ drop (i + 1) s
 drop-cons-add-one s i h = rw (add-one, drop-cons s i 0)
 
--- from the end: what is left one place before
+-- from the end: what is left one place earlier
 pub drop-sub-one : (s : List ℕ) (e : ℕ) → 0 < e → e ≤ length s → drop (e - 1) s ≡ getD s (e - 1) 0 ∷ drop e s
 drop-sub-one s e p h =
     let n : e - 1 + 1 ≡ e = omega arith in
@@ -76,7 +76,7 @@ length-of-same s t e =
     by-test (eqb (length s) (length t)) (λ f. eqb-true (length s) (length t) f)
     (λ f. absurd (false≢true (sym (sameLetters-of-length s t (eqb-false (length s) (length t) f)) ∙ e)))
 
--- beyond the end
+-- past the end
 pub getD-of-length-le : (s : List ℕ) (i : ℕ) → length s ≤ i → getD s i 0 ≡ 0
 getD-of-length-le [] i h = refl
 getD-of-length-le (b ∷ s) zero h = absurd (omega arith)

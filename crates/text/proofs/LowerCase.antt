@@ -1,5 +1,5 @@
--- Letter case. In order: what says the same of a capital letter and of its small one; a text and its small letters, which has the
--- same words and the same numbers.
+-- Letter case. In order: tests that give the same result for a capital letter and for its small letter; a text and the text in
+-- small letters, which has the same words and the same numbers.
 -- Assumes nothing.
 use mathlib.Core.Path.{_≡_, refl, sym, ap, _∙_}
 use mathlib.Core.Bool.{true, false≢true}
@@ -18,7 +18,7 @@ use Rattle.text.proofs.Lists.{by-test, both}
 use Rattle.text.proofs.Numbers.{digit-range}
 
 -- ---- bytes
--- what says the same of a capital letter and of its small one
+-- a test that gives the same result for a capital letter and for its small letter
 of-lowerOf : {A : Type 0} (f : ℕ → A) → ((b : ℕ) → 65 ≤ b → b ≤ 90 → f (b + 32) ≡ f b) → (b : ℕ) → f (lowerOf b) ≡ f b
 unfolding lowerOf
 of-lowerOf f h b =

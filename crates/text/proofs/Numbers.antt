@@ -1,5 +1,6 @@
--- Digits and their value. In order: what a digit is; reading on from a value; a byte that is none; what fits; the sign put on before or
--- after the test; how large a short text's number can be; the sign and the digits that open a text.
+-- Digits and their value. In order: which bytes are digits; one digit more; a byte that is no digit; values that fit; the sign
+-- added before or after the test of the width; how large the number of a short text can be; the sign and the digits at the front
+-- of a text.
 -- Assumes nothing.
 use mathlib.Core.Path.{_≡_, refl, sym, ap, _∙_}
 use mathlib.Core.Bool.{Bool, true, false, cond, _&&_, false≢true}
@@ -14,7 +15,8 @@ use lib.ListN.{length, getD, take, length-take}
 use lib.Signed.{leZ, ltZ}
 use Rattle.text.specs.Bytes.{isDigit, isSign}
 use Rattle.text.specs.Places.{run, leading}
-use Rattle.text.specs.Number.{readFrom, digitsOf, unsignedOf, signedOf, fit, fitSigned, plus, minus, numeral, signedBy, AtMost}
+use Rattle.text.specs.Number.{readFrom, digitsOf, unsignedOf, signedOf, fit, fitSigned, plus, minus, numeral, AtMost}
+use Rattle.text.specs.Held.{signedBy}
 use Rattle.text.specs.declared.number.Number.{Number}
 use Rattle.text.specs.declared.number.Number.the-variants.{Value, Not}
 use Rattle.text.specs.declared.number.Integer.{Integer}
@@ -39,8 +41,8 @@ pub readFrom-cons : (s : List ℕ) (v b d : ℕ) → isDigit b ≡ true → d �
 unfolding readFrom
 readFrom-cons s v b d h e = rw (h, e)
 
--- ---- digits that open a text
--- digits alone, or a byte behind them that is none
+-- ---- digits at the front of a text
+-- a byte after them that is no digit
 readFrom-of-run-lt : (s : List ℕ) (v : ℕ) → run isDigit s < length s → readFrom v s ≡ Not
 unfolding run readFrom
 readFrom-of-run-lt [] v h = absurd (not-suc-le-zero h)
@@ -51,8 +53,8 @@ unfolding digitsOf
 digitsOf-of-run-lt [] h = refl
 digitsOf-of-run-lt (b ∷ s) h = readFrom-of-run-lt (b ∷ s) 0 h
 
--- ---- what fits
--- a value past the limit stays past it
+-- ---- values that fit
+-- a value above the limit stays above it
 pub fit-readFrom-of-lt : (s : List ℕ) (limit v : ℕ) → limit < v → fit limit (readFrom v s) ≡ Not
 unfolding fit readFrom
 fit-readFrom-of-lt [] limit v h = rw (lt-leb v limit h)
@@ -63,20 +65,20 @@ unfolding fit digitsOf
 fit-digitsOf-of-Not [] limit h = refl
 fit-digitsOf-of-Not (b ∷ s) limit h = h
 
--- digits from one place up to another, read as v: no number where the places are one
+-- digits from one place up to another, with the value v: no number if the two places are the same
 pub fit-digitsOf-of-length : (s : List ℕ) (limit v from end : ℕ) → v ≤ limit → from + length s ≡ end → fit limit (readFrom 0 s) ≡ fit limit (Value v)
     → fit limit (digitsOf s) ≡ cond (ltb from end) (Value v) Not
 unfolding fit digitsOf
 fit-digitsOf-of-length [] limit v from end f l e = rw (le-ltb from end (omega arith))
 fit-digitsOf-of-length (b ∷ s) limit v from end f l e = rw (lt-ltb from end (omega arith)) (rw (le-leb v limit f) at e)
 
--- an answer r that was fitted is at most the limit
+-- a result r of `fit` is at most the limit
 pub AtMost-of-fit : (limit k : ℕ) (x r : Number) → r ≡ fit limit x → limit ≤ k → AtMost k r
 unfolding fit
 AtMost-of-fit limit k (Value n) r e h = rw e (by-test (leb n limit) (λ y. rw y (omega (arith, leb-true n limit y))) (λ y. rw y tt))
 AtMost-of-fit limit k Not r e h = rw e tt
 
--- what was fitted, where it is a number
+-- the argument of `fit`, if its result is a number
 pub fit-value : (limit n : ℕ) (x : Number) → fit limit x ≡ Value n → x ≡ Value n
 unfolding fit
 fit-value limit n (Value m) = by-test (leb m limit) (λ e h. rw e at h) (λ e h. let k : Not ≡ Value n = rw e at h in let z : _≡_ {A = ℕ} 0 1 = cc in absurd (omega arith))
@@ -100,12 +102,12 @@ fit-fit k l (Value n) h =
 fit-fit k l Not h = refl
 
 -- ---- the sign
--- at most one less is below
+-- at most half - 1 is below half
 leb-pred : (n half : ℕ) → 0 < half → leb n (half - 1) ≡ ltb n half
 leb-pred n half h =
     by-test (leb n (half - 1)) (λ e. e ∙ sym (lt-ltb n half (omega (arith, leb-true n (half - 1) e)))) (λ e. e ∙ sym (le-ltb n half (omega (arith, leb-false n (half - 1) e))))
 
--- no number from 0 up is below the least
+-- no number from 0 up is below -half
 least-le-pos : (half n : ℕ) → leZ (negℤ (pos half)) (pos n) ≡ true
 least-le-pos zero n = le-leb 0 n (omega arith)
 least-le-pos (suc h) n = refl
@@ -122,7 +124,7 @@ fitSigned-minus (suc h) (Value zero) p = rw (lt-ltb 0 (suc h) p, le-leb 0 (suc h
 fitSigned-minus (suc h) (Value (suc n)) p = rw (leb·suc-suc) (by-test (leb n h) (λ e. rw e) (λ e. rw e))
 fitSigned-minus (suc h) Not p = refl
 
--- ---- the number of a short text: of k bytes, below 10 to the k, with or without a sign
+-- ---- the number of a short text: with k bytes it is below 10 to the k, with or without a sign
 abbrev pub Below : ℕ → Number → Type 0
 Below k (Value n) = n < k
 Below k Not = Unit {0}
@@ -156,7 +158,7 @@ unsignedOf-below [] = tt
 unsignedOf-below (b ∷ s) =
     by-test (eqb b 43) (λ e. rw e (Below-le (digitsOf s) (omega (arith, pow-succ' 10 (length s))) (digitsOf-below s))) (λ e. rw e (digitsOf-below (b ∷ s)))
 
--- so it fits any width that holds as much
+-- so it fits any width that holds numbers of that size
 pub fit-of-length : (limit : ℕ) (s : List ℕ) → 10 ^ length s ≤ limit + 1 → fit limit (unsignedOf s) ≡ unsignedOf s
 unfolding fit
 fit-of-length limit s h = go (unsignedOf s) (unsignedOf-below s)
@@ -196,7 +198,7 @@ fitSigned-of-length half s h = go half (signedOf s) h (signedOf-short s)
     go (suc m) (Is (negsuc n)) k b = rw (le-leb n m (omega arith))
     go half NotOne k b = refl
 
--- two bytes' number is below 100 in size, so any width that holds 100 reads it whole
+-- the number of two bytes is below 100 in size, so it fits any width that holds 100
 pub pow-length-take : (s : List ℕ) → 10 ^ length (take 2 s) ≤ 100
 pow-length-take s = let h : length (take 2 s) ≤ 2 = omega (arith, length-take 2 s) in pow-le-pow-right {n = 10} (omega arith) h
 
@@ -206,7 +208,7 @@ fitSigned-take half s h = fitSigned-of-length half (take 2 s) (omega (arith, pow
 pub fit-take : (limit : ℕ) (s : List ℕ) → 99 ≤ limit → fit limit (unsignedOf (take 2 s)) ≡ unsignedOf (take 2 s)
 fit-take limit s h = fit-of-length limit (take 2 s) (omega (arith, pow-length-take s))
 
--- ---- the sign and the digits that open a text
+-- ---- the sign and the digits at the front of a text
 -- digits alone
 signedOf-leading : (s : List ℕ) → signedOf (leading isDigit s) ≡ plus (digitsOf (leading isDigit s))
 unfolding signedOf unsignedOf digitsOf run
@@ -218,7 +220,7 @@ signedOf-leading (b ∷ s) =
     rw (e, ne-eqb b 45 (λ k. omega arith), ne-eqb b 43 (λ k. omega arith)))
     (λ e. rw e)
 
--- n is what the digits behind the sign are, if there is one
+-- n is the number that the digits after the sign are, if there is a sign
 module _ (half : ℕ) (h : 0 < half) (n : Number) where
   fitSigned-minus-of : (s : List ℕ) → n ≡ fit half (digitsOf s) → signedBy half true n ≡ fitSigned half (minus (digitsOf s))
   unfolding signedBy
@@ -238,7 +240,7 @@ module _ (half : ℕ) (h : 0 < half) (n : Number) where
       by-test (eqb b 43) (λ j. rw (eqb-true b 43 j) (fitSigned-plus-of (leading isDigit s) (rw (eqb-true b 43 j) at e)))
       (λ j. rw (k, j) (fitSigned-plus-of (leading isDigit (b ∷ s)) (rw (j, k) at e) ∙ sym (ap (fitSigned half) (signedOf-leading (b ∷ s))))))
 
--- ---- a text whose number has other bytes behind it is none
+-- ---- a text with other bytes after the sign and the digits is no number
 pub signedOf-of-numeral-lt : (s : List ℕ) → numeral s < length s → signedOf s ≡ NotOne
 unfolding numeral signedOf unsignedOf isSign
 signedOf-of-numeral-lt [] h = refl
@@ -255,7 +257,7 @@ unfolding numeral run
 numeral-of-digits [] e = refl
 numeral-of-digits (b ∷ s) e = rw e
 
--- ---- it is within any run that signs and digits are of
+-- ---- sign and digits are within any run of a class that has signs and digits
 module _ (q : ℕ → Bool) (signs : (b : ℕ) → isSign b ≡ true → q b ≡ true) (digits : (b : ℕ) → isDigit b ≡ true → q b ≡ true) where
   pub numeral-le-run : (s : List ℕ) → numeral s ≤ run q s
   unfolding numeral run

@@ -1,5 +1,5 @@
--- ASCII texts, and the plain bytes of a word. In order: which bytes are not white space; what a plain byte is; texts that are ASCII; a
--- byte that a text does not hold; in an ASCII text without `:` the plain bytes are those that are not white space.
+-- ASCII texts, and the plain bytes of a word. In order: which bytes are not white space; what a plain byte is; texts that are
+-- ASCII; a byte that a text does not hold; in an ASCII text without `:`, the plain bytes are those that are not white space.
 -- Assumes nothing.
 use mathlib.Core.Path.{_≡_, refl, ap, _∙_}
 use mathlib.Core.Bool.{true, false, not, _&&_, and-false}

@@ -1,5 +1,6 @@
--- Bytes put in front of a place e of a room. In order: one byte; what stands before the place and from it on; digits put one by one
--- from the last; two bytes; digits put two by two; a second put in front of the first; a part of a room that a call wrote to.
+-- Bytes written in front of a place e of a buffer. In order: one byte; the buffer before that place and from it on; digits written
+-- one by one from the last; two bytes; digits written two by two; a second write in front of the first; a call that writes to a
+-- part of a buffer.
 -- Assumes nothing.
 use mathlib.Core.Path.{_≡_, sym, ap, _∙_}
 use mathlib.Core.List.{List, _∷_, _++_, append-nil}
@@ -28,7 +29,7 @@ drop-put e l t k = drop-at (take e l) t e (length-take-le e l k)
 abbrev pub put : ℕ → ℕ → List ℕ → List ℕ
 put n e l = take (e - length (decimal n)) l ++ decimalBefore n (drop e l)
 
--- the last digit first: what is left to put are the others, in front of it
+-- the last digit first, then the others in front of it
 put-of-le : (n e : ℕ) (l : List ℕ) → 10 ≤ n → length (decimal n) ≤ e → e ≤ length l
     → put n e l ≡ put (n / 10) (e - 1) (take (e - 1) l ++ (48 + n % 10) ∷ drop e l)
 put-of-le n e l h k i =
@@ -80,11 +81,11 @@ put-two-of-lt n e l h g k i =
     let s : 0 < length (decimal (n / 10)) = length-decimal-pos (n / 10) in
     put-of-le n e l h k i ∙ put-of-lt (n / 10) (e - 1) _ (omega arith) ∙ two-put l e (48 + n / 10) (48 + n % 10) (omega arith) i
 
--- a second put, in front of the first
+-- a second write, in front of the first
 pub put-put : (f : List ℕ → List ℕ) (l t r r′ : List ℕ) (i j e : ℕ) → r ≡ take e l ++ t → r′ ≡ take i r ++ f (drop e r) → i ≡ j → j ≤ e → e ≤ length l → r′ ≡ take j l ++ f t
 put-put f l t r r′ i j e p q s h k = q ∙ (λ x. take (s x) (p x) ++ f (drop e (p x))) ∙ (λ x. take-put j e l t h k x ++ f (drop-put e l t k x))
 
--- a part of a room, from a place on, that a call changed by f
+-- the part of a buffer from a place on, changed by f
 pub put-behind : (l ys : List ℕ) (at : ℕ) (f : List ℕ → List ℕ) → at ≤ length l → ys ≡ f (take (length l - at) (drop at l))
     → putMid at (length l - at) l ys ≡ take at l ++ f (drop at l)
 put-behind l ys at f h e =

@@ -1,6 +1,6 @@
--- Runs of bytes, and places. In order: a run is within its text; the place past a run, one byte at a time; the bytes of a run; runs
--- of two kinds, where the bytes of one kind are of the other; what no byte of a run changes; a byte that stands nowhere; the last
--- place at which a test holds, found from the end.
+-- Runs of bytes, and places. In order: a run is within its text; the place past a run, one byte at a time; the bytes of a run;
+-- runs of two classes, one of which includes the other; a function that no byte of a run changes; a byte that a text does not
+-- hold; the last place at which a test holds, found from the end.
 -- Assumes nothing.
 use mathlib.Core.Path.{_≡_, refl, ap, _∙_, sym}
 use mathlib.Core.Bool.{Bool, true, false, not, _||_, false≢true}
@@ -46,7 +46,7 @@ module _ (p : ℕ → Bool) (s : List ℕ) (i : ℕ) where
   unfolding past run
   past-of-length-le h = rw (drop-of-length-le s h) (omega arith)
 
-  -- a byte that is not of the bytes without p is one that p holds of
+  -- a byte that does not fail p satisfies p
   pub past-no-no : past p s i ≡ past (no (no p)) s i
   past-no-no = λ j. past (λ b. not-not (p b) j) s i
 
@@ -67,8 +67,8 @@ module _ (p : ℕ → Bool) (s : List ℕ) (i : ℕ) where
   unfolding run
   leading-of-true h e = rw (drop-cons-add-one s i h, e)
 
--- ---- runs of two kinds
--- a place within a run of q is past as much of it
+-- ---- runs of two classes
+-- a run is as long as n of its bytes and the run after them
 pub run-drop : (q : ℕ → Bool) (n : ℕ) (s : List ℕ) → n ≤ run q s → n + run q (drop n s) ≡ run q s
 unfolding run
 run-drop q zero s h = zero-add (run q s)
@@ -86,7 +86,7 @@ module _ (p q : ℕ → Bool) (inside : (b : ℕ) → p b ≡ true → q b ≡ t
   run-le-run [] = le-refl 0
   run-le-run (b ∷ s) = by-test (p b) (λ e. rw (e, inside b e) (omega (arith, run-le-run s))) (λ e. rw e (omega arith))
 
-  -- of the bytes that q holds of, p holds of as many as of all
+  -- a run of p in the leading bytes of q is the run of p in the whole
   pub run-leading : (s : List ℕ) → run p (leading q s) ≡ run p s
   unfolding run
   run-leading [] = refl
@@ -94,7 +94,7 @@ module _ (p q : ℕ → Bool) (inside : (b : ℕ) → p b ≡ true → q b ≡ t
       by-test (q b) (λ e. rw e (by-test (p b) (λ d. rw d (ap suc (run-leading s))) (λ d. rw d)))
       (λ e. by-test (p b) (λ d. absurd (false≢true (sym e ∙ inside b d))) (λ d. rw (e, d)))
 
--- ---- what no byte of a run changes
+-- ---- a function that no byte of a run changes
 module _ {A : Type 0} (f : List ℕ → A) (p : ℕ → Bool) (same : (b : ℕ) (s : List ℕ) → p b ≡ true → f (b ∷ s) ≡ f s) where
   drop-run : (s : List ℕ) → f s ≡ f (drop (run p s) s)
   unfolding run
@@ -104,7 +104,7 @@ module _ {A : Type 0} (f : List ℕ → A) (p : ℕ → Bool) (same : (b : ℕ) 
   pub same-drop-past : (s : List ℕ) (i : ℕ) → f (drop i s) ≡ f (drop (past p s i) s)
   same-drop-past s i = drop-run (drop i s) ∙ ap f (drop-past p s i)
 
--- ---- a byte that stands nowhere
+-- ---- a byte that a text does not hold
 pub has-cons : (c b : ℕ) (s : List ℕ) → has c (b ∷ s) ≡ (eqb b c || has c s)
 unfolding has firstPlace run
 has-cons c b s = by-test (eqb b c) (λ e. rw e (lt-ltb 0 (suc (length s)) (omega arith))) (λ e. rw e (ltb-suc (run (λ x. not (eqb x c)) s) (length s)))
@@ -130,17 +130,17 @@ module _ (p : List ℕ → Bool) where
   lastWhere-le-length (b ∷ s) =
       by-test (ltb (lastWhere p s) (length s) || not (p (b ∷ s))) (λ e. rw e (omega (arith, lastWhere-le-length s))) (λ e. rw e (omega arith))
 
-  -- none at b, none behind it
+  -- not at b and at no place after it
   pub lastWhere-none : (b : ℕ) (s : List ℕ) → lastWhere p s ≡ length s → p (b ∷ s) ≡ false → lastWhere p (b ∷ s) ≡ length (b ∷ s)
   unfolding lastWhere
   lastWhere-none b s h e = let l : ltb (lastWhere p s) (length s) ≡ false = le-ltb (lastWhere p s) (length s) (omega arith) in rw (l, e) (ap suc h)
 
-  -- one at b, none behind it
+  -- at b and at no place after it
   pub lastWhere-here : (b : ℕ) (s : List ℕ) → lastWhere p s ≡ length s → p (b ∷ s) ≡ true → lastWhere p (b ∷ s) ≡ 0
   unfolding lastWhere
   lastWhere-here b s h e = let l : ltb (lastWhere p s) (length s) ≡ false = le-ltb (lastWhere p s) (length s) (omega arith) in rw (l, e)
 
-  -- what stands before a place at which, or behind which, the test holds is not asked
+  -- if the test holds somewhere from place i on, the bytes before i do not matter
   pub lastWhere-drop : (s : List ℕ) (i : ℕ) → lastWhere p (drop i s) < length (drop i s) → lastWhere p s ≡ i + lastWhere p (drop i s)
   unfolding lastWhere
   lastWhere-drop s zero h = sym (zero-add (lastWhere p s))
@@ -150,7 +150,7 @@ module _ (p : List ℕ → Bool) where
       let l : ltb (lastWhere p s) (length s) ≡ true = lt-ltb (lastWhere p s) (length s) (omega (arith, length-drop i s)) in
       rw l (omega arith)
 
-  -- none from e on: a walk from the end has come there and met none
+  -- at no place from e on: a scan from the end has come to e without finding one
   abbrev pub None : List ℕ → ℕ → Type 0
   None s e = (e ≤ length s) × (lastWhere p (drop e s) ≡ length (drop e s))
 
@@ -158,7 +158,7 @@ module _ (p : List ℕ → Bool) where
   unfolding lastWhere
   none-at-end s = (le-refl (length s), rw (drop-of-length-le s (le-refl (length s))))
 
-  -- it goes on by one byte: there is the last, or there is none either
+  -- the scan goes on by one byte: the last place is there, or not there either
   module _ (s : List ℕ) (e : ℕ) (h : 0 < e) (n : None s e) where
     pub last-here : p (getD s (e - 1) 0 ∷ drop e s) ≡ true → e - 1 ≡ lastWhere p s
     last-here k =
@@ -169,7 +169,7 @@ module _ (p : List ℕ → Bool) where
     pub none-before : p (getD s (e - 1) 0 ∷ drop e s) ≡ false → None s (e - 1)
     none-before k = (omega (arith, n .0), rw (drop-sub-one s e h (n .0)) (lastWhere-none _ _ (n .1) k))
 
--- and for one byte by as many as do not hold it
+-- for one byte, it goes on by any number of bytes that are not that byte
 lastPlace-append : (b : ℕ) (u t : List ℕ) → has b u ≡ false → lastPlace b t ≡ length t → lastPlace b (u ++ t) ≡ length (u ++ t)
 unfolding lastPlace
 lastPlace-append b [] t h n = n

@@ -1,5 +1,5 @@
--- Signed plain decimal. In order: what the sign decides; what stands behind it; how many bytes it takes; which bytes they are; reading it
--- back; the digits put in front of a place, and the minus in front of them.
+-- Signed plain decimal. In order: what the sign decides; a text after it; how many bytes it takes; which bytes they are; reading
+-- it back; the digits written in front of a place, and the minus in front of them.
 -- Assumes nothing.
 use mathlib.Core.Path.{_≡_, refl, sym, ap, _∙_}
 use mathlib.Core.List.{List, _∷_, _++_, append-assoc}
@@ -29,7 +29,7 @@ unfolding signedBefore signed decimalBefore
 signedBefore-of-le (pos n) t h = refl
 signedBefore-of-le (negsuc n) t h = absurd (omega (arith, le-parts h))
 
--- ---- what stands behind it
+-- ---- a text after it
 pub signedBefore-app : (z : ℤ) (s t : List ℕ) → signedBefore z (s ++ t) ≡ signedBefore z s ++ t
 unfolding signedBefore
 signedBefore-app z s t = sym (append-assoc (signed z) s t)
@@ -59,7 +59,7 @@ length-decimal-le-signed (negsuc n) = omega (arith, length-signed-of-lt (negsuc 
 pub length-signed-pos : (z : ℤ) → 0 < length (signed z)
 length-signed-pos z = omega (arith, length-decimal-le-signed z, length-decimal-pos (natAbs z))
 
--- at most 20 of a number that 64 bits hold
+-- at most 20 bytes, for a number of 64 bits
 pub length-signed-le : (z : ℤ) → natAbs z ≤ 2 ^ 63 → length (signed z) ≤ 20
 length-signed-le (pos n) h = omega (arith, length-signed-of-le (pos n) (parts-le _ _ (omega arith)), length-decimal-le 18 n (omega arith))
 length-signed-le (negsuc n) h = omega (arith, length-signed-of-lt (negsuc n) (parts-lt _ _ (omega arith)), length-decimal-le 18 (suc n) (omega arith))
@@ -81,14 +81,14 @@ signedOf-signed (pos n) =
     signedOf-of-digits (decimal n) n (length-decimal-pos n) (decimal-between 48 57 (omega arith) (omega arith) n) (readFrom-decimal n)
 signedOf-signed (negsuc n) = signedOf-of-minus (decimal (suc n)) (suc n) (length-decimal-pos (suc n)) (readFrom-decimal (suc n))
 
--- in the width that holds it
+-- in 64 bits
 pub fitSigned-signed : (z : ℤ) → In (negsuc (2 ^ 63 - 1)) (pos (2 ^ 63 - 1)) z → fitSigned (2 ^ 63) (signedOf (signed z)) ≡ Is z
 unfolding fitSigned
 fitSigned-signed z r =
     let below : z <ℤ pos (2 ^ 63) = parts-lt _ _ (omega (arith, le-parts (r .high))) in
     rw (signedOf-signed z, leZ-true (r .low), ltZ-true below)
 
--- ---- put in front of a place: where it starts, and the room after it
+-- ---- written in front of a place: where it starts, and the buffer after the call
 abbrev pub PutSigned : ℤ → ℕ → List ℕ → ℕ → List ℕ → Type 0
 PutSigned z end l at r = (at ≡ end - length (signed z)) × (r ≡ take (end - length (signed z)) l ++ signedBefore z (drop end l))
 

@@ -1,6 +1,6 @@
 -- Words and the reader of words, for any separator. In order: the first word of a text; `takeWord` gives the first word of those
--- that are left, and moves on; those words by places; taking again and again gives the words; the words of two texts with a separator between them; a word
--- has no separator in it.
+-- that are left, and moves on; those words by places; taking again and again gives the words; the words of two texts with a
+-- separator between them; a word has no separator in it.
 -- Assumes nothing.
 use mathlib.Core.Path.{_≡_, refl, sym, ap, _∙_}
 use mathlib.Core.Bool.{Bool, true, false}
@@ -19,18 +19,18 @@ use Rattle.text.specs.declared.words.Taken.the-variants.{Word, Nothing}
 use Rattle.text.proofs.Lists.{by-test}
 use Rattle.text.proofs.Runs.{past-le-length, le-past, drop-past}
 
--- what an answer of the reader tells of the words that are left: the one taken, and those from the reader that it came with
+-- the words that are left, by an answer of the reader: the word taken, and then the words from the place of the returned reader on
 abbrev pub listed : (ℕ → Bool) → List ℕ → Taken → List (List ℕ)
 listed p s (Word x w) = part s x ∷ words p (drop (w .at) s)
 listed p s Nothing = []
 
--- where an answer with a word leaves the reader: further on, and within the text
+-- where an answer with a word leaves the reader: further on than before, and within the text
 abbrev pub Moves : List ℕ → ℕ → Taken → Type 0
 Moves s at (Word x w) = (at < w .at) × (w .at ≤ length s)
 Moves s at Nothing = Unit {0}
 
 module _ (p : ℕ → Bool) where
-  -- what is left past the first piece, cut on
+  -- the pieces after the first one
   abbrev tails : List ℕ → List (List ℕ)
   tails [] = []
   tails (b ∷ s) = pieces p s
@@ -45,7 +45,7 @@ module _ (p : ℕ → Bool) where
   words-drop-run [] = refl
   words-drop-run (b ∷ s) = by-test (p b) (λ e. rw e (words-drop-run s)) (λ e. rw (e, e))
 
-  -- past them stands no separator
+  -- the byte after them is no separator
   run-pos : (s : List ℕ) → 0 < length (drop (run p s) s) → 0 < run q (drop (run p s) s)
   unfolding run
   run-pos [] h = h
@@ -95,7 +95,7 @@ module _ (p : ℕ → Bool) where
   unfolding past
   past-lt s at h = omega (arith, rw (drop-past p s at) at (run-pos (drop at s) (more s at h)))
 
-  -- an answer t that the reader gave: a word taken is the first of the words that are left, and its reader has the others
+  -- a word that the reader takes is the first of the words that are left, and the returned reader has the others
   pub words-takeWord : (s : List ℕ) (at : ℕ) (t : Taken) → t ≡ takeWord p s at → words p (drop at s) ≡ listed p s t
   unfolding takeWord
   words-takeWord s at t e = rw e (by-test (ltb (past p s at) (length s)) (λ y. rw y (words-of-lt s at (ltb-true _ _ y))) (λ n. rw n (words-of-le s at (ltb-false _ _ n))))

@@ -1,5 +1,5 @@
--- Texts whose bytes are known. In order: a byte that stands nowhere in a text; in none of its words; a text whose bytes lie in a
--- range, as those of a number do; a number that is digits, or a minus and digits.
+-- Texts whose bytes are known. In order: a byte that a text does not hold; that none of its words holds; a text whose bytes are in
+-- a range, as those of a number are; a number that is digits, or a minus and digits.
 -- Assumes nothing.
 use mathlib.Core.Path.{_≡_, refl, sym, ap, _∙_}
 use mathlib.Core.Bool.{Bool, true, false, _||_, false≢true}
@@ -28,7 +28,7 @@ use Rattle.text.proofs.Decimals.{Between}
 use Rattle.text.proofs.Taking.{Whole}
 
 module _ (c : ℕ) where
-  -- ---- a byte that stands nowhere in a text
+  -- ---- a byte that a text does not hold
   pub not-has-cons : (b : ℕ) (s : List ℕ) → eqb b c ≡ false → has c s ≡ false → has c (b ∷ s) ≡ false
   not-has-cons b s e h = rw (has-cons c b s, e, h)
 
@@ -43,11 +43,11 @@ module _ (c : ℕ) where
   not-has-append [] t h k = k
   not-has-append (b ∷ s) t h k = let p = not-has-of-cons b s h in not-has-cons b (s ++ t) (p .0) (not-has-append s t (p .1) k)
 
-  -- by a cut at any place
+  -- by the two parts of a text cut at any place
   pub not-has-cut : (n : ℕ) (s : List ℕ) → has c (take n s) ≡ false → has c (drop n s) ≡ false → has c s ≡ false
   not-has-cut n s h k = rw (take-append-drop n s) at (not-has-append (take n s) (drop n s) h k)
 
-  -- ---- in none of its words
+  -- ---- a byte that none of the words holds
   abbrev pub Lacking : List (List ℕ) → Type 0
   Lacking [] = Unit {0}
   Lacking (w ∷ ws) = (has c w ≡ false) × Lacking ws
@@ -73,7 +73,7 @@ module _ (c : ℕ) where
         by-test (p b) (λ e. let k = rw e at h in not-has-cons b s (not-c b e) (not-has-of-pieces s (k .1)))
         (λ e. let k = lacking-of-onto b (pieces p s) (rw e at h) in not-has-cons b s (k .0) (not-has-of-pieces s (k .1)))
 
-    -- a byte that separates no words, and stands in no word, stands nowhere
+    -- a text does not hold a byte that is no separator and that none of its words holds
     pub not-has-of-words : (s : List ℕ) → Lacking (words p s) → has c s ≡ false
     unfolding words
     not-has-of-words s h = not-has-of-pieces s (lacking-of-full (pieces p s) h)
@@ -135,7 +135,7 @@ between-of-signedOf (b ∷ s) z h =
     plussed (Value n) e k = between-of-unsignedOf n (b ∷ s) e
     plussed Not e k = let q : _≡_ {A = ℕ} 0 1 = cc in absurd (omega arith)
 
--- so a text with a byte of 128 or more is no number
+-- so a text that holds a byte of 128 or more is no number
 pub signedOf-not-ascii : (s : List ℕ) → ascii s ≡ false → signedOf s ≡ NotOne
 signedOf-not-ascii s h = told (signedOf s) refl
   where
@@ -143,7 +143,7 @@ signedOf-not-ascii s h = told (signedOf s) refl
     told (Is z) e = absurd (false≢true (sym h ∙ ascii-of-between 43 57 (omega arith) s (between-of-signedOf s z e)))
     told NotOne e = refl
 
--- an unsigned number is the same signed: it does not open with `-`
+-- an unsigned number is the same number as a signed one, since it does not begin with `-`
 unsignedOf-minus : (s : List ℕ) → unsignedOf (45 ∷ s) ≡ Not
 unfolding unsignedOf digitsOf readFrom isDigit
 unsignedOf-minus s = refl

@@ -1,6 +1,6 @@
--- Trimming. In order: the clause of `trimEnd` from the end; a text that opens with no white space still does without the white space
--- that ends it; trimming what is trimmed changes nothing; a text that white space neither opens nor ends; the words of a trimmed
--- text.
+-- Trimming. In order: the clause of `trimEnd` from the end; a text that does not begin with white space still does not once its
+-- end is trimmed; trimming a trimmed text changes nothing; a text that neither begins nor ends with white space; the words of a
+-- trimmed text.
 -- Assumes nothing.
 use mathlib.Core.Path.{_≡_, refl, sym, ap, _∙_}
 use mathlib.Core.Bool.{Bool, true, false, cond}
@@ -28,7 +28,7 @@ trimEnd-snoc s b = rw (reverse-append s (b ∷ [])) (go (isSpace b))
     go true = refl
     go false = reverse-cons b (reverse s) ∙ rw reverse-reverse
 
--- what is left past the white space that opens it
+-- what is left after the white space at the front
 pub trimStart-past : (s : List ℕ) → trimStart s ≡ drop (past isSpace s 0) s
 unfolding trimStart run past
 trimStart-past [] = refl
@@ -44,17 +44,17 @@ unfolding trimStart
 trimStart-trimStart [] = refl
 trimStart-trimStart (b ∷ s) = by-test (isSpace b) (λ e. rw e (trimStart-trimStart s)) (λ e. rw (e, e))
 
--- a text that opens with white space is not trimmed
+-- a text that begins with white space is not trimmed
 not-trimmed : (b : ℕ) (s : List ℕ) → trimStart s ≡ b ∷ s → ⊥
 not-trimmed b s h = omega (arith, length-trimStart-le s, ap length h)
 
--- a trimmed start is trimmed without its last byte too
+-- a text with a trimmed start, without its last byte, still has one
 trimStart-of-snoc : (s : List ℕ) (b : ℕ) → trimStart (s ++ (b ∷ [])) ≡ s ++ (b ∷ []) → trimStart s ≡ s
 unfolding trimStart
 trimStart-of-snoc [] b h = refl
 trimStart-of-snoc (c ∷ s) b h = by-test (isSpace c) (λ e. absurd (not-trimmed c (s ++ (b ∷ [])) (rw e at h))) (λ e. rw e)
 
--- the same of every byte that ends it, the text taken from its end
+-- the same without any number of bytes at the end
 trimStart-reverse : (r : List ℕ) → trimStart (reverse r) ≡ reverse r → trimStart (reverse (trimStart r)) ≡ reverse (trimStart r)
 unfolding trimStart
 trimStart-reverse [] h = refl
@@ -69,17 +69,17 @@ trimEnd-trimEnd : (s : List ℕ) → trimEnd (trimEnd s) ≡ trimEnd s
 unfolding trimEnd
 trimEnd-trimEnd s = rw (reverse-reverse, trimStart-trimStart)
 
--- trimming what is trimmed changes nothing
+-- trimming a trimmed text changes nothing
 pub trim-trim : (s : List ℕ) → trim (trim s) ≡ trim s
 unfolding trim
 trim-trim s = rw (trimStart-trimEnd (trimStart s) (trimStart-trimStart s), trimEnd-trimEnd)
 
--- ---- a text that white space neither opens nor ends
+-- ---- a text that neither begins nor ends with white space
 pub trim-of-ends : (b : ℕ) (s : List ℕ) (e : ℕ) → isSpace b ≡ false → isSpace e ≡ false → trim (b ∷ (s ++ (e ∷ []))) ≡ b ∷ (s ++ (e ∷ []))
 unfolding trim trimStart
 trim-of-ends b s e p q = rw p (trimEnd-snoc (b ∷ s) e ∙ rw q)
 
--- ---- the words of a trimmed text are those of the text, whichever bytes separate them
+-- ---- a trimmed text has the same words, whichever bytes separate them
 isSpace-separates : (by : Separator) (b : ℕ) → isSpace b ≡ true → separator by b ≡ true
 unfolding isAlphanumeric
 isSpace-separates Space b h = h

@@ -1,5 +1,5 @@
--- What a byte is: white space, a digit, a sign, a letter; and what a text is made of. A text is a list of bytes, a byte a number
--- from 0 to 255.
+-- Bytes: which are white space (RULES 4.1), digits, signs and letters; and whole texts, tested and compared. A text is a list of
+-- bytes, and a byte is a number from 0 to 255.
 -- Assumes nothing.
 use Prim.Native.Nat.{ℕ, _+_}
 use Prim.Native.Char.{code}
@@ -7,7 +7,7 @@ use mathlib.Core.Bool.{Bool, true, false, cond, not, _&&_, _||_}
 use mathlib.Core.List.{List, [], _∷_}
 use lib.Dec.{leb, ltb, eqb}
 
--- from lo to hi, both counted
+-- from lo to hi, both included
 abbrev pub between : ℕ → ℕ → ℕ → Bool
 between lo hi b = leb lo b && leb b hi
 
@@ -25,15 +25,15 @@ isSign b = eqb b (code "+") || eqb b (code "-")
 unfoldable pub isAlphanumeric : ℕ → Bool
 isAlphanumeric b = between (code "0") (code "9") b || (between (code "A") (code "Z") b || between (code "a") (code "z") b)
 
--- a plain byte of a word: no white space, no `:`, no byte of 128 or more
+-- a plain byte of a word: no white space, no `:`, and below 128
 unfoldable pub isPlain : ℕ → Bool
 isPlain b = not (isSpace b) && not (eqb b (code ":")) && ltb b 128
 
--- the small letter of a capital one; other bytes are their own
+-- the small letter of a capital letter; any other byte as it is
 unfoldable pub lowerOf : ℕ → ℕ
 lowerOf b = cond (between (code "A") (code "Z") b) (b + 32) b
 
--- no byte of 128 or more
+-- every byte is below 128
 unfoldable pub ascii : List ℕ → Bool
 ascii [] = true
 ascii (b ∷ s) = ltb b 128 && ascii s

@@ -1,6 +1,6 @@
--- Plain decimal: the digits of a number, as bytes, with no zero in front but for 0 itself (`decimal-digits` in proofs/Decimals.antt
--- proves it), and `-` in front of a negative one. `decimalBefore`, `signedBefore` and `twoBefore` have a text t behind the digits, since a
--- line is written from its end to its front.
+-- Plain decimal (RULES 9.1): the digits of a number, as bytes, with no zero in front except for 0 itself (proved as
+-- `decimal-digits`), and `-` in front of a negative number. `decimalBefore`, `signedBefore` and `twoBefore` have a text t after
+-- the digits, since a line is written from its end to its front.
 -- Assumes nothing.
 use Prim.Native.Nat.{ℕ, zero, suc, _+_, _/_, _%_}
 use Prim.Native.Char.{code}

@@ -1,4 +1,4 @@
--- The lines of an input, and the fields of a line with tabs between them.
+-- The lines of an input (RULES 10.1), and the fields of a line, with tabs between them (RULES 10.2).
 -- Assumes nothing.
 use Prim.Native.Nat.{ℕ, _+_}
 use mathlib.Core.Bool.{cond}
@@ -14,7 +14,7 @@ tab = 9
 abbrev pub newline : ℕ
 newline = 10
 
--- the field that opens s, and what follows its tab
+-- the first field of s, and what follows its tab
 abbrev pub field : List ℕ → List ℕ
 field s = before tab s
 
@@ -26,7 +26,7 @@ unfoldable pub linesOf : List ℕ → List (List ℕ)
 linesOf [] = []
 linesOf (b ∷ s) = let ls = linesOf s in cond (eqb b newline) ([] ∷ ls) (onto b ls)
 
--- b put in front of the first line, if there is one
+-- b added to the front of the first line, if there is one
 abbrev pub ontoFirst : ℕ → List (List ℕ) → List (List ℕ)
 ontoFirst b [] = []
 ontoFirst b (l ∷ ls) = (b ∷ l) ∷ ls
@@ -36,7 +36,7 @@ unfoldable pub endedLines : List ℕ → List (List ℕ)
 endedLines [] = []
 endedLines (b ∷ s) = let ls = endedLines s in cond (eqb b newline) ([] ∷ ls) (ontoFirst b ls)
 
--- the bytes that lines take, each with its end
+-- how many bytes these lines have, each with its end
 unfoldable pub takenBy : List (List ℕ) → ℕ
 takenBy [] = 0
 takenBy (l ∷ ls) = length l + 1 + takenBy ls

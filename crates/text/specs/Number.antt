@@ -1,10 +1,10 @@
--- Numbers: an optional sign, then digits only, at least one, and the result fits the width. Values are unbounded; `fit` and
--- `fitSigned` alone know a width.
+-- Numbers: an optional sign and then digits only, at least one, whose value fits the width (RULES 4.2 to 4.4). Values are
+-- unbounded; only `fit` and `fitSigned` know a width.
 -- Assumes nothing.
 use Prim.Native.Nat.{ℕ, suc, _+_, _-_, _*_, _≤_}
 use Prim.Native.Char.{code}
 use mathlib.Core.Path.{_≡_}
-use mathlib.Core.Bool.{Bool, cond, _&&_}
+use mathlib.Core.Bool.{cond, _&&_}
 use mathlib.Core.List.{List, [], _∷_}
 use lib.Dec.{leb, eqb}
 use lib.IntN.{pos, negℤ}
@@ -18,7 +18,7 @@ use Rattle.text.specs.declared.number.Integer.{Integer}
 use Rattle.text.specs.declared.number.Integer.the-variants.{Is, NotOne}
 use Rattle.text.specs.declared.number.LeadingInteger.{LeadingInteger}
 
--- digits only: their value, read on from v
+-- digits only: their value, where the digits before them have the value v
 unfoldable pub readFrom : ℕ → List ℕ → Number
 readFrom v [] = Value v
 readFrom v (b ∷ s) = cond (isDigit b) (readFrom (10 * v + (b - code "0")) s) Not
@@ -46,26 +46,22 @@ unfoldable pub signedOf : List ℕ → Integer
 signedOf [] = NotOne
 signedOf (b ∷ s) = cond (eqb b (code "-")) (minus (digitsOf s)) (plus (unsignedOf (b ∷ s)))
 
--- the result fits the width: at most the limit
+-- the value fits the width: it is at most the limit
 unfoldable pub fit : ℕ → Number → Number
 fit limit (Value n) = cond (leb n limit) (Value n) Not
 fit limit Not = Not
 
--- from -half up to half - 1: 64 signed bits hold those of half 2 ^ 63
+-- from -half to half - 1: in 64 signed bits half is 2 ^ 63, in 32 signed bits 2 ^ 31
 unfoldable pub fitSigned : ℕ → Integer → Integer
 fitSigned half (Is z) = cond (leZ (negℤ (pos half)) z && ltZ z (pos half)) (Is z) NotOne
 fitSigned half NotOne = NotOne
 
--- how many bytes open s as a number does: a sign, if there is one, and digits
+-- how many bytes at the front of s are a sign, if there is one, and digits
 unfoldable pub numeral : List ℕ → ℕ
 numeral [] = 0
 numeral (b ∷ s) = cond (isSign b) (suc (run isDigit s)) (run isDigit (b ∷ s))
 
--- a number at most half, with its sign
-unfoldable pub signedBy : ℕ → Bool → Number → Integer
-signedBy half below n = cond below (minus n) (plus (fit (half - 1) n))
-
--- what is read of those bytes, where s stands at a place
+-- what is read from those bytes, where s begins at the place `at` of a text
 pub record LeadsWith (half : ℕ) (s : List ℕ) (at : ℕ) (r : LeadingInteger) : Type 0 where
   pub number-is : r .number ≡ fitSigned half (signedOf (take (numeral s) s))
   pub end-is : r .end ≡ at + numeral s

@@ -1,4 +1,4 @@
--- Quoted text as bytes: `bytes "ago"` is 97, 103, 111. For ASCII alone.
+-- Quoted text as bytes: `bytes "ago"` is 97, 103, 111. Only for ASCII text.
 -- Assumes nothing.
 use Prim.Native.Nat.{ℕ}
 use Prim.Native.Char.{code}

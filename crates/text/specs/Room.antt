@@ -1,4 +1,4 @@
--- What a room, the bytes that a caller lets a call write to, holds after the call.
+-- A caller's buffer after a call (RULES 9.3 and 12.1). The buffer is called a room here.
 -- Assumes nothing.
 use Prim.Native.Nat.{ℕ}
 use mathlib.Core.Bool.{Bool, cond, _&&_}
@@ -14,7 +14,7 @@ fits bytes room = leb (length bytes) (length room)
 abbrev pub fitBoth : List ℕ → List ℕ → List ℕ → List ℕ → Bool
 fitBoth bytes room more other = fits bytes room && fits more other
 
--- the room after a call that had these bytes to write: they are at its front and those beyond stay; a call that refuses leaves it as
--- it was
+-- the room after a call that was to write these bytes: they are at its front, and the bytes beyond them stay as they were. A call
+-- that refuses leaves the room as it was
 abbrev pub roomAfter : Bool → List ℕ → List ℕ → List ℕ
 roomAfter wrote bytes room = cond wrote (bytes ++ drop (length bytes) room) room

@@ -1,4 +1,4 @@
--- The classes of bytes that a scan passes.
+-- The classes of bytes that a scan passes: the test that each class is.
 -- Assumes nothing.
 use Prim.Native.Nat.{ℕ}
 use mathlib.Core.Bool.{Bool}

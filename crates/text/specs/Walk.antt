@@ -1,5 +1,5 @@
--- Document 01, "Words and numbers": "a walker that keeps the text and its place gives the same words". In order: a walker at the
--- front of a text; the word that comes next; the walker moved; the place past n words; the words that n steps give.
+-- RULES 4.5: "A walker that keeps the text and its place gives the same words." In order: a walker at the front of a text; the
+-- next word; the walker moved; the place past n words; the words that n steps give.
 -- Assumes nothing.
 use Prim.Native.Nat.{ℕ, zero, suc}
 use mathlib.Core.Bool.{Bool}
@@ -18,7 +18,7 @@ use Rattle.text.specs.declared.walker.Walker.{Walker}
 abbrev pub startOf : RefT (List ℕ) → Walker
 startOf t = record { text = t; at = 0 }
 
--- the word that comes next: the one that the reader takes at that place
+-- the next word: the one that the reader takes at that place
 abbrev pub nextOf : Walker → Separator → Taken
 nextOf w by = takeWord (separator by) (now (w .text)) (w .at)
 
@@ -26,7 +26,7 @@ nextOf w by = takeWord (separator by) (now (w .text)) (w .at)
 abbrev pub movedTo : Walker → ℕ → Walker
 movedTo w n = record { text = w .text; at = n }
 
--- where an answer has a word, what f makes of its bounds and of the reader past it; else d
+-- if a word was taken, f of its bounds and of the reader past it; else d
 abbrev ifWord : {A : Type 0} → Taken → (Span → Words → A) → A → A
 ifWord (Word x r) f d = f x r
 ifWord Nothing f d = d
@@ -36,7 +36,7 @@ unfoldable pub passed : (ℕ → Bool) → ℕ → List ℕ → ℕ → ℕ
 passed p zero s at = at
 passed p (suc n) s at = ifWord (takeWord p s at) (λ x r. passed p n s (r .at)) at
 
--- the words that n steps give: each step takes the word that comes next, and the walker moves past it
+-- the words that n steps give: each step takes the next word, and the walker moves past it
 unfoldable pub walk : Separator → ℕ → Walker → List (List ℕ)
 walk by zero w = []
 walk by (suc n) w = ifWord (nextOf w by) (λ x r. part (now (w .text)) x ∷ walk by n (movedTo w (r .at))) []

@@ -1,4 +1,4 @@
--- Words: what stands between bytes that separate. A separator is any test of a byte, and two are in use: white space; and every
+-- Words: the runs of bytes between separators (RULES 4.5). A separator is a test of a byte. Two are in use: white space; and every
 -- byte but ASCII letters and digits, so that words are runs of those.
 -- Assumes nothing.
 use Prim.Native.Nat.{ℕ}
@@ -22,7 +22,7 @@ abbrev pub onto : ℕ → List (List ℕ) → List (List ℕ)
 onto b [] = (b ∷ []) ∷ []
 onto b (w ∷ ws) = (b ∷ w) ∷ ws
 
--- s cut at each byte that p holds of, empty pieces kept
+-- s cut at each byte that satisfies p; empty pieces are kept
 unfoldable pub pieces : (ℕ → Bool) → List ℕ → List (List ℕ)
 pieces p [] = [] ∷ []
 pieces p (b ∷ s) = let ws = pieces p s in cond (p b) ([] ∷ ws) (onto b ws)
@@ -33,11 +33,11 @@ full [] = []
 full ([] ∷ ws) = full ws
 full ((b ∷ w) ∷ ws) = (b ∷ w) ∷ full ws
 
--- the words of s, where p holds of what separates them
+-- the words of s, separated by the bytes that satisfy p
 unfoldable pub words : (ℕ → Bool) → List ℕ → List (List ℕ)
 words p s = full (pieces p s)
 
--- "hands back the word together with itself moved past that word": the first word from `at`, with the reader past it
+-- RULES 4.5, "returns a word together with itself, moved past that word": the first word from `at` on, and the reader past it
 unfoldable pub takeWord : (ℕ → Bool) → List ℕ → ℕ → Taken
 takeWord p s at =
     let start = past p s at in

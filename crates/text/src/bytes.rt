@@ -1,13 +1,20 @@
-// What a byte is, and what a text is made of. The tests are written with `&` and `|`: they have no branch, and compute as
-// their definitions do.
+// Tests of a byte, and comparisons of whole texts. The tests of a byte are written with `&` and
+// `|`, so that they have no branch and compute as their definitions do.
 ghost use mathlib.Core.Path.{_≡_};
 ghost use Rattle.text.specs.Bytes.{isSpace, isDigit, isSign, isAlphanumeric, isPlain, lowerOf, ascii, same as sameBytes, sameLetters};
 
-// White space: bytes 9 to 13, byte 11 among them, and 32.
+// Bytes below this are ASCII.
+const ASCII_END: u8 = 128;
+
+// From a capital letter to its small letter.
+const TO_SMALL_LETTER: u8 = 32;
+
+// White space (RULES 4.1): bytes 9 to 13, which are tab to carriage return, and the space. Byte 11
+// is white space too.
 pub fn is_space(b: u8) -> bool
     ensures { λ r. ⌜ r ≡ isSpace b ⌝ }
 {
-    (9 <= b) & (b <= 13) | (b == 32)
+    (b'\t' <= b) & (b <= b'\r') | (b == b' ')
 }
 
 pub fn is_digit(b: u8) -> bool
@@ -28,17 +35,18 @@ pub fn is_alphanumeric(b: u8) -> bool
     (b'0' <= b) & (b <= b'9') | ((b'A' <= b) & (b <= b'Z') | (b'a' <= b) & (b <= b'z'))
 }
 
-// A plain byte of a word: no white space, no `:`, below 128. Nearly all are above 32, where there is no white space.
+// A plain byte of a word: no white space, no `:`, and ASCII. Nearly all bytes are above the space,
+// where there is no white space.
 pub fn is_plain(b: u8) -> bool
     ensures { λ r. ⌜ r ≡ isPlain b ⌝ }
 {
-    if 32 < b {
-        return (b != b':') & (b < 128);
+    if b' ' < b {
+        return (b != b':') & (b < ASCII_END);
     }
     !is_space(b)
 }
 
-// A capital letter becomes a small one; any other byte stays.
+// The small letter of a capital letter; any other byte as it is.
 pub fn lower(b: u8) -> u8
     ensures { λ r. ⌜ r ≡ lowerOf b ⌝ }
 {
@@ -48,18 +56,18 @@ pub fn lower(b: u8) -> u8
     if b'Z' < b {
         return b;
     }
-    b + 32
+    b + TO_SMALL_LETTER
 }
 
-// Whether no byte is 128 or more; so it is of the empty text. The loop does not stop at such a byte: they are rare, and without
-// a way out the compiler tests many bytes at once.
+// Whether every byte is ASCII. The empty text is. The loop does not stop at a byte that is not
+// ASCII: such bytes are rare, and without an early exit the compiler tests many bytes at once.
 pub fn is_ascii(s: &[u8]) -> bool
     ensures { λ r. ⌜ r ≡ ascii (now (s .entry)) ⌝ }
 {
     let mut all = true;
     let mut i = 0;
     while i < s.len() {
-        all = all & (s[i] < 128);
+        all = all & (s[i] < ASCII_END);
         i += 1;
     }
     all

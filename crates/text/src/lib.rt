@@ -1,5 +1,6 @@
-// Document 01, "Words and numbers": bytes become words and numbers. Every text has an answer, of any length and any bytes.
-// A part of a text is handed back as a part of the same slice, never as a copy.
+// Words and numbers in a text (RULES 4), and numbers written as text (RULES 9). A text is a slice
+// of bytes; every text has an answer, whatever its length and its bytes. A part of a text is
+// returned as a part of the same slice, never as a copy.
 pub mod bytes;
 pub mod decimal;
 pub mod number;

@@ -1,5 +1,6 @@
-// Numbers in a text, of any length: what is too large for its limit is no number, and nothing overflows on the way. One function
-// reads the digits of all widths, by the limit that it is given.
+// Numbers in a text (RULES 4.2 to 4.4). The digits may be of any length, with leading zeros: a
+// value above the limit is no number, and nothing overflows on the way. One function reads the
+// digits for every width, up to the limit that it is given.
 ghost use mathlib.Core.Path.{_≡_};
 ghost use mathlib.Core.Bool.{cond};
 ghost use Prim.Native.Nat.{_+_, _*_, _≤_, _<_, _-_, _^_};
@@ -8,24 +9,33 @@ ghost use lib.IntN.{pos, negℤ};
 ghost use lib.ListN.{drop};
 ghost use Rattle.text.specs.Bytes.{isDigit};
 ghost use Rattle.text.specs.Places.{leading, past};
-ghost use Rattle.text.specs.Number.{digitsOf, unsignedOf, signedOf, fit, fitSigned, signedBy};
+ghost use Rattle.text.specs.Number.{digitsOf, unsignedOf, signedOf, fit, fitSigned};
 ghost use Rattle.text.specs.Number.{AtMost, LeadsWith};
+ghost use Rattle.text.specs.Held.{signedBy};
 ghost use Rattle.text.specs.declared.number.Number.the-variants.{Value, Not};
 use crate::bytes;
 use crate::scan;
 use crate::scan::Class;
 
+// 2^63: 64 signed bits hold -HALF_64 to HALF_64 - 1.
+pub const HALF_64: u64 = 9223372036854775808;
+
+// 2^31: 32 signed bits hold -HALF_32 to HALF_32 - 1.
+pub const HALF_32: u64 = 2147483648;
+
+// An unsigned number, or no number.
 pub enum Number {
     Value(u64),
     Not,
 }
 
+// A signed number, or no number.
 pub enum Integer {
     Is(i64),
     NotOne,
 }
 
-// Unsigned: an optional `+`, then digits.
+// The whole text as an unsigned number: an optional `+`, then digits.
 pub fn unsigned_number(s: &[u8], limit: u64) -> Number
     ensures { λ r. ⌜ r ≡ fit limit (unsignedOf (now (s .entry))) ⌝ }
 {
@@ -38,8 +48,8 @@ pub fn unsigned_number(s: &[u8], limit: u64) -> Number
     digits(s, 0, limit)
 }
 
-// Signed: an optional `+` or `-`, then digits. A width of w bits holds -half up to half - 1, where half is 2 to the w - 1; the
-// least number is among them.
+// The whole text as a signed number: an optional `+` or `-`, then digits. The value is from -half
+// to half - 1; callers pass `HALF_64` or `HALF_32`.
 pub fn signed_number(s: &[u8], half: u64) -> Integer
     requires { ⌜ (0 < half) × (half ≤ 2 ^ 63) ⌝ }
     ensures { λ r. ⌜ r ≡ fitSigned half (signedOf (now (s .entry))) ⌝ }
@@ -51,7 +61,7 @@ pub fn signed_number(s: &[u8], half: u64) -> Integer
     read.number
 }
 
-// Digits alone from `from` on, at least one, of a value up to the limit.
+// The text from `from` on as digits alone: at least one, with a value up to the limit.
 pub fn digits(s: &[u8], from: usize, limit: u64) -> Number
     ensures { λ r. ⌜ r ≡ fit limit (digitsOf (drop from (now (s .entry)))) ⌝ }
 {
@@ -62,13 +72,14 @@ pub fn digits(s: &[u8], from: usize, limit: u64) -> Number
     read.number
 }
 
-// What the digits from `from` on are, as many as stand there, and the place past them.
+// The number that leading digits are, and the place past them.
 pub struct Leading {
     pub number: Number,
     pub end: usize,
 }
 
-// The digits from `from` on, as many as stand there: no number where there is none, or where they are too large for the limit.
+// The leading digits of the text from `from` on. They are no number if there is none, or if their
+// value is above the limit.
 pub fn leading_number(s: &[u8], from: usize, limit: u64) -> Leading
     ensures { λ r. ⌜ r .number ≡ fit limit (digitsOf (leading isDigit (drop from (now (s .entry))))) ⌝ }
     ensures { λ r. ⌜ r .end ≡ past isDigit (now (s .entry)) from ⌝ }
@@ -78,7 +89,7 @@ pub fn leading_number(s: &[u8], from: usize, limit: u64) -> Leading
     while i < s.len() {
         let b = s[i];
         if bytes::is_digit(b) {
-            let d = wide(b - b'0');
+            let d = as_u64(b - b'0');
             if has_room(v, d, limit) {
                 v = 10 * v + d;
                 i += 1;
@@ -96,7 +107,8 @@ pub fn leading_number(s: &[u8], from: usize, limit: u64) -> Leading
     read_up_to(from, i, v)
 }
 
-// Whether v with the digit d behind it is at most the limit. One comparison decides it, except for the last digits before the limit.
+// Whether v with the digit d after it is at most the limit. One comparison decides it unless v is a
+// tenth of the limit.
 fn has_room(v: u64, d: u64, limit: u64) -> bool
     requires { ⌜ d < 10 ⌝ }
     ensures { λ r. ⌜ r ≡ leb (10 * v + d) limit ⌝ }
@@ -111,7 +123,8 @@ fn has_room(v: u64, d: u64, limit: u64) -> bool
     d <= limit - 10 * v
 }
 
-// No digit passed is no number.
+// The answer at `end`: v is the value of the digits from `from` up to there, and is no number if
+// there are none.
 fn read_up_to(from: usize, end: usize, v: u64) -> Leading
     ensures { λ r. ⌜ r .number ≡ cond (ltb from end) (Value v) Not ⌝ }
     ensures { λ r. ⌜ r .end ≡ end ⌝ }
@@ -128,20 +141,22 @@ fn read_up_to(from: usize, end: usize, v: u64) -> Leading
     }
 }
 
-fn wide(b: u8) -> u64
+fn as_u64(b: u8) -> u64
     ensures { λ r. ⌜ r ≡ b ⌝ }
 {
     b as u64
 }
 
-// What an optional sign and the digits behind it are, as many as stand there, the place past them, and whether the sign is there.
+// The number that an optional sign and the digits after it are, the place past them, and whether
+// the sign is there.
 pub struct LeadingInteger {
     pub number: Integer,
     pub end: usize,
     pub signed: bool,
 }
 
-// The same with an optional `+` or `-` in front, of the width that `signed_number` has.
+// The optional `+` or `-` and the leading digits of the text from `from` on, with a value from
+// -half to half - 1.
 pub fn leading_integer(s: &[u8], from: usize, half: u64) -> LeadingInteger
     requires { ⌜ (0 < half) × (half ≤ 2 ^ 63) ⌝ }
     ensures { λ r. ⌜ LeadsWith half (drop from (now (s .entry))) from r ⌝ }
@@ -165,6 +180,7 @@ pub fn leading_integer(s: &[u8], from: usize, half: u64) -> LeadingInteger
     }
 }
 
+// The place where the digits begin.
 fn past_sign(at: usize, signed: bool) -> usize
     requires { ⌜ at + 1 < 2 ^ 64 ⌝ }
     ensures { λ r. ⌜ r ≡ cond signed (at + 1) at ⌝ }
@@ -175,14 +191,14 @@ fn past_sign(at: usize, signed: bool) -> usize
     at
 }
 
-// Of a width of w bits, 2 to the w - 1 fits only with a minus sign.
-fn with_sign(below: bool, n: Number, half: u64) -> Integer
+// n with its sign. `half` itself fits only with a minus sign.
+fn with_sign(negative: bool, n: Number, half: u64) -> Integer
     requires { ⌜ AtMost half n × (0 < half) × (half ≤ 2 ^ 63) ⌝ }
-    ensures { λ r. ⌜ r ≡ signedBy half below n ⌝ }
+    ensures { λ r. ⌜ r ≡ signedBy half negative n ⌝ }
 {
     match n {
         Number::Value(v) => {
-            if below {
+            if negative {
                 return Integer::Is(minus_i64(v));
             }
             if v < half {
@@ -194,7 +210,7 @@ fn with_sign(below: bool, n: Number, half: u64) -> Integer
     }
 }
 
-// -v. Negating `v as i64` would overflow at 2 to the 63.
+// -v. Negating `v as i64` would overflow at `HALF_64`.
 fn minus_i64(v: u64) -> i64
     requires { ⌜ v ≤ 2 ^ 63 ⌝ }
     ensures { λ r. ⌜ r ≡ negℤ (pos v) ⌝ }

@@ -1,11 +1,13 @@
-// Places in a text, counted from 0, and a text cut at a place. The place of a byte that is not there is the text's length, so that
-// what stands before it is the whole text. Every place has an answer: a text is not cut past its end.
+// Places in a text, counted from 0, and a text cut at a place. The place of a byte that the text
+// does not hold is the text's length, so that what comes before it is the whole text. A place past
+// the end is cut back to the end.
 ghost use mathlib.Core.Path.{_≡_};
 ghost use Prim.Native.Nat.{_≤_};
 ghost use lib.ListN.{length, take, drop};
 ghost use Rattle.text.specs.Places.{has as hasOf, firstPlace, before as beforeOf};
 
-// Whether b is in the text. The loop does not stop at the first one: without an early exit the compiler tests many bytes at once.
+// Whether the text holds b. The loop does not stop at the first one: without an early exit the
+// compiler tests many bytes at once.
 pub fn has(s: &[u8], b: u8) -> bool
     ensures { λ r. ⌜ r ≡ hasOf b (now (s .entry)) ⌝ }
 {
@@ -18,6 +20,7 @@ pub fn has(s: &[u8], b: u8) -> bool
     found
 }
 
+// The place of the first b, or the length of the text if it holds none.
 pub fn first_place(s: &[u8], b: u8) -> usize
     ensures { λ r. ⌜ (r ≡ firstPlace b (now (s .entry))) × (r ≤ length (now (s .entry))) ⌝ }
 {
@@ -51,7 +54,7 @@ pub fn up_to(s: &[u8], at: usize) -> &[u8]
     &s[..at]
 }
 
-// What stands before the first b: all of the text if there is none.
+// What comes before the first b: the whole text if it holds none.
 pub fn before(s: &[u8], b: u8) -> &[u8]
     ensures { λ r. ⌜ now r ≡ beforeOf b (now (s .entry)) ⌝ }
 {

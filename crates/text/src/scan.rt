@@ -1,11 +1,12 @@
-// One loop past a run of bytes: words, trimming and digits all call it. Each call names its class as a constant, so that the compiler
-// makes a loop for that class alone.
+// One loop that scans past a run of bytes; words, trimming and digits all call it. Each caller
+// names its class as a constant, so that the compiler makes a loop for that class alone.
 ghost use mathlib.Core.Path.{_≡_};
 ghost use Rattle.text.specs.Places.{past as pastOf};
 ghost use Rattle.text.specs.Scan.{isOf};
 use crate::bytes;
 
-// Which bytes a scan passes. A mark is any byte but ASCII letters and digits; a plain byte is no white space, no `:`, and below 128.
+// The bytes that a scan passes. A mark is any byte but an ASCII letter or digit. A plain byte is no
+// white space, no `:`, and ASCII.
 pub enum Class {
     Space,
     NotSpace,
@@ -15,7 +16,7 @@ pub enum Class {
     Plain,
 }
 
-// The place past the bytes of the class from `at` on.
+// The place past the run of bytes of the class that begins at `at`.
 pub fn past(s: &[u8], at: usize, class: Class) -> usize
     ensures { λ r. ⌜ r ≡ pastOf (isOf class) (now (s .entry)) at ⌝ }
 {
@@ -30,6 +31,7 @@ pub fn past(s: &[u8], at: usize, class: Class) -> usize
     i
 }
 
+// Whether b is of the class.
 fn is_of(class: Class, b: u8) -> bool
     ensures { λ r. ⌜ r ≡ isOf class b ⌝ }
 {

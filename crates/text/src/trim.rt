@@ -1,4 +1,4 @@
-// A text without the white space at its ends, as a part of it.
+// A text without the white space at its ends, as a part of the same slice.
 ghost use mathlib.Core.Path.{_≡_};
 ghost use Rattle.text.specs.Trim.{trimStart, trimEnd, trim};
 use crate::bytes;

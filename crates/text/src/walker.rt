@@ -1,7 +1,11 @@
-// A walker of words keeps the text and its place, so that its owner needs no text beside it. It gives the same words as the reader by
-// value, `words::Words`, which does its scanning. A step: `next` gives the bounds of a word and the reader past it, `word` the bytes,
-// and `moved` returns the walker past the word. The separator is a parameter of each step, as it is of the reader's.
-// `after_words` and `nth_word` have plain parameters: their callers need not know the walker.
+// A walker of words (RULES 4.5), for tools that keep a text and a place in it in one value. No
+// crate here calls it: the readers of dates have the text at hand and use the reader
+// `words::Words`, which does the walker's scanning too and gives the same words.
+//
+// A step is three calls: `next` returns the bounds of a word and the reader past it, `word` returns
+// the bytes of the word, and `moved` returns the walker past it. The separator is a parameter of
+// each step, as it is of the reader's steps. `after_words` and `nth_word` have plain parameters,
+// for callers that need no walker of their own.
 ghost use mathlib.Core.Path.{_≡_};
 ghost use mathlib.Core.List.{[]};
 ghost use lib.ListN.{drop, getD};
@@ -15,6 +19,7 @@ use crate::words::Taken;
 use crate::words::Words;
 use crate::words::within;
 
+// A text, and the place in it from which the next word is looked for.
 pub struct Walker<'a> {
     pub text: &'a [u8],
     pub at: usize,
@@ -28,7 +33,8 @@ impl<'a> Walker<'a> {
         Walker { text, at: 0 }
     }
 
-    // The bounds of the next word, and the reader past it; nothing where only separators are left. The walker stays.
+    // The bounds of the next word and the reader past it; nothing if only separators are left. The
+    // walker stays where it is.
     pub fn next(self, by: Separator) -> Taken
         ensures { λ r. ⌜ r ≡ nextOf (self .entry) by ⌝ }
     {
@@ -36,7 +42,7 @@ impl<'a> Walker<'a> {
         w.take(self.text, by)
     }
 
-    // The walker past the word that it gave.
+    // The walker moved to the place of a reader that `next` returned.
     pub fn moved(self, to: Words) -> Walker<'a>
         ensures { λ r. ⌜ r ≡ movedTo (self .entry) (to .at) ⌝ }
     {
@@ -46,7 +52,7 @@ impl<'a> Walker<'a> {
         }
     }
 
-    // The bytes that a span bounds, as a part of the walker's text.
+    // The bytes within the bounds, as a part of the walker's text.
     pub fn word(self, p: Span) -> &'a [u8]
         ensures { λ r. ⌜ now r ≡ part (now (self .entry .text)) p ⌝ }
     {
@@ -64,7 +70,7 @@ impl<'a> Walker<'a> {
         }
     }
 
-    // What is left of the text; nothing where the walker stands past its end.
+    // What is left of the text; empty if the walker's place is past the end.
     pub fn left(self) -> &'a [u8]
         ensures { λ r. ⌜ now r ≡ drop (self .entry .at) (now (self .entry .text)) ⌝ }
     {
@@ -90,14 +96,15 @@ fn place_after(text: &[u8], at: usize, n: usize, by: Separator) -> usize
     i
 }
 
-// What stands after the first n words, or after as many as there are.
+// What comes after the first n words, or after as many as there are.
 pub fn after_words(text: &[u8], n: usize, by: Separator) -> &[u8]
     ensures { λ r. ⌜ now r ≡ drop (passed (separator by) n (now (text .entry)) 0) (now (text .entry)) ⌝ }
 {
     Walker::start(text).skipped(n, by).left()
 }
 
-// The word with n words before it, as a part of the text; empty, as no word is, where there are n words or fewer.
+// The word with n words before it, as a part of the text. It is empty, as no word is, if the text
+// has n words or fewer.
 pub fn nth_word(text: &[u8], n: usize, by: Separator) -> &[u8]
     ensures { λ r. ⌜ now r ≡ getD (words (separator by) (now (text .entry))) n [] ⌝ }
 {

@@ -1,18 +1,19 @@
-// Words, and a reader of them by value: taking a word hands back its bounds and the reader moved past it. The caller keeps the
-// text, so a reader is one number.
+// Words, and a reader of words (RULES 4.5). The reader is passed by value: taking a word returns
+// its bounds and the reader moved past it. The caller keeps the text, so a reader is one number.
 ghost use mathlib.Core.Path.{_≡_};
 ghost use Rattle.text.specs.Places.{no, past, part};
 ghost use Rattle.text.specs.Words.{separator, takeWord};
 use crate::scan;
 use crate::scan::Class;
 
-// From `start` up to `end`, which is not in it.
+// The bounds of a part of a text: from `start` up to `end`, without the byte at `end`.
 pub struct Span {
     pub start: usize,
     pub end: usize,
 }
 
-// The bytes that a span bounds, cut at the end of the text: no span is refused.
+// The bytes within the bounds. Bounds past the end of the text are cut back to it, so no span is
+// refused.
 pub fn within(s: &[u8], p: Span) -> &[u8]
     ensures { λ r. ⌜ now r ≡ part (now (s .entry)) p ⌝ }
 {
@@ -30,16 +31,19 @@ pub fn within(s: &[u8], p: Span) -> &[u8]
     &s[a..e]
 }
 
-// What parts words: white space; or any byte but ASCII letters and digits, so that words are runs of those.
+// What separates words: white space; or marks, which are all bytes but ASCII letters and digits, so
+// that words are runs of those.
 pub enum Separator {
     Space,
     Mark,
 }
 
+// A reader of words, at a place in a text.
 pub struct Words {
     pub at: usize,
 }
 
+// The bounds of a word and the reader past it; or nothing, if only separators are left.
 pub enum Taken {
     Word(Span, Words),
     Nothing,
@@ -53,7 +57,7 @@ impl Words {
         Words { at: 0 }
     }
 
-    // The first word that stands at the reader or after it; nothing where only separators are left.
+    // The next word: the first one that begins at the reader's place or after it.
     pub fn take(self, s: &[u8], by: Separator) -> Taken
         ensures { λ r. ⌜ r ≡ takeWord (separator by) (now (s .entry)) (self .at) ⌝ }
     {
@@ -67,7 +71,7 @@ impl Words {
     }
 }
 
-// Past the separators from `at`.
+// The place past the separators that begin at `at`.
 pub fn word_start(s: &[u8], at: usize, by: Separator) -> usize
     ensures { λ r. ⌜ r ≡ past (separator by) (now (s .entry)) at ⌝ }
 {
@@ -77,7 +81,7 @@ pub fn word_start(s: &[u8], at: usize, by: Separator) -> usize
     }
 }
 
-// Past the bytes from `at` that part no words.
+// The place past the bytes that begin at `at` and are no separators.
 fn word_end(s: &[u8], at: usize, by: Separator) -> usize
     ensures { λ r. ⌜ r ≡ past (no (separator by)) (now (s .entry)) at ⌝ }
 {

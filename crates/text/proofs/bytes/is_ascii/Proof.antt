@@ -1,4 +1,5 @@
--- `text::bytes::is_ascii` meets its contract. The invariant: what was seen, and the answer for what is left, is the answer.
+-- `text::bytes::is_ascii` meets its contract. The invariant: the bytes seen are ASCII and those that are left are, exactly if the
+-- whole is.
 -- Assumes nothing.
 use Rattle.text.proofs.Lists.{drop-cons-add-one}
 use Rattle.text.specs.Bytes.{ascii}

@@ -1,4 +1,4 @@
--- `text::bytes::is_plain` meets its contract: white space is 32 at most, and what is 32 at most is ASCII and no `:`.
+-- `text::bytes::is_plain` meets its contract: white space is at most byte 32, and a byte of at most 32 is ASCII and no `:`.
 -- Assumes nothing.
 use mathlib.Core.Bool.{not, and-true}
 use native.Mathlib.Omega.{arith}

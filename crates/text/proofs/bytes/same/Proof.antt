@@ -1,5 +1,5 @@
--- `text::bytes::same` meets its contract. The invariant: the answer for what is left of both is the answer for the whole. The measure
--- is what is left.
+-- `text::bytes::same` meets its contract. The invariant: the answer for what is left of both texts is the answer for the whole.
+-- The measure: what is left.
 -- Assumes nothing.
 use mathlib.Core.Path.{_≡_, refl, sym}
 use Prim.Native.Nat.{_-_, _<_, _≤_}

@@ -1,4 +1,4 @@
--- `text::bytes::same_ignoring_case` meets its contract. The invariant: the answer for what is left of both is the answer for
+-- `text::bytes::same_ignoring_case` meets its contract. The invariant: the answer for what is left of both texts is the answer for
 -- the whole.
 -- Assumes nothing.
 use mathlib.Core.Path.{_≡_, refl, sym}

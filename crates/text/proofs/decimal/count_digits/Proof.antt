@@ -1,4 +1,4 @@
--- `text::decimal::count_digits` meets its contract: five, ten or fifteen digits stand behind those that are counted.
+-- `text::decimal::count_digits` meets its contract: five, ten or fifteen digits follow those that are counted.
 -- Assumes nothing.
 use mathlib.Core.Path.{_≡_}
 use Prim.Native.Nat.{ℕ, _+_, _/_, _^_, _≤_}
@@ -10,7 +10,7 @@ use Rattle.text.proofs.Decimals.{length-decimal-div}
 use Rattle.text.proofs.decimal.count_digits.Statement.{statement}
 use Rattle.text.proofs.decimal.count_digits.Tie as tie
 
--- j digits are counted, and k stand behind them
+-- j digits are counted, and k follow them
 counted : (k n j : ℕ) → k ≤ 15 → 10 ^ k ≤ n → (j ≡ length (decimal (n / 10 ^ k))) × (1 ≤ j) × (j ≤ 5) → (k + j ≡ length (decimal n)) × (1 ≤ k + j) × (k + j ≤ 20)
 counted k n j b h p = (omega (arith, p .0, length-decimal-div k n h), omega (arith, p .1), omega (arith, p .2))
 

@@ -1,5 +1,5 @@
--- `text::decimal::put_decimal` meets its contract. The invariant: putting the digits of what is left in front of the place
--- reached gives what putting those of n gives. The measure: what is left.
+-- `text::decimal::put_decimal` meets its contract. The invariant: writing the digits of v in front of place i gives what writing
+-- the digits of n in front of `end` gives. The measure: v.
 -- Assumes nothing.
 use mathlib.Core.Path.{_≡_, refl, sym, ap, _∙_}
 use mathlib.Core.List.{_∷_, _++_}
@@ -19,7 +19,7 @@ Inv-loop n end room₀ v₀ i₀ room v i = (length (decimal v) ≤ i) × (i ≤
 abbrev μ-loop : tie.MeasureT-loop
 μ-loop n end room₀ v₀ i₀ room v i = v
 
--- two digits, or more, take two places, or more
+-- two digits or more take two places or more
 two : (v i : ℕ) → 10 ≤ v → length (decimal v) ≤ i → 1 < i
 two v i h k = omega (arith, k, length-decimal-of-le v h, length-decimal-pos (v / 10))
 

@@ -24,7 +24,7 @@ put-decimal-requires c κs =
     let start = c .before .before .before in
     (omega (arith, digits (c .before), start .pre .0, length-decimal-le-signed (start .args .z)), search needs)
 
--- below 0 a place is left for the minus
+-- for a negative number a place is left for the minus
 left : (c : tie.Then1) → 0 < c .before .before .before .put-decimal .result
 left c =
     let at-digits = c .before .before .before in

@@ -1,4 +1,4 @@
--- `text::decimal::up_to_five` meets its contract: the comparisons tell between which powers of ten n lies.
+-- `text::decimal::up_to_five` meets its contract: the comparisons find the powers of ten between which n is.
 -- Assumes nothing.
 use mathlib.Core.Path.{_≡_, sym}
 use Prim.Native.Nat.{ℕ, suc, _^_, _≤_, _<_}
@@ -9,7 +9,7 @@ use Rattle.text.proofs.Decimals.{length-decimal-of-lt, length-decimal-b
 use Rattle.text.proofs.decimal.up_to_five.Statement.{statement}
 use Rattle.text.proofs.decimal.up_to_five.Tie as tie
 
--- just k + 1 digits
+-- exactly k + 1 digits
 counted : (k n : ℕ) → k < 5 → 10 ^ k ≤ n → n < 10 ^ suc k → (suc k ≡ length (decimal n)) × (1 ≤ suc k) × (suc k ≤ 5)
 counted k n b h i = (sym (length-decimal-between k n h i), omega arith, omega arith)
 

@@ -1,4 +1,5 @@
--- `text::number::digits` meets its contract: a byte behind the digits is no digit, and digits up to the end are the whole.
+-- `text::number::digits` meets its contract: with a byte after the digits there is no number, and digits up to the end are the
+-- whole.
 -- Assumes nothing.
 use mathlib.Core.Path.{_≡_, ap, _∙_}
 use mathlib.Core.List.{List}

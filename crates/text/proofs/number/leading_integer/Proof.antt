@@ -1,4 +1,4 @@
--- `text::number::leading_integer` meets its contract: past the sign, if there is one, the digits decide.
+-- `text::number::leading_integer` meets its contract: after the sign, if there is one, the digits decide.
 -- Assumes nothing.
 use mathlib.Core.Path.{_≡_, refl, ap, _∙_}
 use mathlib.Core.Bool.{Bool, false, cond}
@@ -10,7 +10,8 @@ use lib.Dec.{eqb}
 use lib.ListN.{length, drop, getD, drop-of-length-le}
 use Rattle.text.specs.Bytes.{isDigit, isSign}
 use Rattle.text.specs.Places.{past, leading}
-use Rattle.text.specs.Number.{digitsOf, signedOf, fit, fitSigned, numeral, signedBy, LeadsWith}
+use Rattle.text.specs.Number.{digitsOf, signedOf, fit, fitSigned, numeral, LeadsWith}
+use Rattle.text.specs.Held.{signedBy}
 use Rattle.text.specs.declared.number.LeadingInteger.{LeadingInteger}
 use Rattle.text.specs.declared.number.Number.{Number}
 use Rattle.text.specs.declared.number.Integer.the-variants.{NotOne}

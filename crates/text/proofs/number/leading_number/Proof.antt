@@ -1,5 +1,5 @@
--- `text::number::leading_number` meets its contract. The invariant: the value so far fits, and reading on from it the digits that
--- are left gives the answer. Once a digit has no room, none behind it has, and the rest of them is passed.
+-- `text::number::leading_number` meets its contract. The invariant: the value so far fits, and reading the remaining digits on
+-- from it gives the answer. Once a digit has no room, no digit after it has, and the rest of the digits is passed.
 -- Assumes nothing.
 use mathlib.Core.Path.{_≡_, refl, sym, ap, _∙_}
 use mathlib.Core.Bool.{true, cond}
@@ -34,7 +34,7 @@ module _ (s : List ℕ) (from limit v i : ℕ) (on : On s from limit v i) where
   step : (d : ℕ) → i < length s → isDigit (getD s i 0) ≡ true → d ≡ getD s i 0 - 48 → On s from limit (10 * v + d) (i + 1)
   step d h e k = on ∙ ap (λ (t : List ℕ). fit limit (readFrom v t)) (leading-of-true isDigit s i h e) ∙ ap (fit limit) (readFrom-cons _ v _ d e k)
 
-  -- where no digit is left the value is the answer
+  -- if no digit is left, the value is the answer
   done : v ≤ limit → past isDigit s from ≡ i → past isDigit s i ≡ i → fit limit (digitsOf (leading isDigit (drop from s))) ≡ cond (ltb from i) (Value v) Not
   unfolding readFrom
   done f p q =
@@ -45,25 +45,25 @@ module _ (s : List ℕ) (from limit v i : ℕ) (on : On s from limit v i) where
   over : limit < v → fit limit (digitsOf (leading isDigit (drop from s))) ≡ Not
   over h = fit-digitsOf-of-Not _ limit (on ∙ fit-readFrom-of-lt _ limit v h)
 
-sub-wide : tie.Need-sub-wide Inv-loop μ-loop
-sub-wide c = omega (arith, digit-range _ (sym (c .before .is-digit .ensures) ∙ c .if1 .taken))
+sub-as-u64 : tie.Need-sub-as-u64 Inv-loop μ-loop
+sub-as-u64 c = omega (arith, digit-range _ (sym (c .before .is-digit .ensures) ∙ c .if1 .taken))
 
 has-room-requires : tie.Need-has-room-requires Inv-loop μ-loop
-has-room-requires c κs = omega (arith, c .wide .ensures, digit-range _ (sym (c .before .before .is-digit .ensures) ∙ c .before .if1 .taken))
+has-room-requires c κs = omega (arith, c .as-u64 .ensures, digit-range _ (sym (c .before .before .is-digit .ensures) ∙ c .before .if1 .taken))
 
 -- at a digit
-more : (c : tie.After-wide Inv-loop μ-loop)
+more : (c : tie.After-as-u64 Inv-loop μ-loop)
     → let l = c .before .before .before .before .before in
     let a = l .before .before .args in
-    On (a .s .now) (a .from) (a .limit) (10 * l .loop .v + c .wide .result) (l .loop .i + 1)
+    On (a .s .now) (a .from) (a .limit) (10 * l .loop .v + c .as-u64 .result) (l .loop .i + 1)
 more c =
     let at-test = c .before .before .before .before in
     let a = at-test .before .before .before .args in
-    step (a .s .now) (a .from) _ _ _ (at-test .before .loop .inv .2) _ (at-test .loop-test .taken) (sym (c .before .before .is-digit .ensures) ∙ c .before .if1 .taken) (c .wide .ensures)
+    step (a .s .now) (a .from) _ _ _ (at-test .before .loop .inv .2) _ (at-test .loop-test .taken) (sym (c .before .before .is-digit .ensures) ∙ c .before .if1 .taken) (c .as-u64 .ensures)
 
 room : (c : tie.Then2 Inv-loop μ-loop)
     → let l = c .before .before .before .before .before .before .before in
-    10 * l .loop .v + c .before .before .wide .result ≤ l .before .before .args .limit
+    10 * l .loop .v + c .before .before .as-u64 .result ≤ l .before .before .args .limit
 room c = leb-true _ _ (sym (c .before .has-room .ensures) ∙ c .if2 .taken)
 
 mul-v : tie.Need-mul-v Inv-loop μ-loop
@@ -81,13 +81,13 @@ loop-again c =
       more (c .before .before),
     )
 
--- a digit that has no room: none behind it has
+-- a digit that has no room: no digit after it has
 returns : tie.Need-returns Inv-loop μ-loop
 returns c =
-    let at-wide = c .before .before .before in
-    let at-loop = at-wide .before .before .before .before .before in
+    let at-as-u64 = c .before .before .before in
+    let at-loop = at-as-u64 .before .before .before .before .before in
     let a = at-loop .before .before .args in (
-      sym (over (a .s .now) (a .from) _ _ (at-loop .loop .i + 1) (more at-wide) (leb-false _ _ (sym (c .before .before .has-room .ensures) ∙ c .before .if2 .left))),
+      sym (over (a .s .now) (a .from) _ _ (at-loop .loop .i + 1) (more at-as-u64) (leb-false _ _ (sym (c .before .before .has-room .ensures) ∙ c .before .if2 .left))),
       c .past .ensures ∙ sym (at-loop .loop .inv .1),
     )
 
@@ -119,7 +119,7 @@ leading-number-spec =
     (λ c. (search needs, refl, refl))
     (λ c. search needs)
     (λ c κs. search needs)
-    sub-wide
+    sub-as-u64
     (λ c κs. search needs)
     has-room-requires
     mul-v

@@ -1,5 +1,5 @@
--- `text::number::signed_number` meets its contract: a byte behind sign and digits makes it no number, and up to the end they are
--- the whole.
+-- `text::number::signed_number` meets its contract: with a byte after sign and digits there is no number, and sign and digits up
+-- to the end are the whole.
 -- Assumes nothing.
 use mathlib.Core.Path.{ap, _∙_}
 use mathlib.Core.List.{List}

@@ -13,13 +13,13 @@ use borrow.Author.Needs.{needs}
 use Rattle.text.proofs.number.unsigned_number.Statement.{statement}
 use Rattle.text.proofs.number.unsigned_number.Tie as tie
 
--- `+` opens the text: the digits behind it
+-- the first byte is `+`: the digits after it
 unsignedOf-of-plus : (s : List ℕ) → 0 < length s → getD s 0 0 ≡ 43 → unsignedOf s ≡ digitsOf (drop 1 s)
 unfolding unsignedOf
 unsignedOf-of-plus [] h e = absurd (not-suc-le-zero h)
 unsignedOf-of-plus (b ∷ s) h e = rw (eq-eqb b 43 e)
 
--- any other byte does: digits from there on
+-- the first byte is another: digits from there on
 unsignedOf-of-other : (s : List ℕ) → 0 < length s → (getD s 0 0 ≡ 43 → ⊥) → unsignedOf s ≡ digitsOf (drop 0 s)
 unfolding unsignedOf
 unsignedOf-of-other [] h n = absurd (not-suc-le-zero h)

@@ -1,4 +1,4 @@
--- `text::number::with_sign` meets its contract: below 0 half of the width is a number, above it is one too many.
+-- `text::number::with_sign` meets its contract: half itself fits if it is negative, and is one too many if it is not.
 -- Assumes nothing.
 use mathlib.Core.Path.{_≡_, ap}
 use mathlib.Core.Bool.{Bool}
@@ -7,7 +7,8 @@ use native.Mathlib.Omega.{arith}
 use borrow.Author.Tests.{le-leb, lt-leb}
 use mir.Syntax.{w64}
 use mir.Facts.{toZ-pos, toZ-ofZ}
-use Rattle.text.specs.Number.{signedBy, fit}
+use Rattle.text.specs.Number.{fit}
+use Rattle.text.specs.Held.{signedBy}
 use Rattle.text.specs.declared.number.Integer.the-variants.{Is, NotOne}
 use Rattle.text.specs.declared.number.Number.the-variants.{Not}
 use Rattle.text.proofs.Lists.{by-test}
@@ -15,9 +16,9 @@ use borrow.Author.Needs.{needs, sfits-of}
 use Rattle.text.proofs.number.with_sign.Statement.{statement}
 use Rattle.text.proofs.number.with_sign.Tie as tie
 
-signedBy-Not : (half : ℕ) (below : Bool) → signedBy half below Not ≡ NotOne
+signedBy-Not : (half : ℕ) (negative : Bool) → signedBy half negative Not ≡ NotOne
 unfolding signedBy fit
-signedBy-Not half below = by-test below (λ e. rw e) (λ e. rw e)
+signedBy-Not half negative = by-test negative (λ e. rw e) (λ e. rw e)
 
 minus-i64-requires : tie.Need-minus-i64-requires
 minus-i64-requires c κs =

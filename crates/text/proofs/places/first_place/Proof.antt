@@ -1,5 +1,5 @@
--- `text::places::first_place` meets its contract. The invariant: what is passed and the first place in what is left is the
--- first place in the whole.
+-- `text::places::first_place` meets its contract. The invariant: i and the first place in what is left make the first place in the
+-- whole.
 -- Assumes nothing.
 use mathlib.Core.Path.{_≡_}
 use Prim.Native.Nat.{_+_, _-_, _≤_}

@@ -6,7 +6,7 @@ use borrow.Author.Needs.{needs}
 use Rattle.text.proofs.places.from.Statement.{statement}
 use Rattle.text.proofs.places.from.Tie as tie
 
--- past the end: nothing
+-- past the end: empty
 returns : tie.Need-returns
 returns c = rw (drop-of-length-le _ (c .before .if1 .taken))
 

@@ -1,4 +1,5 @@
--- `text::places::has` meets its contract. The invariant: what was seen, and the answer for what is left, is the answer.
+-- `text::places::has` meets its contract. The invariant: the bytes seen hold b or those that are left do, exactly if the whole
+-- does.
 -- Assumes nothing.
 use mathlib.Core.Path.{_≡_, refl, sym, ap, _∙_}
 use mathlib.Core.Bool.{Bool, _||_, or-assoc, or-false}

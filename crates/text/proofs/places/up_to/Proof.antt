@@ -7,7 +7,7 @@ use borrow.Author.Needs.{needs}
 use Rattle.text.proofs.places.up_to.Statement.{statement}
 use Rattle.text.proofs.places.up_to.Tie as tie
 
--- past the end: all of it
+-- past the end: the whole text
 returns : tie.Need-returns
 returns c = sym (take-all _ _ (c .if1 .taken))
 

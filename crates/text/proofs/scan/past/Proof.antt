@@ -1,4 +1,4 @@
--- `text::scan::past` meets its contract. The invariant: the place past the run from i is that from `at`.
+-- `text::scan::past` meets its contract. The invariant: the place past the run from i on is the place past the run from `at` on.
 -- Assumes nothing.
 use Rattle.text.specs.Places.{past}
 use mathlib.Core.Path.{_≡_, refl, sym, _∙_}

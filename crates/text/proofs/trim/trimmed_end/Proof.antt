@@ -1,11 +1,11 @@
--- `text::trim::trimmed_end` meets its contract. The invariant: trimming what stands before e gives what trimming the whole
--- gives. The measure: e.
+-- `text::trim::trimmed_end` meets its contract. The invariant: trimming the first e bytes gives what trimming the whole gives. The
+-- measure: e.
 -- Assumes nothing.
 use Rattle.text.proofs.Trimming.{trimEnd-snoc}
 use Rattle.text.proofs.Lists.{take-snoc}
 use Rattle.text.specs.Trim.{trimEnd, trimStart}
 use mathlib.Core.Path.{_≡_, ap, sym}
-use Prim.Native.Nat.{_≤_}
+use Prim.Native.Nat.{_≤_, _<_}
 use native.Mathlib.Omega.{arith}
 use lib.ListN.{length, take}
 use lib.Seq.{take-length, length-take-le}
@@ -25,7 +25,8 @@ loop-holds c = (search needs, ap trimEnd (sym (take-length _)))
 loop-again : tie.Need-loop-again Inv-loop μ-loop
 loop-again c =
     let h = c .before .before .before in
-    (search needs, rw (take-snoc _ _ (h .loop-test .taken) (h .before .loop .inv .0), trimEnd-snoc, ← c .before .is-space .ensures, c .if1 .taken) at (h .before .loop .inv .1))
+    let some : 0 < h .before .loop .e = omega arith in
+    (search needs, rw (take-snoc _ _ some (h .before .loop .inv .0), trimEnd-snoc, ← c .before .is-space .ensures, c .if1 .taken) at (h .before .loop .inv .1))
 
 slice-aggregate-result : tie.Need-slice-aggregate-result Inv-loop μ-loop
 slice-aggregate-result c = sym (length-take-le _ _ (c .before .before .before .before .before .loop .inv .0))
@@ -33,7 +34,8 @@ slice-aggregate-result c = sym (length-take-le _ _ (c .before .before .before .b
 returns : tie.Need-returns Inv-loop μ-loop
 returns c =
     let h = c .before .before .before .before in
-    rw (h .before .loop .inv .1, take-snoc _ _ (h .loop-test .taken) (h .before .loop .inv .0), trimEnd-snoc, ← c .before .before .is-space .ensures, c .before .if1 .left)
+    let some : 0 < h .before .loop .e = omega arith in
+    rw (h .before .loop .inv .1, take-snoc _ _ some (h .before .loop .inv .0), trimEnd-snoc, ← c .before .before .is-space .ensures, c .before .if1 .left)
 
 returns-2 : tie.Need-returns-2 Inv-loop μ-loop
 unfolding trimEnd trimStart

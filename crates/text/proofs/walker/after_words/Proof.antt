@@ -1,7 +1,7 @@
--- `text::walker::after_words` meets its contract: a walk of its MIR, by hand. The walker that one call returns is held in a local and
--- passed to the next, twice. All that the proof knows of `start`, `skipped` and `left` is that each meets its contract.
--- A machine value that a call returns is stored and passed on as it is. In a local of a body MIR erases the lifetime of a walker's
--- type, so the value is shown to have the type at `erased`: what a walker owns does not say the lifetime's name.
+-- `text::walker::after_words` meets its contract: a proof by hand over its MIR. A walker that one call returns is held in a local
+-- and passed to the next call, twice. All that the proof knows of `start`, `skipped` and `left` is that each meets its contract. A
+-- machine value that a call returns is stored and passed on as it is. In a local of a body, MIR erases the lifetime of a walker's
+-- type, so the value is shown to have the type at `erased`: what a walker owns does not depend on the lifetime's name.
 -- Assumes nothing.
 use mathlib.Core.Path.{_≡_, refl, ap, _∙_}
 use Prim.Native.Nat.{ℕ, _<_, _^_}
@@ -107,7 +107,7 @@ module _ {M : Type 1} (𝓤 : URA M) (H : Heap 𝓤) (A : Atoms 𝓤) (W : Given
   abbrev Own : Fml
   Own = ShrSlice (named 0) κ u8 .own s (v ∷ [])
 
-  -- the call of `start`: what it is passed, what it asks, and what is known of its result
+  -- the call of `start`: what it is passed, what it requires, and what is known of its result
   abbrev to-start : Start 𝓤 H A mem run .Ghost
   to-start = (((κ, tt), (q, tt), tt, (s, tt), (v ∷ [], tt)), tt)
 
@@ -152,7 +152,7 @@ module _ {M : Type 1} (𝓤 : URA M) (H : Heap 𝓤) (A : Atoms 𝓤) (W : Given
     walk p =
         qed W (raw (onEntry 𝓤 H A after-words.signature (κ, tt) (q, tt) (s, (n, (by′, tt))) at) ∷ []) ∵ enter ! C Λ code.function (v ∷ vint w64 n ∷ By-val by′ ∷ []) _ $
         alloc1 ! (λ l₀. alloc1 ! (λ l₁. alloc1 ! (λ l₂. alloc1 ! (λ l₃. alloc1 ! (λ l₄. alloc1 ! (λ l₅. alloc0 ! $ params1 ! $ pass1 ! (init ! 8 refl (shr-slice-lawful 𝓤 H A W (named 0) κ u8 .typed s (v ∷ []) p .0)) $ pass1 ! (init ! 6 refl (tt, record { fits = ok })) $ pass1 ! (init ! 4 refl (Held.By-typed 𝓤 H A W by′ is-by .0)) $ pass0 ! $
-        -- [_5; …; _4; …; _3; …; _2; …; _1; …; room for _0; …; what is had at entry]
+        -- [_5; …; _4; …; _3; …; _2; …; _1; …; room for _0; …; what is owned at entry]
         move ! (12 ∷ []) $ use1 W (raw (Start 𝓤 H A mem run .pre to-start) ⊛ ‵ Own) goes-start $ split ! $
         calls-at ! fm (Start 𝓤 H A mem run) known-start to-start (and-then ! (load ! (from ! (stop !)) (look ! 10 refl)) (no-more !)) (λ u.
         use1 W (later (some (λ (r : Walker). ((‵ (flft κ q) ⊛ ‵ ftrue) ⊛ ‵ (Row (κ, tt) .own r (u ∷ []))) ⊛ raw (ensured 𝓤 H A start.ended (start.clauses 𝓤 H A mem run) (κ, tt) (s, tt) tt r)))) (id⊢ 𝓤 _) $ await ! tt $ pick ! (λ r.

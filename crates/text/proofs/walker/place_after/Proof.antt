@@ -1,5 +1,5 @@
--- `text::walker::place_after` meets its contract. The invariant: the place past n words from `at` is the place past k words from i.
--- The measure: k.
+-- `text::walker::place_after` meets its contract. The invariant: the place past n words from `at` is the place past k words from
+-- i. The measure: k.
 -- Assumes nothing.
 use mathlib.Core.Path.{_≡_, refl, sym, _∙_}
 use native.Mathlib.Omega.{arith}
@@ -16,7 +16,7 @@ Inv-loop text at n by i₀ k₀ i k = passed (separator by) n text at ≡ passed
 abbrev μ-loop : tie.MeasureT-loop
 μ-loop text at n by i₀ k₀ i k = k
 
--- no word is left: the place stays
+-- no word is left: the place stays the same
 returns : tie.Need-returns Inv-loop μ-loop
 returns c =
     let at-take = c .before .before in

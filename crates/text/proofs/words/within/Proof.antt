@@ -1,4 +1,4 @@
--- `text::words::within` meets its contract: a span that ends before it starts, or starts past the text, bounds nothing.
+-- `text::words::within` meets its contract: a span that ends before it starts, or starts past the end of the text, is empty.
 -- Assumes nothing.
 use Rattle.text.proofs.Lists.{take-length-sub-drop}
 use mathlib.Core.Path.{_≡_, sym, _∙_}

@@ -1,4 +1,4 @@
--- `text::words::word_end` meets its contract: what is no mark is a letter or a digit.
+-- `text::words::word_end` meets its contract: a byte that is no mark is a letter or a digit.
 -- Assumes nothing.
 use mathlib.Core.Path.{_∙_}
 use Rattle.text.specs.Bytes.{isAlphanumeric}

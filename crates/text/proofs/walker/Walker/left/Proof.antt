@@ -1,7 +1,7 @@
--- `text::walker::Walker::left` meets its contract: a walk of its MIR, by hand. The walker is taken apart, and `places::from` is called on
--- its text and its place. All that the proof knows of `places::from` is that it meets its contract.
--- A walker is Copy: one copy of what it owns is kept whole for the exit, and of another what the text owns goes to the callee,
--- beside the lifetime's token, which comes back.
+-- `text::walker::Walker::left` meets its contract: a proof by hand over its MIR. It takes the walker apart and calls
+-- `places::from` on its text and its place. All that the proof knows of `places::from` is that it meets its contract. A walker is
+-- Copy: one copy of what it owns is kept for the exit; from another copy, what the text owns goes to the callee together with the
+-- lifetime's token, which the callee returns.
 -- Assumes nothing.
 use mathlib.Core.Path.{_≡_, refl}
 use Prim.Native.Nat.{ℕ}
@@ -75,7 +75,7 @@ module _ {M : Type 1} (𝓤 : URA M) (H : Heap 𝓤) (A : Atoms 𝓤) (W : Given
   abbrev Own : Fml
   Own = Held.Own α d
 
-  -- what the callee is passed, what it asks, what it answers
+  -- what the callee is passed, what it requires, what it ensures
   abbrev passed : Vals from-place.signature (κ, tt)
   passed = (Held.textVal α d ∷ [], (vint w64 (d .at) ∷ [], tt))
 
@@ -88,12 +88,12 @@ module _ {M : Type 1} (𝓤 : URA M) (H : Heap 𝓤) (A : Atoms 𝓤) (W : Given
   abbrev found : List ℕ
   found = dropN (d .at) (now (d .text))
 
-  -- of the callee's `ensured`, the clause alone: it has no `&mut`, so what is said of last values is dropped
+  -- only the clause of the callee's `ensured`: it has no `&mut`, so the facts about last values are dropped
   said : (r : RefT (List ℕ)) → ent 𝓤 (ensured 𝓤 H A from-place.ended (from-place.clauses 𝓤 H A mem run) (κ, tt) (d .text, (d .at, tt)) tt r) (fact 𝓤 (now r ≡ found))
   said r = exE 𝓤 _ (λ ws. snd∗ 𝓤 (sem 𝓤 H A (lasts from-place.ended (κ, tt) (d .text, (d .at, tt)) ws)) (fact 𝓤 (now r ≡ found)))
 
   module _ (is-w : Is (Row (κ, tt)) d (mach ∷ [])) where
-    -- what the walker owns gives what the callee asks, and is kept
+    -- what the walker owns gives what the callee requires, and is kept
     apart : ent 𝓤 (onEntry 𝓤 H A left.signature (κ, tt) (q, tt) (d, tt) at) (sep 𝓤 (FromPlace 𝓤 H A mem run .pre to) (sem 𝓤 H A Own))
     apart =
         qed W ((‵ (flft κ q) ⊛ ‵ ftrue) ∷ ‵ (owns (Row (κ, tt) ∷ []) (d, tt) at) ∷ []) ∵
@@ -115,7 +115,7 @@ module _ {M : Type 1} (𝓤 : URA M) (H : Heap 𝓤) (A : Atoms 𝓤) (W : Given
         qed W (raw (onEntry 𝓤 H A left.signature (κ, tt) (q, tt) (d, tt) at) ∷ []) ∵ enter ! C Λ code.function (mach ∷ []) _ $
         alloc1 ! (λ l₀. alloc1 ! (λ l₁. alloc1 ! (λ l₂. alloc1 ! (λ l₃. alloc0 ! $
         params1 ! $ pass1 ! (init ! 4 refl wt) $ pass0 ! $
-        -- [_3; …; _2; …; _1; …; room for _0; …; what is had at entry]
+        -- [_3; …; _2; …; _1; …; room for _0; …; what is owned at entry]
         assigns ! (of-opd ! (load ! (from ! (fld ! refl (stop !))) (look-in ! 4 (sub ! 0 refl (whole !))))) (from ! (stop !)) (init ! 2 refl (tt, wt .1 .0)) $
         assigns ! (of-opd ! (load ! (from ! (fld ! refl (stop !))) (look-in ! 4 (sub ! 1 refl (whole !))))) (from ! (stop !)) (init ! 0 refl (tt, wt .1 .1 .0)) $
         move ! (8 ∷ []) $ use1 W (raw (FromPlace 𝓤 H A mem run .pre to) ⊛ ‵ Own) apart $ split ! $

@@ -1,6 +1,6 @@
--- `text::walker::Walker::moved` meets its contract: a walk of its MIR, by hand. A walker is made of the text of the one passed and the place
--- of a reader.
--- A walker is Copy: one copy of what it owns is kept whole for the exit, and another, at the new place, is what the result owns.
+-- `text::walker::Walker::moved` meets its contract: a proof by hand over its MIR. The result has the text of the walker passed and
+-- the place of the reader passed. A walker is Copy: one copy of what it owns is kept for the exit, and another copy, at the new
+-- place, is what the result owns.
 -- Assumes nothing.
 use mathlib.Core.Path.{refl}
 use Prim.Native.Nat.{_<_, _^_}
@@ -82,7 +82,7 @@ module _ {M : Type 1} (𝓤 : URA M) (H : Heap 𝓤) (A : Atoms 𝓤) (W : Given
         qed W ((‵ (flft κ q) ⊛ ‵ ftrue) ∷ ‵ (owns (Row (κ, tt) ∷ P.the-row ∷ []) (d, (to, tt)) at) ∷ []) ∵ enter ! C Λ code.function (mach ∷ P′.lowered to ∷ []) _ $
         alloc1 ! (λ l₀. alloc1 ! (λ l₁. alloc1 ! (λ l₂. alloc1 ! (λ l₃. alloc0 ! $
         params1 ! $ pass1 ! (init ! 4 refl wt) $ pass1 ! (init ! 2 refl (LL.lawful P.the-type P′.the-laws 𝓤 H A W .typed to _ is-to .0)) $ pass0 ! $
-        -- [_3; …; _2; …; _1; …; room for _0; …; what is had at entry]
+        -- [_3; …; _2; …; _1; …; room for _0; …; what is owned at entry]
         assigns ! (of-opd ! (load ! (from ! (fld ! refl (stop !))) (look-in ! 4 (sub ! 0 refl (whole !))))) (from ! (stop !)) (init ! 0 refl (tt, wt .1 .0)) $
         assigns ! (agg ! (and-then ! (load ! (from ! (stop !)) (look ! 0 refl)) (and-then ! (load ! (from ! (fld ! refl (stop !))) (look-in ! 2 (sub ! 0 refl (whole !)))) (no-more !)))) (from ! (stop !)) (init ! 6 refl (tt, (wt .1 .0, (record { fits = ok }, tt)))) $
         returns ! (look ! 6 refl) $ forget ! 0 refl $ forget ! 2 refl $ forget ! 4 refl $ forget ! 6 refl $

@@ -1,7 +1,7 @@
--- `text::walker::Walker::next` meets its contract: a walk of its MIR, by hand. The walker is taken apart, a reader is made at its
--- place, and takes a word of its text. All that the proof knows of `Words::take` is that it meets its contract.
--- A walker is Copy: one copy of what it owns is kept whole for the exit, and of another what the text owns goes to the callee,
--- beside the lifetime's token, which comes back. A reader and a separator own only facts, which are had anew.
+-- `text::walker::Walker::next` meets its contract: a proof by hand over its MIR. It takes the walker apart, makes a reader at its
+-- place, and lets the reader take a word of its text. All that the proof knows of `Words::take` is that it meets its contract. A
+-- walker is Copy: one copy of what it owns is kept for the exit; from another copy, what the text owns goes to the callee together
+-- with the lifetime's token, which the callee returns. A reader and a separator own only facts, which are proved again.
 -- Assumes nothing.
 use mathlib.Core.Path.{_≡_, refl}
 use mathlib.Core.List.{[], _∷_}
@@ -83,7 +83,7 @@ module _ {M : Type 1} (𝓤 : URA M) (H : Heap 𝓤) (A : Atoms 𝓤) (W : Given
   abbrev Own : Fml
   Own = Held.Own α d
 
-  -- the reader that is made; what the callee is passed, what it asks, what it answers
+  -- the reader that is made; what the callee is passed, what it requires, what it ensures
   abbrev reader : Words
   reader = record { at = d .at }
 
@@ -99,12 +99,12 @@ module _ {M : Type 1} (𝓤 : URA M) (H : Heap 𝓤) (A : Atoms 𝓤) (W : Given
   abbrev found : Taken
   found = nextOf d by′
 
-  -- of the callee's `ensured`, the clause alone: it has no `&mut`, so what is said of last values is dropped
+  -- only the clause of the callee's `ensured`: it has no `&mut`, so the facts about last values are dropped
   said : (r : Taken) → ent 𝓤 (ensured 𝓤 H A take.ended (take.clauses 𝓤 H A mem run) (κ, tt) (reader, (d .text, (by′, tt))) tt r) (fact 𝓤 (r ≡ found))
   said r = exE 𝓤 _ (λ ws. snd∗ 𝓤 (sem 𝓤 H A (lasts take.ended (κ, tt) (reader, (d .text, (by′, tt))) ws)) (fact 𝓤 (r ≡ found)))
 
   module _ (is-w : Is (Row (κ, tt)) d (mach ∷ [])) (is-by : Is E.the-row by′ (By-val by′ ∷ [])) where
-    -- what the walker owns gives what the callee asks, and is kept
+    -- what the walker owns gives what the callee requires, and is kept
     apart : ent 𝓤 (onEntry 𝓤 H A next.signature (κ, tt) (q, tt) (d, (by′, tt)) at) (sep 𝓤 (Take 𝓤 H A mem run .pre to) (sem 𝓤 H A Own))
     apart =
         qed W ((‵ (flft κ q) ⊛ ‵ ftrue) ∷ ‵ (owns (Row (κ, tt) ∷ E.the-row ∷ []) (d, (by′, tt)) at) ∷ []) ∵
@@ -127,7 +127,7 @@ module _ {M : Type 1} (𝓤 : URA M) (H : Heap 𝓤) (A : Atoms 𝓤) (W : Given
         qed W (raw (onEntry 𝓤 H A next.signature (κ, tt) (q, tt) (d, (by′, tt)) at) ∷ []) ∵ enter ! C Λ code.function (mach ∷ By-val by′ ∷ []) _ $
         alloc1 ! (λ l₀. alloc1 ! (λ l₁. alloc1 ! (λ l₂. alloc1 ! (λ l₃. alloc1 ! (λ l₄. alloc1 ! (λ l₅. alloc0 ! $
         params1 ! $ pass1 ! (init ! 8 refl wt) $ pass1 ! (init ! 6 refl (Held.By-typed 𝓤 H A W by′ is-by .0)) $ pass0 ! $
-        -- [_5; …; _4; …; _3; …; _2; …; _1; …; room for _0; …; what is had at entry]
+        -- [_5; …; _4; …; _3; …; _2; …; _1; …; room for _0; …; what is owned at entry]
         assigns ! (of-opd ! (load ! (from ! (fld ! refl (stop !))) (look-in ! 8 (sub ! 1 refl (whole !))))) (from ! (stop !)) (init ! 2 refl (tt, wt .1 .1 .0)) $
         assigns ! (agg ! (and-then ! (load ! (from ! (stop !)) (look ! 2 refl)) (no-more !))) (from ! (stop !)) (init ! 4 refl (tt, (wt .1 .1 .0, tt))) $
         assigns ! (of-opd ! (load ! (from ! (fld ! refl (stop !))) (look-in ! 8 (sub ! 0 refl (whole !))))) (from ! (stop !)) (init ! 0 refl (tt, wt .1 .0)) $

@@ -1,8 +1,8 @@
--- `text::walker::Walker::skipped` meets its contract: a walk of its MIR, by hand. `place_after` is called on the walker's text and place and
--- on what is passed, and a walker is made of the text and the place that it returns. All that the proof knows of `place_after` is that
--- it meets its contract.
--- A walker is Copy: what it owns is had for the exit, for the callee, whose lifetime's token comes back, and, at the new place, for the
--- result. A number and a separator own only facts, which are had anew.
+-- `text::walker::Walker::skipped` meets its contract: a proof by hand over its MIR. It calls `place_after` on the walker's text
+-- and place and on the other parameters, and makes a walker of the text and the place that is returned. All that the proof knows
+-- of `place_after` is that it meets its contract. A walker is Copy: what it owns is copied for the exit, for the callee, which
+-- returns the lifetime's token, and, at the new place, for the result. A number and a separator own only facts, which are proved
+-- again.
 -- Assumes nothing.
 use mathlib.Core.Path.{_≡_, refl, ap}
 use Prim.Native.Nat.{ℕ, _<_, _^_}
@@ -81,7 +81,7 @@ module _ {M : Type 1} (𝓤 : URA M) (H : Heap 𝓤) (A : Atoms 𝓤) (W : Given
   abbrev Own : Fml
   Own = Held.Own α d
 
-  -- what the callee is passed, what it asks, what it answers
+  -- what the callee is passed, what it requires, what it ensures
   abbrev passed : Vals place-after.signature (κ, tt)
   passed = (Held.textVal α d ∷ [], (vint w64 (d .at) ∷ [], (vint w64 n ∷ [], (By-val by′ ∷ [], tt))))
 
@@ -94,12 +94,12 @@ module _ {M : Type 1} (𝓤 : URA M) (H : Heap 𝓤) (A : Atoms 𝓤) (W : Given
   abbrev found : ℕ
   found = passedOf (separator by′) n (now (d .text)) (d .at)
 
-  -- of the callee's `ensured`, the clause alone: it has no `&mut`, so what is said of last values is dropped
+  -- only the clause of the callee's `ensured`: it has no `&mut`, so the facts about last values are dropped
   said : (r : ℕ) → ent 𝓤 (ensured 𝓤 H A place-after.ended (place-after.clauses 𝓤 H A mem run) (κ, tt) (d .text, (d .at, (n, (by′, tt)))) tt r) (fact 𝓤 (r ≡ found))
   said r = exE 𝓤 _ (λ ws. snd∗ 𝓤 (sem 𝓤 H A (lasts place-after.ended (κ, tt) (d .text, (d .at, (n, (by′, tt)))) ws)) (fact 𝓤 (r ≡ found)))
 
   module _ (is-w : Is (Row (κ, tt)) d (mach ∷ [])) (is-by : Is E.the-row by′ (By-val by′ ∷ [])) where
-    -- what the walker owns gives what the callee asks, and is kept
+    -- what the walker owns gives what the callee requires, and is kept
     apart : ent 𝓤 (onEntry 𝓤 H A skipped.signature (κ, tt) (q, tt) (d, (n, (by′, tt))) at) (sep 𝓤 (PlaceAfter 𝓤 H A mem run .pre to) (sem 𝓤 H A Own))
     apart =
         qed W ((‵ (flft κ q) ⊛ ‵ ftrue) ∷ ‵ (owns (Row (κ, tt) ∷ usize ∷ E.the-row ∷ []) (d, (n, (by′, tt))) at) ∷ []) ∵
@@ -123,7 +123,7 @@ module _ {M : Type 1} (𝓤 : URA M) (H : Heap 𝓤) (A : Atoms 𝓤) (W : Given
         qed W (raw (onEntry 𝓤 H A skipped.signature (κ, tt) (q, tt) (d, (n, (by′, tt))) at) ∷ []) ∵ enter ! C Λ code.function (mach ∷ vint w64 n ∷ By-val by′ ∷ []) _ $
         alloc1 ! (λ l₀. alloc1 ! (λ l₁. alloc1 ! (λ l₂. alloc1 ! (λ l₃. alloc1 ! (λ l₄. alloc1 ! (λ l₅. alloc1 ! (λ l₆. alloc1 ! (λ l₇. alloc0 ! $
         params1 ! $ pass1 ! (init ! 12 refl wt) $ pass1 ! (init ! 10 refl (tt, record { fits = ok })) $ pass1 ! (init ! 8 refl (Held.By-typed 𝓤 H A W by′ is-by .0)) $ pass0 ! $
-        -- [_7; …; _6; …; _5; …; _4; …; _3; …; _2; …; _1; …; room for _0; …; what is had at entry]
+        -- [_7; …; _6; …; _5; …; _4; …; _3; …; _2; …; _1; …; room for _0; …; what is owned at entry]
         assigns ! (of-opd ! (load ! (from ! (fld ! refl (stop !))) (look-in ! 12 (sub ! 0 refl (whole !))))) (from ! (stop !)) (init ! 4 refl (tt, wt .1 .0)) $
         assigns ! (of-opd ! (load ! (from ! (fld ! refl (stop !))) (look-in ! 12 (sub ! 1 refl (whole !))))) (from ! (stop !)) (init ! 2 refl (tt, wt .1 .1 .0)) $
         move ! (16 ∷ []) $ use1 W (raw (PlaceAfter 𝓤 H A mem run .pre to) ⊛ ‵ Own) apart $ split ! $

@@ -1,5 +1,5 @@
--- `text::walker::Walker::start` meets its contract: a walk of its MIR, by hand. A walker is made of the text passed and place 0.
--- A `&[u8]` is Copy, so what it owns is had twice: once for the exit, and once inside the result, beside the facts of the place.
+-- `text::walker::Walker::start` meets its contract: a proof by hand over its MIR. The result has the text passed and place 0. A
+-- `&[u8]` is Copy, so what it owns is copied: once for the exit, and once for the result, together with the facts about the place.
 -- Assumes nothing.
 use mathlib.Core.Path.{refl}
 use Prim.Native.Nat.{ℕ}

@@ -1,7 +1,7 @@
--- `text::walker::Walker::word` meets its contract: a walk of its MIR, by hand. `within` is called on the walker's text and the span passed.
--- All that the proof knows of `within` is that it meets its contract.
--- A walker is Copy: one copy of what it owns is kept whole for the exit, and of another what the text owns goes to the callee,
--- beside the lifetime's token, which comes back. A span owns only facts, which are had anew.
+-- `text::walker::Walker::word` meets its contract: a proof by hand over its MIR. It calls `within` on the walker's text and the
+-- span passed. All that the proof knows of `within` is that it meets its contract. A walker is Copy: one copy of what it owns is
+-- kept for the exit; from another copy, what the text owns goes to the callee together with the lifetime's token, which the callee
+-- returns. A span owns only facts, which are proved again.
 -- Assumes nothing.
 use mathlib.Core.Path.{_≡_, refl}
 use Prim.Native.Nat.{ℕ}
@@ -78,7 +78,7 @@ module _ {M : Type 1} (𝓤 : URA M) (H : Heap 𝓤) (A : Atoms 𝓤) (W : Given
   abbrev Own : Fml
   Own = Held.Own α d
 
-  -- what the callee is passed, what it asks, what it answers
+  -- what the callee is passed, what it requires, what it ensures
   abbrev passed : Vals within.signature (κ, tt)
   passed = (Held.textVal α d ∷ [], (P′.lowered p ∷ [], tt))
 
@@ -91,12 +91,12 @@ module _ {M : Type 1} (𝓤 : URA M) (H : Heap 𝓤) (A : Atoms 𝓤) (W : Given
   abbrev found : List ℕ
   found = part (now (d .text)) p
 
-  -- of the callee's `ensured`, the clause alone: it has no `&mut`, so what is said of last values is dropped
+  -- only the clause of the callee's `ensured`: it has no `&mut`, so the facts about last values are dropped
   said : (r : RefT (List ℕ)) → ent 𝓤 (ensured 𝓤 H A within.ended (within.clauses 𝓤 H A mem run) (κ, tt) (d .text, (p, tt)) tt r) (fact 𝓤 (now r ≡ found))
   said r = exE 𝓤 _ (λ ws. snd∗ 𝓤 (sem 𝓤 H A (lasts within.ended (κ, tt) (d .text, (p, tt)) ws)) (fact 𝓤 (now r ≡ found)))
 
   module _ (is-w : Is (Row (κ, tt)) d (mach ∷ [])) (is-p : Is P.the-row p (P′.lowered p ∷ [])) where
-    -- what the walker owns gives what the callee asks, and is kept
+    -- what the walker owns gives what the callee requires, and is kept
     apart : ent 𝓤 (onEntry 𝓤 H A word.signature (κ, tt) (q, tt) (d, (p, tt)) at) (sep 𝓤 (Within 𝓤 H A mem run .pre to) (sem 𝓤 H A Own))
     apart =
         qed W ((‵ (flft κ q) ⊛ ‵ ftrue) ∷ ‵ (owns (Row (κ, tt) ∷ P.the-row ∷ []) (d, (p, tt)) at) ∷ []) ∵
@@ -118,7 +118,7 @@ module _ {M : Type 1} (𝓤 : URA M) (H : Heap 𝓤) (A : Atoms 𝓤) (W : Given
         qed W (raw (onEntry 𝓤 H A word.signature (κ, tt) (q, tt) (d, (p, tt)) at) ∷ []) ∵ enter ! C Λ code.function (mach ∷ P′.lowered p ∷ []) _ $
         alloc1 ! (λ l₀. alloc1 ! (λ l₁. alloc1 ! (λ l₂. alloc1 ! (λ l₃. alloc0 ! $
         params1 ! $ pass1 ! (init ! 4 refl wt) $ pass1 ! (init ! 2 refl (LL.lawful P.the-type P′.the-laws 𝓤 H A W .typed p _ is-p .0)) $ pass0 ! $
-        -- [_3; …; _2; …; _1; …; room for _0; …; what is had at entry]
+        -- [_3; …; _2; …; _1; …; room for _0; …; what is owned at entry]
         assigns ! (of-opd ! (load ! (from ! (fld ! refl (stop !))) (look-in ! 4 (sub ! 0 refl (whole !))))) (from ! (stop !)) (init ! 0 refl (tt, wt .1 .0)) $
         move ! (8 ∷ []) $ use1 W (raw (Within 𝓤 H A mem run .pre to) ⊛ ‵ Own) apart $ split ! $
         calls-at ! fm (Within 𝓤 H A mem run) known to (and-then ! (load ! (from ! (stop !)) (look ! 2 refl)) (and-then ! (load ! (from ! (stop !)) (look ! 4 refl)) (no-more !))) (λ u.
