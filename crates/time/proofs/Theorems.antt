@@ -68,13 +68,13 @@ unfolding sizeOf signed decimal digitsUpTo
 size-of-the-least = refl
 
 -- a room of `size` bytes is enough: what is refused there is an offset too wide
-pub room-of-its-size : (t : Time) (room : List ℕ) → sizeOf (t .seconds) ≤ length room → natAbs (t .offset) < 360000 → headerWritten t room ≡ Length (sizeOf (t .seconds))
+pub header-written-if-it-fits : (t : Time) (room : List ℕ) → natAbs (t .offset) < 360000 → sizeOf (t .seconds) ≤ length room → headerWritten t room ≡ Length (sizeOf (t .seconds))
 unfolding headerWritten
-room-of-its-size t room l h = rw (lt-leb 360000 (natAbs (t .offset)) h, le-ltb (length room) (sizeOf (t .seconds)) l)
+header-written-if-it-fits t room h k = rw (lt-leb 360000 (natAbs (t .offset)) h, le-ltb (length room) (sizeOf (t .seconds)) k)
 
 -- so 26 bytes are enough for every header
 pub room-for-every-header : (t : Time) (room : List ℕ) → SFits w64 (t .seconds) → length room ≡ 26 → natAbs (t .offset) < 360000 → headerWritten t room ≡ Length (sizeOf (t .seconds))
-room-for-every-header t room f l h = room-of-its-size t room (omega (arith, size-at-most-26 (t .seconds) f)) h
+room-for-every-header t room f l h = header-written-if-it-fits t room h (omega (arith, size-at-most-26 (t .seconds) f))
 
 -- what a writer leaves at the front of a room: the bytes that it had to write
 take-of-written : (w : Written) (n : ℕ) (b room : List ℕ) → w ≡ Length n → n ≡ length b → take n (roomAfter (isWritten w) b room) ≡ b
