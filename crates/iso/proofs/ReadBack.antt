@@ -1,7 +1,7 @@
 -- What the ISO writer of `time` writes is read back. In order: the bytes of the line; its fields; its instant; its day; the line of a
 -- time as it is; `iso-read-back`; `iso-read-back-in-room`.
 -- Assumes nothing.
-use mathlib.Core.Path.{_≡_, refl, sym, ap, _∙_, subst}
+use mathlib.Core.Path.{_≡_, refl, sym, ap, _∙_}
 use mathlib.Core.Bool.{true, false}
 use mathlib.Core.List.{List, [], _∷_}
 use Prim.Native.Nat.{ℕ, _+_, _-_, _*_, _/_, _%_, _≤_, _<_}
@@ -32,7 +32,7 @@ use Rattle.time.specs.declared.Answer.the-variants.{Time as Read}
 use Rattle.time.specs.declared.Written.the-variants.{Length}
 use Rattle.time.specs.declared.range.Instant.{Instant}
 use Rattle.ints.proofs.Parts.{pos-natAbs-add}
-use Rattle.iso.specs.Forms.{saidOf, fieldsOf, isSeparator, flexible}
+use Rattle.iso.specs.Forms.{allFields, fieldsOf, isSeparator, flexible}
 use Rattle.iso.specs.Iso.{dayOf, zoned, isoOf}
 use Rattle.iso.specs.declared.forms.Fields.the-variants.{Are}
 use Rattle.text.proofs.Digits.{isSpace-of-digit, tens, ones}
@@ -91,7 +91,7 @@ module _ (y mo d h m s : ℕ) (o : ℤ) (yl : y < 10000) (ml : mo < 100) (dl : d
       (48 + c % 10) (isSpace-of-digit (48 + y / 100 / 10) (tens (y / 100) (omega arith))) (isSpace-of-digit (48 + c % 10) (ones c))
 
   fields-line : flexible line ≡ Are (record { year = pos y; month = pos mo; day = pos d; second = h * 3600 + m * 60 + s; offset = o })
-  unfolding flexible isSeparator fieldsOf saidOf
+  unfolding flexible isSeparator fieldsOf allFields
   fields-line =
       let sign = isSign-signByte o in
       let space = isSpace-signByte o in
@@ -219,7 +219,7 @@ module _ (t : Time) {n : ℕ} (w : WasWritten t n) where
     zoned-line =
         let n : day * 86400 + second ≡ localOf i = omega arith in
         let e : since1970 (day * 86400 + second) -ℤ t .offset ≡ t .seconds = ap (λ (x : ℕ). since1970 x -ℤ t .offset) n ∙ instant-back in
-        let r : In leastSeconds mostSeconds (since1970 (day * 86400 + second) -ℤ t .offset) = subst (In leastSeconds mostSeconds) (sym e) in-range in
+        let r : secondsInRange (since1970 (day * 86400 + second) -ℤ t .offset) ≡ true = ap secondsInRange e ∙ w .seconds in
         rw (flexible-line, clock-sum second, day-line) (sym (momentOf-in {f = At day} second (t .offset) refl r) ∙ (λ j. Read (timeAt (e j) (t .offset))))
 
     -- it is read back, by the flexible form
