@@ -18,7 +18,7 @@ use Rattle.calendar.specs.Dates.{dayNumber}
 use Rattle.calendar.specs.declared.Found.{Found}
 use Rattle.calendar.specs.declared.Found.the-variants.{At, Nothing}
 use Rattle.time.specs.Answers.{timeAt}
-use Rattle.time.specs.Range.{leastSeconds, mostSeconds, secondsInRange, since1970}
+use Rattle.time.specs.Range.{secondsInRange, since1970}
 use Rattle.time.specs.declared.Refusal.the-variants.{NotAscii, Form}
 use Rattle.time.specs.declared.Answer.the-variants.{Time, Refused}
 use Rattle.iso.specs.Forms.{formOf}
@@ -56,13 +56,13 @@ unfolding momentOf
 momentOf-no-day c o e = rw e
 
 module _ {f : Found} {d : ℕ} (c : ℕ) (o : ℤ) (e : f ≡ At d) where
-  pub momentOf-out : isIn leastSeconds mostSeconds (since1970 (d * 86400 + c) -ℤ o) ≡ false → Refused Form ≡ momentOf f c o
-  unfolding momentOf secondsInRange
+  pub momentOf-out : secondsInRange (since1970 (d * 86400 + c) -ℤ o) ≡ false → Refused Form ≡ momentOf f c o
+  unfolding momentOf
   momentOf-out h = rw (e, h)
 
-  pub momentOf-in : In leastSeconds mostSeconds (since1970 (d * 86400 + c) -ℤ o) → Time (timeAt (since1970 (d * 86400 + c) -ℤ o) o) ≡ momentOf f c o
-  unfolding momentOf secondsInRange
-  momentOf-in h = rw (e, isIn-of-In h)
+  pub momentOf-in : secondsInRange (since1970 (d * 86400 + c) -ℤ o) ≡ true → Time (timeAt (since1970 (d * 86400 + c) -ℤ o) o) ≡ momentOf f c o
+  unfolding momentOf
+  momentOf-in h = rw (e, h)
 
 -- ---- fields
 pub zoned-parts : (f : Local) {y m d o : ℤ} {r : Found} → y ≡ f .year → m ≡ f .month → d ≡ f .day → o ≡ f .offset → r ≡ dayOf y m d → momentOf r (f .second) o ≡ zoned (Are f)

@@ -7,7 +7,7 @@ pub mod Cuts
 pub mod Marks
 pub mod Times
 pub mod Offsets
-pub mod Said
+pub mod FormFields
 pub mod Instants
 pub mod Digits
 pub mod Lines

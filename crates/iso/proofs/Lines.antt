@@ -27,7 +27,7 @@ use Rattle.time.specs.Iso.{offsetBefore}
 use Rattle.iso.specs.Parts.{without}
 use Rattle.iso.specs.Cut.{endsWithZ, isSigned, isOffset, spaced, signPlace, cut, timeText, offsetText}
 use Rattle.iso.specs.Clock.{colonTime, timeOf}
-use Rattle.iso.specs.Offset.{upTo, secondsOf, hoursMinutes, turned, offsetOf}
+use Rattle.iso.specs.Offset.{upTo, secondsOf, hoursMinutes, negated, offsetOf}
 use Rattle.iso.proofs.Times.{clock-value}
 use Rattle.text.proofs.Digits.{no-space, no-dot, no-colon, no-Z, isSign-of-digit, isSpace-of-digit, tens, ones, unsignedOf-two}
 use Rattle.text.proofs.FirstPlaces.{firstPlace-of-Free, lastPlace-of-Free}
@@ -140,13 +140,13 @@ module _ (a c : ℕ) (p : a ≤ 23) (q : c ≤ 59) where
       rw (no-colon (48 + a / 10) (tens a k), no-colon (48 + a % 10) (ones a), no-colon (48 + c / 10) (tens c l), no-colon (48 + c % 10) (ones c), int32-two a k, int32-two c l, le-leb a 23 p, le-leb c 59 q)
 
 pub offsetOf-line : (o : ℤ) → natAbs o < 86400 → natAbs o % 60 ≡ 0 → offsetOf (offsetBefore o []) ≡ Is o
-unfolding offsetOf signByte wholeMinutes turned
+unfolding offsetOf signByte wholeMinutes negated
 offsetOf-line (pos n) h e =
     let k : n / 60 / 60 * 3600 + n / 60 % 60 * 60 ≡ n = omega arith in
     hoursMinutes-without (n / 60 / 60) (n / 60 % 60) (omega arith) (omega arith) ∙ ap (λ (x : ℕ). Is (pos x)) k
 offsetOf-line (negsuc n) h e =
     let k : suc n / 60 / 60 * 3600 + suc n / 60 % 60 * 60 ≡ suc n = omega arith in
-    ap turned (hoursMinutes-without (suc n / 60 / 60) (suc n / 60 % 60) (omega arith) (omega arith)) ∙ ap (λ (x : ℕ). Is (negℤ (pos x))) k
+    ap negated (hoursMinutes-without (suc n / 60 / 60) (suc n / 60 % 60) (omega arith) (omega arith)) ∙ ap (λ (x : ℕ). Is (negℤ (pos x))) k
 
 -- ---- the day of a date, as it is written
 pub dayNumber-of-IsDate : {d m k : ℕ} → IsDate d m k → m < 240000 → dayNumber (m / 12) (m % 12 + 1) (k + 1) ≡ At d

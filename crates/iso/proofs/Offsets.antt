@@ -1,32 +1,27 @@
 -- The offset. In order: a field, and how large it can be; hours and minutes; the whole offset, by its first byte.
 -- Assumes nothing.
-use mathlib.Core.Path.{_≡_, refl, sym, subst}
+use mathlib.Core.Path.{_≡_, refl, subst}
 use mathlib.Core.List.{List, [], _∷_}
-use Prim.Native.Nat.{ℕ, _-_, _^_, _<_}
+use Prim.Native.Nat.{ℕ, _-_, _^_}
 use native.Mathlib.Omega.{arith}
 use borrow.Author.Tests.{ne-eqb}
-use lib.IntN.{ℤ, pos, negsuc, negℤ, natAbs, _+ℤ_, _*ℤ_}
+use lib.IntN.{ℤ, pos, negℤ, _+ℤ_, _*ℤ_}
 use lib.ListN.{length, getD, take, drop}
 use lib.Signed.{_≤ℤ_, _<ℤ_}
 use Rattle.ints.specs.Range.{In}
-use Rattle.ints.proofs.Parts.{parts-le}
-use Rattle.ints.proofs.Machine.{At, leZ-true, leZ-false}
+use Rattle.ints.proofs.Machine.{In-of-natAbs, leZ-true, leZ-false}
 use Rattle.text.specs.Number.{signedOf, fitSigned}
 use Rattle.text.specs.declared.number.Integer.{Integer}
 use Rattle.text.specs.declared.number.Integer.the-variants.{Is, NotOne}
 use Rattle.text.proofs.Lists.{take-length-sub-drop}
 use Rattle.text.proofs.Numbers.{Short, signedOf-short, fitSigned-of-length}
 use Rattle.iso.specs.Parts.{without, int32}
-use Rattle.iso.specs.Offset.{upTo, secondsOf, hoursMinutes, turned, offsetOf}
+use Rattle.iso.specs.Offset.{upTo, secondsOf, hoursMinutes, negated, offsetOf}
 use Rattle.iso.specs.Held.{Within}
 
 -- ---- a field of two bytes is from -99 to 99
-In-of-natAbs : (z : ℤ) → natAbs z < 100 → In (negsuc 98) (pos 99) z
-In-of-natAbs (pos n) h = record { low = record { le = tt }; high = parts-le _ _ (omega arith) }
-In-of-natAbs (negsuc n) h = record { low = parts-le _ _ (omega arith); high = record { le = tt } }
-
 Within-of-Short : (x : Integer) → Short 100 x → Within 99 x
-Within-of-Short (Is z) h = In-of-natAbs z h
+Within-of-Short (Is z) h = In-of-natAbs 99 z (omega (arith, h))
 Within-of-Short NotOne h = tt
 
 pub int32-two-within : (x y : ℕ) → Within 99 (int32 (x ∷ y ∷ []))
@@ -64,7 +59,7 @@ unfolding offsetOf
 offsetOf-east [] e = absurd (omega arith)
 offsetOf-east (b ∷ s) e = rw (take-length-sub-drop (b ∷ s) 1, e)
 
-pub offsetOf-west : (s : List ℕ) → getD s 0 0 ≡ 45 → turned (hoursMinutes (without 58 (take (length s - 1) (drop 1 s)))) ≡ offsetOf s
+pub offsetOf-west : (s : List ℕ) → getD s 0 0 ≡ 45 → negated (hoursMinutes (without 58 (take (length s - 1) (drop 1 s)))) ≡ offsetOf s
 unfolding offsetOf
 offsetOf-west [] e = absurd (omega arith)
 offsetOf-west (b ∷ s) e = rw (take-length-sub-drop (b ∷ s) 1, e)
@@ -85,9 +80,6 @@ offsetOf-not [] h p m z = absurd (h refl)
 offsetOf-not (b ∷ s) h p m z = rw (ne-eqb b 90 z, ne-eqb b 43 p, ne-eqb b 45 m)
 
 -- ---- the answers of the code, by what it met
-pub In-of-At : {lo hi z m : ℤ} → At lo hi z m → In lo hi m
-In-of-At {lo} {hi} a = subst (In lo hi) (sym (a .is)) (a .within)
-
 -- a number that is met within k is within k
 pub In-of-Within : {k : ℕ} {x : Integer} {z : ℤ} → x ≡ Is z → Within k x → In (negℤ (pos k)) (pos k) z
 In-of-Within {k} e w = subst (Within k) e w
@@ -117,10 +109,10 @@ pub secondsOf-value : {h m : Integer} {x y : ℤ} → h ≡ Is x → m ≡ Is y 
 unfolding secondsOf
 secondsOf-value e f = rw (e, f)
 
-pub turned-not : {o : Integer} → o ≡ NotOne → NotOne ≡ turned o
-unfolding turned
-turned-not e = rw e
+pub negated-not : {o : Integer} → o ≡ NotOne → NotOne ≡ negated o
+unfolding negated
+negated-not e = rw e
 
-pub turned-value : {o : Integer} {z : ℤ} → o ≡ Is z → Is (negℤ z) ≡ turned o
-unfolding turned
-turned-value e = rw e
+pub negated-value : {o : Integer} {z : ℤ} → o ≡ Is z → Is (negℤ z) ≡ negated o
+unfolding negated
+negated-value e = rw e

@@ -1,26 +1,28 @@
 -- What the ISO writer of `time` writes is read back. In order: the bytes of the line; its fields; its instant; its day; the line of a
--- time as it is; `iso-read-back`.
+-- time as it is; `iso-read-back`; `iso-read-back-in-room`.
 -- Assumes nothing.
-use mathlib.Core.Path.{_≡_, refl, sym, ap, _∙_, subst}
+use mathlib.Core.Path.{_≡_, refl, sym, ap, _∙_}
 use mathlib.Core.Bool.{true, false}
 use mathlib.Core.List.{List, [], _∷_}
 use Prim.Native.Nat.{ℕ, _+_, _-_, _*_, _/_, _%_, _≤_, _<_}
 use native.Mathlib.Omega.{arith}
 use lib.Dec.{eqb}
 use lib.IntN.{ℤ, pos, negsuc, negℤ, natAbs, _+ℤ_, _-ℤ_}
+use lib.ListN.{take}
 use lib.Signed.{_≤ℤ_}
 use Rattle.ints.specs.Range.{In}
 use Rattle.ints.proofs.Parts.{add-parts, up-neg, dn-neg, parts-eq, eq-parts, le-parts, parts-le}
 use Rattle.ints.proofs.Machine.{In-of-isIn}
 use Rattle.text.specs.Bytes.{isSpace, ascii}
 use Rattle.text.specs.Decimal.{twoBefore}
+use Rattle.text.specs.Room.{roomAfter}
 use Rattle.text.specs.Trim.{trim}
 use Rattle.calendar.specs.Calendar.{IsDate}
 use Rattle.calendar.specs.Civil.{yearCount}
 use Rattle.calendar.specs.Dates.{dateOf, dayNumber}
 use Rattle.calendar.specs.declared.Found.the-variants.{At}
 use Rattle.calendar.proofs.Dates.{IsDate-of-dateOf, IsDate-day-lt}
-use Rattle.time.specs.Answers.{timeAt}
+use Rattle.time.specs.Answers.{timeAt, isWritten}
 use Rattle.time.specs.Clock.{localOf, clockOf}
 use Rattle.time.specs.Header.{signByte, wholeMinutes}
 use Rattle.time.specs.Iso.{offsetBefore, lineBytes, isoBytes, isoWritten}
@@ -30,7 +32,7 @@ use Rattle.time.specs.declared.Answer.the-variants.{Time as Read}
 use Rattle.time.specs.declared.Written.the-variants.{Length}
 use Rattle.time.specs.declared.range.Instant.{Instant}
 use Rattle.ints.proofs.Parts.{pos-natAbs-add}
-use Rattle.iso.specs.Forms.{saidOf, fieldsOf, isSeparator, flexible}
+use Rattle.iso.specs.Forms.{allFields, fieldsOf, isSeparator, flexible}
 use Rattle.iso.specs.Iso.{dayOf, zoned, isoOf}
 use Rattle.iso.specs.declared.forms.Fields.the-variants.{Are}
 use Rattle.text.proofs.Digits.{isSpace-of-digit, tens, ones}
@@ -40,7 +42,7 @@ use Rattle.iso.proofs.Lines.{timeOf-clockText, trim-tail, timeText-tail
 use Rattle.iso.proofs.Instants.{dayOf-value, momentOf-in}
 use Rattle.iso.proofs.Theorems.{iso-of-flexible}
 use Rattle.time.proofs.Isos.{WasWritten, wasWritten, shown-of-whole-minutes}
-use Rattle.time.proofs.Theorems.{isSign-signByte}
+use Rattle.time.proofs.Theorems.{line-in-room, isSign-signByte}
 
 -- ---- the line of a date, a clock and an offset
 module _ (y mo d h m s : ℕ) (o : ℤ) (yl : y < 10000) (ml : mo < 100) (dl : d < 100) (hl : h ≤ 23) (nl : m ≤ 59) (sl : s ≤ 59) (ol : natAbs o < 86400) (whole : natAbs o % 60 ≡ 0) where
@@ -89,7 +91,7 @@ module _ (y mo d h m s : ℕ) (o : ℤ) (yl : y < 10000) (ml : mo < 100) (dl : d
       (48 + c % 10) (isSpace-of-digit (48 + y / 100 / 10) (tens (y / 100) (omega arith))) (isSpace-of-digit (48 + c % 10) (ones c))
 
   fields-line : flexible line ≡ Are (record { year = pos y; month = pos mo; day = pos d; second = h * 3600 + m * 60 + s; offset = o })
-  unfolding flexible isSeparator fieldsOf saidOf
+  unfolding flexible isSeparator fieldsOf allFields
   fields-line =
       let sign = isSign-signByte o in
       let space = isSpace-signByte o in
@@ -130,7 +132,7 @@ local-back z o n k p q h =
       dn-neg o,
     ))
 
-module _ (t : Time) (w : WasWritten t) where
+module _ (t : Time) {n : ℕ} (w : WasWritten t n) where
   abbrev i : Instant
   i = instantOf t
 
@@ -217,7 +219,7 @@ module _ (t : Time) (w : WasWritten t) where
     zoned-line =
         let n : day * 86400 + second ≡ localOf i = omega arith in
         let e : since1970 (day * 86400 + second) -ℤ t .offset ≡ t .seconds = ap (λ (x : ℕ). since1970 x -ℤ t .offset) n ∙ instant-back in
-        let r : In leastSeconds mostSeconds (since1970 (day * 86400 + second) -ℤ t .offset) = subst (In leastSeconds mostSeconds) (sym e) in-range in
+        let r : secondsInRange (since1970 (day * 86400 + second) -ℤ t .offset) ≡ true = ap secondsInRange e ∙ w .seconds in
         rw (flexible-line, clock-sum second, day-line) (sym (momentOf-in {f = At day} second (t .offset) refl r) ∙ (λ j. Read (timeAt (e j) (t .offset))))
 
     -- it is read back, by the flexible form
@@ -231,3 +233,8 @@ unfolding isoBytes isoWritten
 iso-read-back t room n e whole =
     let s = shown-of-whole-minutes t whole in
     rw s (line-read-back t (wasWritten t room n (rw s at e)) whole)
+
+-- and so is what the writer leaves in the room, as far as it says that it wrote
+pub iso-read-back-in-room : (t : Time) (room : List ℕ) (n : ℕ) → isoWritten t room ≡ Length n → natAbs (t .offset) % 60 ≡ 0
+    → isoOf (take n (roomAfter (isWritten (isoWritten t room)) (isoBytes t) room)) ≡ Read t
+iso-read-back-in-room t room n e whole = ap isoOf (line-in-room t room n e) ∙ iso-read-back t room n e whole .1

@@ -21,17 +21,17 @@ use Rattle.iso.specs.declared.forms.Fields.{Fields}
 use Rattle.iso.specs.declared.forms.Fields.the-variants.{Are, Missing}
 
 -- all five, or none
-unfoldable pub saidOf : Integer → Integer → Integer → Number → Integer → Fields
-saidOf (Is y) (Is m) (Is d) (Value c) (Is o) = Are (record { year = y; month = m; day = d; second = c; offset = o })
-saidOf (Is y) (Is m) (Is d) (Value c) NotOne = Missing
-saidOf (Is y) (Is m) (Is d) Not o = Missing
-saidOf (Is y) (Is m) NotOne c o = Missing
-saidOf (Is y) NotOne d c o = Missing
-saidOf NotOne m d c o = Missing
+unfoldable pub allFields : Integer → Integer → Integer → Number → Integer → Fields
+allFields (Is y) (Is m) (Is d) (Value c) (Is o) = Are (record { year = y; month = m; day = d; second = c; offset = o })
+allFields (Is y) (Is m) (Is d) (Value c) NotOne = Missing
+allFields (Is y) (Is m) (Is d) Not o = Missing
+allFields (Is y) (Is m) NotOne c o = Missing
+allFields (Is y) NotOne d c o = Missing
+allFields NotOne m d c o = Missing
 
 -- year, month, day: signed 32-bit fields; and what follows the `T` or space
 unfoldable pub fieldsOf : List ℕ → List ℕ → List ℕ → List ℕ → Fields
-fieldsOf y m d s = saidOf (int32 y) (int32 m) (int32 d) (timeOf (timeText (trim s))) (offsetOf (offsetText (trim s)))
+fieldsOf y m d s = allFields (int32 y) (int32 m) (int32 d) (timeOf (timeText (trim s))) (offsetOf (offsetText (trim s)))
 
 -- `T` or space
 unfoldable pub isSeparator : ℕ → Bool

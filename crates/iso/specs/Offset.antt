@@ -30,9 +30,9 @@ hoursMinutes s =
     (cond (eqb (length s) 4) (secondsOf (upTo (pos 23) (int32 (two 0 s))) (upTo (pos 59) (int32 (two 2 s)))) NotOne)
 
 -- a `-` before the fields turns the whole sum
-unfoldable pub turned : Integer → Integer
-turned (Is z) = Is (negℤ z)
-turned NotOne = NotOne
+unfoldable pub negated : Integer → Integer
+negated (Is z) = Is (negℤ z)
+negated NotOne = NotOne
 
 -- empty or `Z` is 0; a sign, then, with all colons removed, the fields
 unfoldable pub offsetOf : List ℕ → Integer
@@ -40,4 +40,4 @@ offsetOf [] = Is (pos 0)
 offsetOf (b ∷ s) =
     cond (eqb b (code "Z") && eqb (length s) 0) (Is (pos 0))
     (cond (eqb b (code "+")) (hoursMinutes (without (code ":") s))
-    (cond (eqb b (code "-")) (turned (hoursMinutes (without (code ":") s))) NotOne))
+    (cond (eqb b (code "-")) (negated (hoursMinutes (without (code ":") s))) NotOne))

@@ -2,12 +2,20 @@
 -- count from 0.
 -- Assumes nothing.
 use Prim.Native.Nat.{ℕ, _^_}
+use Prim.Native.Char.{code}
 use mathlib.Core.Bool.{cond}
 use mathlib.Core.List.{List, [], _∷_}
 use lib.Dec.{eqb}
 use lib.ListN.{take, drop}
 use Rattle.text.specs.Number.{signedOf, fitSigned}
 use Rattle.text.specs.declared.number.Integer.{Integer}
+
+-- bytes that contracts name
+abbrev pub space : ℕ
+space = code " "
+
+abbrev pub colon : ℕ
+colon = code ":"
 
 -- the two bytes from i
 abbrev pub two : ℕ → List ℕ → List ℕ

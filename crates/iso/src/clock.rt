@@ -1,4 +1,4 @@
-// The time of day, as a second of the day.
+// Reads a time of day as a second of the day (RULES 6.7).
 ghost use mathlib.Core.Path.{_≡_};
 ghost use mathlib.Core.List.{_∷_};
 ghost use Rattle.text.specs.Number.{AtMost};
@@ -9,31 +9,31 @@ use text::number;
 use text::number::Number;
 use text::places;
 
-// The time in a trimmed text: HH:MM:SS, HH:MM, HHMMSS, HHMM or HH.
+// The time in a trimmed text: `HH:MM:SS`, `HH:MM`, `HHMMSS`, `HHMM` or `HH`.
 pub fn parse_time_component(t: &[u8]) -> Number
     ensures is { λ r. ⌜ r ≡ timeOf (now (t .entry)) ⌝ }
     ensures range { λ r. ⌜ AtMost 86399 r ⌝ }
 {
-    let i = places::first_place(t, 58);
+    let i = places::first_place(t, b':');
     if i < t.len() {
         return colon_time(&t[..i], &t[i + 1..]);
     }
     plain_time(t)
 }
 
-// The hour h, and what follows its colon. Parts beyond the third are ignored, also if they are empty.
+// The hour h, and s, what follows its colon. Parts beyond the third are ignored, also if they are empty.
 fn colon_time(h: &[u8], s: &[u8]) -> Number
     ensures is { λ r. ⌜ r ≡ colonTime (now (h .entry) ∷ pieces isColon (now (s .entry))) ⌝ }
     ensures range { λ r. ⌜ AtMost 86399 r ⌝ }
 {
-    let i = places::first_place(s, 58);
+    let i = places::first_place(s, b':');
     if i < s.len() {
         return clock(h, &s[..i], places::before(&s[i + 1..], b':'));
     }
     clock(h, s, b"0")
 }
 
-// One to three fields of two bytes: eight bytes are no time.
+// One to three fields of two bytes each.
 fn plain_time(t: &[u8]) -> Number
     ensures is { λ r. ⌜ r ≡ plainTime (now (t .entry)) ⌝ }
     ensures range { λ r. ⌜ AtMost 86399 r ⌝ }
@@ -50,7 +50,7 @@ fn plain_time(t: &[u8]) -> Number
     Number::Not
 }
 
-// The second of the day of an hour to 23, a minute and a second to 59.
+// The second of the day of an hour up to 23, a minute and a second up to 59.
 fn clock(h: &[u8], m: &[u8], s: &[u8]) -> Number
     ensures is { λ r. ⌜ r ≡ clockOf (now (h .entry)) (now (m .entry)) (now (s .entry)) ⌝ }
     ensures range { λ r. ⌜ AtMost 86399 r ⌝ }

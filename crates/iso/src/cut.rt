@@ -1,15 +1,19 @@
-// Splits what follows the date into time and offset. Scans back from the end for the last space and the rightmost sign that has a
-// digit after it; once one of them is found, the scan goes on for the other alone.
+// Splits what follows the date into time and offset (RULES 6.6). One scan goes back from the end for the last space and the rightmost
+// sign that has a digit after it; once it has found one of them, it looks for the other alone.
 ghost use mathlib.Core.Path.{_≡_};
 ghost use mathlib.Core.Bool.{false};
 ghost use Prim.Native.Nat.{_≤_};
 ghost use lib.ListN.{length, getD, drop};
 ghost use Rattle.text.specs.Bytes.{isDigit};
 ghost use Rattle.text.specs.Places.{lastPlace, lastWhere};
+ghost use Rattle.iso.specs.Parts.{space};
 ghost use Rattle.iso.specs.Cut.{isOffset, spaced, cut};
 use text::bytes;
 use text::places;
 use text::trim;
+
+// The bytes of a block that is tested for a space at once.
+const BLOCK: usize = 32;
 
 // Where the time ends in a trimmed text; what follows, trimmed, is the offset.
 pub fn split_time_and_offset(s: &[u8]) -> usize
@@ -19,7 +23,7 @@ pub fn split_time_and_offset(s: &[u8]) -> usize
         return 0;
     }
     let end = s.len() - 1;
-    if s[end] == 90 {
+    if s[end] == b'Z' {
         return end;
     }
     let m = find_marks(s);
@@ -32,9 +36,9 @@ pub fn split_time_and_offset(s: &[u8]) -> usize
     m.sign
 }
 
-// Whether the last space, at `at`, is beyond place 5 and what follows it, trimmed, opens with a sign.
+// Whether the last space, which is at `at`, is beyond place 5 and what follows it, trimmed, starts with a sign.
 fn is_spaced(s: &[u8], at: usize) -> bool
-    requires { ⌜ at ≡ lastPlace 32 (now s) ⌝ }
+    requires { ⌜ at ≡ lastPlace space (now s) ⌝ }
     ensures { λ r. ⌜ r ≡ spaced (now (s .entry)) ⌝ }
 {
     if at <= 5 {
@@ -47,16 +51,16 @@ fn is_spaced(s: &[u8], at: usize) -> bool
     bytes::is_sign(rest[0])
 }
 
-// What may part a text: the place of its last space; the place of the rightmost sign that has a digit after it, directly: `+:05` has
-// none. A place that is not there is the text's length.
+// The place of a text's last space, and that of the rightmost sign with a digit directly after it: the sign of `+:05` has none. Where
+// there is no such space or sign, the place is the text's length.
 struct Marks {
     space: usize,
     sign: usize,
 }
 
-// From the end to the first of the two.
+// Scans back from the end until one of the two is found.
 fn find_marks(s: &[u8]) -> Marks
-    ensures space { λ r. ⌜ r .space ≡ lastPlace 32 (now (s .entry)) ⌝ }
+    ensures space { λ r. ⌜ r .space ≡ lastPlace space (now (s .entry)) ⌝ }
     ensures sign { λ r. ⌜ r .sign ≡ lastWhere isOffset (now (s .entry)) ⌝ }
 {
     let mut e = s.len();
@@ -64,7 +68,7 @@ fn find_marks(s: &[u8]) -> Marks
     while 0 < e {
         e -= 1;
         let b = s[e];
-        if b == 32 {
+        if b == b' ' {
             return Marks {
                 space: e,
                 sign: last_sign(s, e),
@@ -84,7 +88,7 @@ fn find_marks(s: &[u8]) -> Marks
     }
 }
 
-// The rightmost sign that has a digit after it, where there is none behind the space at `from`.
+// The rightmost sign with a digit after it, when none comes after the space at `from`.
 fn last_sign(s: &[u8], from: usize) -> usize
     requires { ⌜ (from ≤ length (now s)) × (lastWhere isOffset (drop from (now s)) ≡ length (drop from (now s))) × (isDigit (getD (drop from (now s)) 0 0) ≡ false) ⌝ }
     ensures { λ r. ⌜ r ≡ lastWhere isOffset (now (s .entry)) ⌝ }
@@ -102,32 +106,33 @@ fn last_sign(s: &[u8], from: usize) -> usize
     s.len()
 }
 
-// The last space, where there is none behind the sign at `from`.
+// The last space, when none comes after the sign at `from`.
 fn last_space(s: &[u8], from: usize) -> usize
-    requires { ⌜ (from ≤ length (now s)) × (lastPlace 32 (drop from (now s)) ≡ length (drop from (now s))) ⌝ }
-    ensures { λ r. ⌜ r ≡ lastPlace 32 (now (s .entry)) ⌝ }
+    requires { ⌜ (from ≤ length (now s)) × (lastPlace space (drop from (now s)) ≡ length (drop from (now s))) ⌝ }
+    ensures { λ r. ⌜ r ≡ lastPlace space (now (s .entry)) ⌝ }
 {
     let mut e = block_end(s, from);
     while 0 < e {
         e -= 1;
-        if s[e] == 32 {
+        if s[e] == b' ' {
             return e;
         }
     }
     s.len()
 }
 
-// Back over blocks of 32 bytes that hold no space. A fraction may be as long as it likes, and the bytes of a block are tested at once.
+// Goes back over whole blocks that hold no space. The fraction of a second can be of any length, and the bytes of a block are tested at
+// once.
 fn block_end(s: &[u8], from: usize) -> usize
-    requires { ⌜ (from ≤ length (now s)) × (lastPlace 32 (drop from (now s)) ≡ length (drop from (now s))) ⌝ }
-    ensures { λ r. ⌜ (r ≤ length (now (s .entry))) × (lastPlace 32 (drop r (now (s .entry))) ≡ length (drop r (now (s .entry)))) ⌝ }
+    requires { ⌜ (from ≤ length (now s)) × (lastPlace space (drop from (now s)) ≡ length (drop from (now s))) ⌝ }
+    ensures { λ r. ⌜ (r ≤ length (now (s .entry))) × (lastPlace space (drop r (now (s .entry))) ≡ length (drop r (now (s .entry)))) ⌝ }
 {
     let mut e = from;
-    while 32 <= e {
-        if places::has(&s[e - 32..e], 32) {
+    while BLOCK <= e {
+        if places::has(&s[e - BLOCK..e], b' ') {
             return e;
         }
-        e -= 32;
+        e -= BLOCK;
     }
     e
 }

@@ -1,11 +1,11 @@
-// The three forms of a trimmed text, and the fields that each reads, as numbers. The calendar is not needed here, and the first
-// eleven bytes show that a text has none of the forms.
+// The three forms of a trimmed text, and the numbers in their fields (RULES 6.2 to 6.5). Whether the date exists is not asked here. A
+// text that has none of the forms is refused by its first eleven bytes.
 ghost use mathlib.Core.Path.{_≡_};
 ghost use mathlib.Core.Bool.{true};
 ghost use Prim.Native.Nat.{_≤_};
 ghost use lib.ListN.{length};
 ghost use Rattle.text.specs.Number.{AtMost};
-ghost use Rattle.iso.specs.Forms.{saidOf, fieldsOf, isSeparator, flexible, compact, dashOf, isDotted, dotted, formOf};
+ghost use Rattle.iso.specs.Forms.{allFields, fieldsOf, isSeparator, flexible, compact, dashOf, isDotted, dotted, formOf};
 ghost use Rattle.iso.specs.Held.{Within, FieldsIn};
 use crate::clock;
 use crate::cut;
@@ -32,7 +32,7 @@ pub enum Fields {
     Missing,
 }
 
-// The form whose fields are there.
+// The fields of the form that the text has: at most one of the three.
 pub fn parse(s: &[u8]) -> Fields
     ensures is { λ r. ⌜ r ≡ formOf (now (s .entry)) ⌝ }
     ensures range { λ r. ⌜ FieldsIn r ⌝ }
@@ -46,7 +46,7 @@ pub fn parse(s: &[u8]) -> Fields
     }
 }
 
-// Ten bytes before the first space, dots at 4 and 7. All dots of the ten are read as dashes.
+// Dotted: ten bytes before the first space, dots at 4 and 7. All dots of the ten are read as dashes.
 fn parse_iso8601_dots(s: &[u8]) -> Fields
     ensures is { λ r. ⌜ r ≡ dotted (now (s .entry)) ⌝ }
     ensures range { λ r. ⌜ FieldsIn r ⌝ }
@@ -54,19 +54,19 @@ fn parse_iso8601_dots(s: &[u8]) -> Fields
     if s.len() < 11 {
         return Fields::Missing;
     }
-    if places::first_place(&s[..11], 32) != 10 {
+    if places::first_place(&s[..11], b' ') != 10 {
         return Fields::Missing;
     }
-    if s[4] != 46 {
+    if s[4] != b'.' {
         return Fields::Missing;
     }
-    if s[7] != 46 {
+    if s[7] != b'.' {
         return Fields::Missing;
     }
     dashed(s)
 }
 
-// The fields of a dotted text, each dot of its date a dash.
+// The fields of a dotted text, with each dot of its date read as a dash.
 fn dashed(s: &[u8]) -> Fields
     requires bytes { ⌜ 11 ≤ length (now s) ⌝ }
     requires form { ⌜ isDotted (now s) ≡ true ⌝ }
@@ -82,13 +82,13 @@ fn dashed(s: &[u8]) -> Fields
 fn dash(b: u8) -> u8
     ensures { λ r. ⌜ r ≡ dashOf b ⌝ }
 {
-    if b == 46 {
-        return 45;
+    if b == b'.' {
+        return b'-';
     }
     b
 }
 
-// The first `T` at place 8.
+// Compact: the first `T` is at place 8.
 fn parse_compact_iso8601(s: &[u8]) -> Fields
     ensures is { λ r. ⌜ r ≡ compact (now (s .entry)) ⌝ }
     ensures range { λ r. ⌜ FieldsIn r ⌝ }
@@ -96,13 +96,13 @@ fn parse_compact_iso8601(s: &[u8]) -> Fields
     if s.len() < 9 {
         return Fields::Missing;
     }
-    if places::first_place(&s[..9], 84) != 8 {
+    if places::first_place(&s[..9], b'T') != 8 {
         return Fields::Missing;
     }
     read_fields(&s[..4], parts::two(s, 4), parts::two(s, 6), &s[9..])
 }
 
-// Dashes at 4 and 7, `T` or space at 10.
+// Flexible: dashes at 4 and 7, `T` or a space at 10.
 fn parse_flexible_iso8601(s: &[u8]) -> Fields
     ensures is { λ r. ⌜ r ≡ flexible (now (s .entry)) ⌝ }
     ensures range { λ r. ⌜ FieldsIn r ⌝ }
@@ -110,10 +110,10 @@ fn parse_flexible_iso8601(s: &[u8]) -> Fields
     if s.len() < 11 {
         return Fields::Missing;
     }
-    if s[4] != 45 {
+    if s[4] != b'-' {
         return Fields::Missing;
     }
-    if s[7] != 45 {
+    if s[7] != b'-' {
         return Fields::Missing;
     }
     if is_separator(s[10]) {
@@ -125,10 +125,10 @@ fn parse_flexible_iso8601(s: &[u8]) -> Fields
 fn is_separator(b: u8) -> bool
     ensures { λ r. ⌜ r ≡ isSeparator b ⌝ }
 {
-    (b == 84) | (b == 32)
+    (b == b'T') | (b == b' ')
 }
 
-// Year, month and day, and what follows them.
+// Reads year, month, day, and from s, what follows the `T` or space, time and offset.
 fn read_fields(y: &[u8], m: &[u8], d: &[u8], s: &[u8]) -> Fields
     ensures is { λ r. ⌜ r ≡ fieldsOf (now (y .entry)) (now (m .entry)) (now (d .entry)) (now (s .entry)) ⌝ }
     ensures range { λ r. ⌜ FieldsIn r ⌝ }
@@ -137,16 +137,16 @@ fn read_fields(y: &[u8], m: &[u8], d: &[u8], s: &[u8]) -> Fields
     let i = cut::split_time_and_offset(r);
     let t = clock::parse_time_component(trim::trimmed(places::before(&r[..i], b'.')));
     let o = offset::parse_flexible_offset(trim::trimmed(&r[i..]));
-    let year = number::signed_number(y, 2147483648);
-    let month = number::signed_number(m, 2147483648);
-    let day = number::signed_number(d, 2147483648);
-    said(year, month, day, t, o)
+    let year = number::signed_number(y, number::HALF_32);
+    let month = number::signed_number(m, number::HALF_32);
+    let day = number::signed_number(d, number::HALF_32);
+    all_fields(year, month, day, t, o)
 }
 
-// All five, or none.
-fn said(y: Integer, m: Integer, d: Integer, t: Number, o: Integer) -> Fields
+// All five fields, if each of them was read.
+fn all_fields(y: Integer, m: Integer, d: Integer, t: Number, o: Integer) -> Fields
     requires { ⌜ AtMost 86399 t × Within 362340 o ⌝ }
-    ensures is { λ r. ⌜ r ≡ saidOf y m d t o ⌝ }
+    ensures is { λ r. ⌜ r ≡ allFields y m d t o ⌝ }
     ensures range { λ r. ⌜ FieldsIn r ⌝ }
 {
     let Integer::Is(year) = y else {

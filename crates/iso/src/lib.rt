@@ -1,6 +1,7 @@
-// Dates as ISO 8601 writes them and people paste them: `2008.02.14 20:30:45 -0500`, `20080214T203045Z`,
-// `2008-02-14 20:30:45 +01:00`. Every text has an answer: a time; NotAscii (1) for a byte of 128 or
-// more; else Form (2), also for a date that does not exist and for an instant out of range.
+// Reads dates as ISO 8601 writes them and people paste them (RULES 6): `2008.02.14 20:30:45 -0500`,
+// `20080214T203045Z`, `2008-02-14 20:30:45 +01:00`. Every text has an answer: a time; NotAscii (1) for a
+// byte of 128 or more; otherwise Form (2), also for a date that does not exist and for an instant out
+// of range.
 //
 // `parse_git_date_format` uses no table of months; `parse_git_date_format_with` borrows one, for
 // callers that read many texts.
@@ -11,18 +12,26 @@ mod offset;
 mod parts;
 
 ghost use mathlib.Core.Path.{_≡_};
-ghost use Prim.Native.Nat.{_≤_, _<_};
+ghost use Prim.Native.Nat.{_≤_};
 ghost use lib.IntN.{pos, negℤ};
 ghost use Rattle.ints.specs.Range.{In};
 ghost use Rattle.calendar.specs.Table.{IsMonths};
 ghost use Rattle.calendar.specs.Dates.{Below};
-ghost use Rattle.iso.specs.Iso.{dayOf, momentOf, zoned, isoOf};
+ghost use Rattle.iso.specs.Iso.{dayOf, momentOf, isoOf};
 use calendar::Found;
+use calendar::SECONDS_PER_DAY;
 use forms::Fields;
-use forms::Local;
 use time::Answer;
 use time::Refusal;
 use time::Time;
+use time::range;
+
+// The years that are read. The calendar counts them from -10000, so that its year 10000 is year 0.
+const LEAST_YEAR: i64 = -9999;
+
+const MOST_YEAR: i64 = 9999;
+
+const YEAR_0: i64 = 10000;
 
 // A date in any of the three forms.
 pub fn parse_git_date_format(s: &[u8]) -> Answer
@@ -40,27 +49,12 @@ pub fn parse_git_date_format_with(months: &[u32], s: &[u8]) -> Answer
         let Fields::Are(f) = forms::parse(text::trim::trimmed(s)) else {
             return Answer::Refused(Refusal::Form);
         };
-        return new_zoned(months, f);
+        return moment(date(months, f.year, f.month, f.day), f.second, f.offset);
     }
     Answer::Refused(Refusal::NotAscii)
 }
 
-// What the fields of a text mean, if their date exists and their instant is in range.
-fn new_zoned(months: &[u32], f: Local) -> Answer
-    requires table { ⌜ IsMonths (now months) ⌝ }
-    requires second { ⌜ f .second ≤ 86399 ⌝ }
-    requires offset { ⌜ In (negℤ (pos 362340)) (pos 362340) (f .offset) ⌝ }
-    ensures { λ r. ⌜ r ≡ zoned (Fields.Are f) ⌝ }
-{
-    let year = f.year;
-    let month = f.month;
-    let day = f.day;
-    let second = f.second;
-    let offset = f.offset;
-    moment(date(months, year, month, day), second, offset)
-}
-
-// The day of a date that exists, in the years -9999 to 9999.
+// The day of a date, if the date exists and its year is one of those that are read.
 fn date(months: &[u32], y: i64, m: i64, d: i64) -> Found
     requires { ⌜ IsMonths (now months) ⌝ }
     ensures is { λ r. ⌜ r ≡ dayOf y m d ⌝ }
@@ -72,16 +66,16 @@ fn date(months: &[u32], y: i64, m: i64, d: i64) -> Found
     if d < 0 {
         return Found::Nothing;
     }
-    if y < -9999 {
+    if y < LEAST_YEAR {
         return Found::Nothing;
     }
-    if y > 9999 {
+    if y > MOST_YEAR {
         return Found::Nothing;
     }
-    calendar::day_number(months, (y + 10000) as u64, m as u64, d as u64)
+    calendar::day_number(months, (y + YEAR_0) as u64, m as u64, d as u64)
 }
 
-// A second of a day, by the clock of an offset. Day 4,371,953 is 1 January 1970.
+// The time at a second of a day, by the clock of an offset.
 fn moment(d: Found, second: u64, offset: i64) -> Answer
     requires day { ⌜ Below 7304850 d ⌝ }
     requires second { ⌜ second ≤ 86399 ⌝ }
@@ -91,12 +85,9 @@ fn moment(d: Found, second: u64, offset: i64) -> Answer
     let Found::At(day) = d else {
         return Answer::Refused(Refusal::Form);
     };
-    let z = (day * 86400 + second) as i64 - 377736739200 - offset;
-    if z < -377705023201 {
-        return Answer::Refused(Refusal::Form);
+    let z = (day * SECONDS_PER_DAY + second) as i64 - range::SECOND_OF_1970 - offset;
+    if range::seconds_in_range(z) {
+        return Answer::Time(Time::new(z, offset as i32));
     }
-    if z > 253402207200 {
-        return Answer::Refused(Refusal::Form);
-    }
-    Answer::Time(Time::new(z, offset as i32))
+    Answer::Refused(Refusal::Form)
 }

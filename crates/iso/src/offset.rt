@@ -1,14 +1,14 @@
-// The offset from UTC, in seconds. Its colons are passed over as its bytes are read, once: nothing is copied but the four bytes
-// that may be left.
+// Reads an offset from UTC, in seconds (RULES 6.8). Colons are skipped as the bytes are read, and only the bytes of the fields, at most
+// four, are copied.
 ghost use mathlib.Core.Path.{_≡_};
 ghost use mathlib.Core.List.{[], _∷_};
-ghost use Rattle.iso.specs.Parts.{without, int32};
-ghost use Rattle.iso.specs.Offset.{upTo, secondsOf, hoursMinutes, turned as turnedOf, offsetOf};
+ghost use Rattle.iso.specs.Parts.{colon, without, int32};
+ghost use Rattle.iso.specs.Offset.{upTo, secondsOf, hoursMinutes, negated as negatedOf, offsetOf};
 ghost use Rattle.iso.specs.Held.{Within};
 use text::number;
 use text::number::Integer;
 
-// The offset in a trimmed text: none, `Z`, or a sign and HH, HHMM or either with colons anywhere.
+// The offset in a trimmed text: nothing, `Z`, or a sign and `HH` or `HHMM`, with colons anywhere behind it.
 pub fn parse_flexible_offset(o: &[u8]) -> Integer
     ensures is { λ r. ⌜ r ≡ offsetOf (now (o .entry)) ⌝ }
     ensures range { λ r. ⌜ Within 362340 r ⌝ }
@@ -16,13 +16,13 @@ pub fn parse_flexible_offset(o: &[u8]) -> Integer
     if o.len() == 0 {
         return Integer::Is(0);
     }
-    if o[0] == 43 {
+    if o[0] == b'+' {
         return hours_minutes(&o[1..]);
     }
-    if o[0] == 45 {
-        return turned(hours_minutes(&o[1..]));
+    if o[0] == b'-' {
+        return negated(hours_minutes(&o[1..]));
     }
-    if o[0] == 90 {
+    if o[0] == b'Z' {
         if o.len() == 1 {
             return Integer::Is(0);
         }
@@ -31,16 +31,16 @@ pub fn parse_flexible_offset(o: &[u8]) -> Integer
     Integer::NotOne
 }
 
-// What follows the sign: two or four bytes that are no colons. A fifth ends the walk.
+// What follows the sign: two or four bytes besides colons. The scan ends at a fifth.
 fn hours_minutes(s: &[u8]) -> Integer
-    ensures is { λ r. ⌜ r ≡ hoursMinutes (without 58 (now (s .entry))) ⌝ }
+    ensures is { λ r. ⌜ r ≡ hoursMinutes (without colon (now (s .entry))) ⌝ }
     ensures range { λ r. ⌜ Within 362340 r ⌝ }
 {
     let mut f: [u8; 4] = [0; 4];
     let mut n: usize = 0;
     let mut i = 0;
     while i < s.len() {
-        if s[i] == 58 {
+        if s[i] == b':' {
             i += 1;
             continue;
         }
@@ -60,13 +60,13 @@ fn hours_minutes(s: &[u8]) -> Integer
     Integer::NotOne
 }
 
-// Two bytes as a signed number up to the limit: it may be below 0, as in `+-5`.
+// Two bytes as a signed number up to the limit. It may be negative, as in `+-5`.
 fn field(x: u8, y: u8, limit: i64) -> Integer
     ensures is { λ r. ⌜ r ≡ upTo limit (int32 (x ∷ y ∷ [])) ⌝ }
     ensures range { λ r. ⌜ Within 99 r ⌝ }
 {
     let f = [x, y];
-    let Integer::Is(z) = number::signed_number(&f, 2147483648) else {
+    let Integer::Is(z) = number::signed_number(&f, number::HALF_32) else {
         return Integer::NotOne;
     };
     if z <= limit {
@@ -89,9 +89,9 @@ fn seconds(h: Integer, m: Integer) -> Integer
     Integer::Is(hours * 3600 + minutes * 60)
 }
 
-fn turned(o: Integer) -> Integer
+fn negated(o: Integer) -> Integer
     requires { ⌜ Within 362340 o ⌝ }
-    ensures is { λ r. ⌜ r ≡ turnedOf o ⌝ }
+    ensures is { λ r. ⌜ r ≡ negatedOf o ⌝ }
     ensures range { λ r. ⌜ Within 362340 r ⌝ }
 {
     let Integer::Is(z) = o else {

@@ -1,4 +1,4 @@
-// A part of a text, as a part of the same slice.
+// Fields of two bytes.
 ghost use mathlib.Core.Path.{_≡_};
 ghost use Prim.Native.Nat.{_≤_, _+_};
 ghost use lib.ListN.{length};

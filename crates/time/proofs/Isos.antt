@@ -116,14 +116,15 @@ wroteLine-At t i o room r after e p w =
     let d = HasLine-of-At t i e .instant in
     rw (e, ← d, ← p) w
 
--- ---- what the time of a line that was written is like
-pub record WasWritten (t : Time) : Type 0 where
+-- ---- what the time of a line that was written is like, and that n, the answer, is 25
+pub record WasWritten (t : Time) (n : ℕ) : Type 0 where
   pub narrow : natAbs (t .offset) < 86400
   pub seconds : secondsInRange (t .seconds) ≡ true
   pub year-low : 120000 ≤ lineClock t .date .month
   pub year-high : lineClock t .date .month < 240000
+  pub length : n ≡ 25
 
-pub wasWritten : (t : Time) (room : List ℕ) (n : ℕ) → lineWritten t room ≡ Length n → WasWritten t
+pub wasWritten : (t : Time) (room : List ℕ) (n : ℕ) → lineWritten t room ≡ Length n → WasWritten t n
 unfolding lineWritten lineOf
 wasWritten t room n e =
     let c : Clock = lineClock t in
@@ -134,12 +135,16 @@ wasWritten t room n e =
     let p = both (leb 10000 (yearOf c)) (ltb (yearOf c) 20000) y in
     let l : 10000 ≤ yearOf c = leb-true 10000 (yearOf c) (p .0) in
     let h : yearOf c < 20000 = ltb-true (yearOf c) 20000 (p .1) in
-    record { narrow = leb-false 86400 (natAbs (t .offset)) a; seconds = b; year-low = omega arith; year-high = omega arith })
+    by-test (ltb (length room) 25) (λ k. absurd (clash Room (rw (a, b, y, k) at e)))
+    (λ k. record { narrow = leb-false 86400 (natAbs (t .offset)) a; seconds = b; year-low = omega arith; year-high = omega arith; length = same (rw (a, b, y, k) at e) }))
     (λ m. absurd (clash Range (rw (a, b, m) at e))))
     (λ m. absurd (clash Range (rw (a, m) at e))))
   where
     clash : (r : Refusal) → Refused r ≡ Length n → ⊥
     clash r p = let z : _≡_ {A = ℕ} 0 1 = cc in omega arith
+
+    same : Length 25 ≡ Length n → n ≡ 25
+    same p = cc
 
 -- ---- the time that a line shows
 pub shown-of-whole-minutes : (t : Time) → natAbs (t .offset) % 60 ≡ 0 → shown t ≡ t

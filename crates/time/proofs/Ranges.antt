@@ -1,8 +1,8 @@
 -- The range, in signed numbers and in numbers from 0. In order: seconds from 0 are in range exactly between two numbers; an instant as
 -- an answer; the move to numbers from 0; a time in range moved so and back is itself.
 -- Assumes nothing.
-use mathlib.Core.Path.{_≡_}
-use mathlib.Core.Bool.{true, false, _&&_}
+use mathlib.Core.Path.{_≡_, sym, _∙_}
+use mathlib.Core.Bool.{Bool, true, false, _&&_}
 use Prim.Native.Nat.{ℕ, _-_, _≤_, _<_}
 use native.Mathlib.Omega.{arith}
 use borrow.Author.Tests.{le-leb, lt-leb, leb-true}
@@ -54,31 +54,24 @@ since1970-sub t n h =
 
 -- ---- an instant as an answer
 module _ (i : Instant) where
-  timeInRange-timeOf : timeInRange (timeOf i) ≡ ((leb 31715999 (i .seconds) && leb (i .seconds) 631138946400) && (leb 1 (i .offset) && leb (i .offset) 187199))
+  -- the test of the code: p is the answer for the seconds
+  pub timeInRange-timeOf : {p : Bool} → p ≡ secondsInRange (since1970 (i .seconds)) → (p && (leb 1 (i .offset) && leb (i .offset) 187199)) ≡ timeInRange (timeOf i)
   unfolding timeInRange
-  timeInRange-timeOf = rw (secondsInRange-since1970 (i .seconds), offsetInRange-sub (i .offset))
+  timeInRange-timeOf e = rw (e, offsetInRange-sub (i .offset))
 
-  pub answerAt-of-early : i .seconds < 31715999 → answerAt i ≡ Refused Range
+  pub answerAt-of-in : timeInRange (timeOf i) ≡ true → answerAt i ≡ At (timeOf i)
   unfolding answerAt
-  answerAt-of-early h = rw (timeInRange-timeOf, lt-leb 31715999 (i .seconds) h)
+  answerAt-of-in e = rw e
 
-  pub answerAt-of-late : 31715999 ≤ i .seconds → 631138946400 < i .seconds → answerAt i ≡ Refused Range
+  pub answerAt-of-out : timeInRange (timeOf i) ≡ false → answerAt i ≡ Refused Range
   unfolding answerAt
-  answerAt-of-late e h = rw (timeInRange-timeOf, le-leb 31715999 (i .seconds) e, lt-leb (i .seconds) 631138946400 h)
-
-  pub answerAt-of-west : 31715999 ≤ i .seconds → i .seconds ≤ 631138946400 → i .offset < 1 → answerAt i ≡ Refused Range
-  unfolding answerAt
-  answerAt-of-west e l h = rw (timeInRange-timeOf, le-leb 31715999 (i .seconds) e, le-leb (i .seconds) 631138946400 l, lt-leb 1 (i .offset) h)
-
-  pub answerAt-of-east : 31715999 ≤ i .seconds → i .seconds ≤ 631138946400 → 1 ≤ i .offset → 187199 < i .offset → answerAt i ≡ Refused Range
-  unfolding answerAt
-  answerAt-of-east e l w h =
-      rw (timeInRange-timeOf, le-leb 31715999 (i .seconds) e, le-leb (i .seconds) 631138946400 l, le-leb 1 (i .offset) w, lt-leb (i .offset) 187199 h)
+  answerAt-of-out e = rw e
 
   pub answerAt-of-InRange : InRange i → answerAt i ≡ At (timeOf i)
-  unfolding answerAt
   answerAt-of-InRange p =
-      rw (timeInRange-timeOf, le-leb 31715999 (i .seconds) (p .early), le-leb (i .seconds) 631138946400 (p .late), le-leb 1 (i .offset) (p .west), le-leb (i .offset) 187199 (p .east))
+      answerAt-of-in
+      (sym (timeInRange-timeOf (sym (secondsInRange-since1970 (i .seconds))))
+      ∙ rw (le-leb 31715999 (i .seconds) (p .early), le-leb (i .seconds) 631138946400 (p .late), le-leb 1 (i .offset) (p .west), le-leb (i .offset) 187199 (p .east)))
 
   pub InRange-of-timeOf : timeInRange (timeOf i) ≡ true → InRange i
   unfolding timeInRange
@@ -89,21 +82,23 @@ module _ (i : Instant) where
       record { early = s .0; late = s .1; west = o .0; east = o .1 }
 
 -- ---- what is moved
-movedOf-of-not : (t : Time) → timeInRange t ≡ false → movedOf t ≡ Out
-unfolding movedOf
-movedOf-of-not t e = rw e
+-- the test of the code: p is the answer for the seconds, q that for the offset
+module _ (t : Time) {p q : Bool} (e : p ≡ secondsInRange (t .seconds)) (f : q ≡ offsetInRange (t .offset)) where
+  pub seconds-of-test : (p && q) ≡ true → In leastSeconds mostSeconds (t .seconds)
+  unfolding secondsInRange
+  seconds-of-test h = In-of-isIn leastSeconds mostSeconds (t .seconds) (sym e ∙ both p q h .0)
 
-pub movedOf-of-seconds : (t : Time) → isIn leastSeconds mostSeconds (t .seconds) ≡ false → movedOf t ≡ Out
-unfolding timeInRange secondsInRange
-movedOf-of-seconds t e = movedOf-of-not t (rw e)
+  pub offset-of-test : (p && q) ≡ true → In leastOffset mostOffset (t .offset)
+  unfolding offsetInRange
+  offset-of-test h = In-of-isIn leastOffset mostOffset (t .offset) (sym f ∙ both p q h .1)
 
-pub movedOf-of-offset : (t : Time) → In leastSeconds mostSeconds (t .seconds) → isIn leastOffset mostOffset (t .offset) ≡ false → movedOf t ≡ Out
-unfolding timeInRange secondsInRange offsetInRange
-movedOf-of-offset t p e = movedOf-of-not t (rw (isIn-of-In p, e))
+  pub movedOf-in : (p && q) ≡ true → movedOf t ≡ Inside (instantOf t)
+  unfolding movedOf timeInRange
+  movedOf-in h = rw (← e, ← f, h)
 
-pub movedOf-of-In : (t : Time) → In leastSeconds mostSeconds (t .seconds) → In leastOffset mostOffset (t .offset) → movedOf t ≡ Inside (instantOf t)
-unfolding movedOf timeInRange secondsInRange offsetInRange
-movedOf-of-In t p q = rw (isIn-of-In p, isIn-of-In q)
+  pub movedOf-out : (p && q) ≡ false → movedOf t ≡ Out
+  unfolding movedOf timeInRange
+  movedOf-out h = rw (← e, ← f, h)
 
 -- ---- a time in range, as numbers from 0 and back
 pub timeOf-instantOf : (t : Time) → timeInRange t ≡ true → timeOf (instantOf t) ≡ t

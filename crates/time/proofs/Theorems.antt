@@ -11,7 +11,8 @@ use native.Mathlib.Omega.{arith}
 use borrow.Author.Tests.{lt-leb, le-ltb}
 use lib.Dec.{eqb, leb, ltb}
 use lib.IntN.{ℤ, pos, negsuc, natAbs}
-use lib.ListN.{length}
+use lib.ListN.{length, take, drop}
+use lib.Seq.{take-append-seam}
 use lib.Signed.{_≤ℤ_}
 use mir.Syntax.{w64}
 use mir.Val.{SFits}
@@ -24,6 +25,8 @@ use Rattle.text.proofs.Digits.{tens, ones}
 use Rattle.text.specs.Bytes.{isDigit, isSign}
 use Rattle.text.specs.Decimal.{digitsUpTo, decimal, signed}
 use Rattle.text.specs.Quote.{bytes}
+use Rattle.text.specs.Room.{roomAfter}
+use Rattle.time.specs.Answers.{isWritten}
 use Rattle.time.specs.Clock.{clockOf, localOf}
 use Rattle.time.specs.Header.{sizeOf, headerBytes, headerWritten, signByte, wholeMinutes, HasHeader, smallestTime, largestTime}
 use Rattle.time.specs.Range.{instantOf}
@@ -31,6 +34,7 @@ use Rattle.time.specs.Iso.{lineClock, yearOf, lineBytes, shown, isoBytes
 use Rattle.time.specs.declared.Time.{Time}
 use Rattle.time.specs.declared.Refusal.{Refusal}
 use Rattle.time.specs.declared.Refusal.the-variants.{Offset, Room}
+use Rattle.time.specs.declared.Written.{Written}
 use Rattle.time.specs.declared.Written.the-variants.{Length, Refused}
 use Rattle.time.specs.declared.range.Instant.{Instant}
 use Rattle.time.proofs.Headers.{length-headerBytes}
@@ -63,12 +67,22 @@ pub size-of-the-least : sizeOf (negsuc (2 ^ 63 - 1)) ≡ 26
 unfolding sizeOf signed decimal digitsUpTo
 size-of-the-least = refl
 
--- so 26 bytes are room enough: what is refused there is an offset too wide
-pub room-for-every-header : (t : Time) (room : List ℕ) → SFits w64 (t .seconds) → length room ≡ 26 → natAbs (t .offset) < 360000 → headerWritten t room ≡ Length (sizeOf (t .seconds))
+-- a room of `size` bytes is enough: what is refused there is an offset too wide
+pub header-written-if-it-fits : (t : Time) (room : List ℕ) → natAbs (t .offset) < 360000 → sizeOf (t .seconds) ≤ length room → headerWritten t room ≡ Length (sizeOf (t .seconds))
 unfolding headerWritten
-room-for-every-header t room f l h =
-    let k : sizeOf (t .seconds) ≤ length room = omega (arith, size-at-most-26 (t .seconds) f) in
-    rw (lt-leb 360000 (natAbs (t .offset)) h, le-ltb (length room) (sizeOf (t .seconds)) k)
+header-written-if-it-fits t room h k = rw (lt-leb 360000 (natAbs (t .offset)) h, le-ltb (length room) (sizeOf (t .seconds)) k)
+
+-- so 26 bytes are enough for every header
+pub room-for-every-header : (t : Time) (room : List ℕ) → SFits w64 (t .seconds) → length room ≡ 26 → natAbs (t .offset) < 360000 → headerWritten t room ≡ Length (sizeOf (t .seconds))
+room-for-every-header t room f l h = header-written-if-it-fits t room h (omega (arith, size-at-most-26 (t .seconds) f))
+
+-- what a writer leaves at the front of a room: the bytes that it had to write
+take-of-written : (w : Written) (n : ℕ) (b room : List ℕ) → w ≡ Length n → n ≡ length b → take n (roomAfter (isWritten w) b room) ≡ b
+take-of-written w n b room e l = rw (e, l) (take-append-seam b (drop (length b) room))
+
+pub header-in-room : (t : Time) (room : List ℕ) (n : ℕ) → headerWritten t room ≡ Length n
+    → take n (roomAfter (isWritten (headerWritten t room)) (headerBytes t) room) ≡ headerBytes t
+header-in-room t room n e = take-of-written (headerWritten t room) n (headerBytes t) room e (size-is-the-bytes-written t room n e .1)
 
 -- ---- `Time::MIN` and `Time::MAX`
 -- no time that a header can carry has smaller seconds or a smaller offset than `Time::MIN`, which is one itself
@@ -89,6 +103,12 @@ MAX-is-most = (
 pub iso-line-is-25-bytes : (t : Time) → length (isoBytes t) ≡ 25
 unfolding isoBytes lineBytes
 iso-line-is-25-bytes t = refl
+
+-- and what the writer leaves at the front of a room is the line
+pub line-in-room : (t : Time) (room : List ℕ) (n : ℕ) → isoWritten t room ≡ Length n
+    → take n (roomAfter (isWritten (isoWritten t room)) (isoBytes t) room) ≡ isoBytes t
+unfolding isoWritten
+line-in-room t room n e = take-of-written (isoWritten t room) n (isoBytes t) room e (wasWritten (shown t) room n e .length ∙ sym (iso-line-is-25-bytes t))
 
 -- a line like a pattern, in which `0` stands for any digit and `+` for either sign
 abbrev pub likeByte : ℕ → ℕ → Bool
@@ -114,7 +134,7 @@ clock-second : (i : Instant) → clockOf i .second < 86400
 unfolding clockOf
 clock-second i = omega arith
 
-line-has-its-shape : (t : Time) → WasWritten t → isLike (bytes "0000-00-00T00:00:00+00:00") (lineBytes t) ≡ true
+line-has-its-shape : (t : Time) {n : ℕ} → WasWritten t n → isLike (bytes "0000-00-00T00:00:00+00:00") (lineBytes t) ≡ true
 unfolding lineBytes wholeMinutes
 line-has-its-shape t w =
     let c = lineClock t in

@@ -1,4 +1,4 @@
-// The ISO writer's parts: `2008-02-14T20:30:45-05:00`, from its end to its front.
+// Writes the ISO line of a time, `2008-02-14T20:30:45-05:00`, from its end to its front (RULES 9.4).
 ghost use mathlib.Core.Path.{_≡_};
 ghost use mathlib.Core.List.{_++_};
 ghost use Prim.Native.Nat.{_+_, _-_, _≤_, _<_, _/_, _%_};
@@ -19,15 +19,27 @@ use crate::range;
 use crate::range::Instant;
 use crate::range::Moved;
 use crate::write;
+use calendar::SECONDS_PER_DAY;
 use text::decimal;
 
-// The instant whose clock a line shows, or why the time has no line.
+// The bytes of a line.
+const LINE_LENGTH: usize = 25;
+
+// 24 hours. An offset of this size or more is refused.
+const OFFSET_LIMIT: u64 = 86400;
+
+// Years and months are counted from year -10000: these are year 0 and its January.
+const YEAR_0: u64 = 10000;
+
+const MONTH_OF_YEAR_0: u64 = 120000;
+
+// The instant whose local clock a line shows, or why the time has no line.
 pub enum Line {
     At(Instant),
     Refused(Refusal),
 }
 
-// The time that a line shows: today the time itself.
+// The time that a line shows: for now the time itself.
 pub fn shown(t: Time) -> Time
     ensures { λ r. ⌜ r ≡ shownTime t ⌝ }
 {
@@ -53,7 +65,7 @@ fn line_of(t: Time) -> Line
     ensures range { λ r. ⌜ LineInRange r ⌝ }
 {
     let offset = t.offset;
-    if 86400 <= write::offset_size(offset) {
+    if OFFSET_LIMIT <= write::offset_size(offset) {
         return Line::Refused(Refusal::Offset);
     }
     let moved = range::instant_of(t);
@@ -73,16 +85,16 @@ fn write_instant(months: &[u32], i: Instant, offset: i32, room: &mut [u8]) -> Wr
 {
     let c = local_clock(months, i);
     let month = c.date.month;
-    if month < 120000 {
+    if month < MONTH_OF_YEAR_0 {
         return Written::Refused(Refusal::Range);
     }
-    if room.len() < 25 {
+    if room.len() < LINE_LENGTH {
         return Written::Refused(Refusal::Room);
     }
     put_offset(offset, room);
     put_clock(c, room);
     put_date(c, room);
-    Written::Length(25)
+    Written::Length(LINE_LENGTH)
 }
 
 // The local clock of an instant in range.
@@ -94,10 +106,10 @@ fn local_clock(months: &[u32], i: Instant) -> Clock
     ensures days { λ r. ⌜ r .date .day < 31 ⌝ }
     ensures seconds { λ r. ⌜ r .second < 86400 ⌝ }
 {
-    let local = i.seconds + i.offset - 93600;
+    let local = i.seconds + i.offset - range::OFFSET_ZERO;
     Clock {
-        date: calendar::date_of(months, local / 86400),
-        second: local % 86400,
+        date: calendar::date_of(months, local / SECONDS_PER_DAY),
+        second: local % SECONDS_PER_DAY,
     }
 }
 
@@ -137,7 +149,7 @@ fn put_date(c: Clock, room: &mut [u8])
     ensures { λ _. ⌜ now (room .exit) ≡ dateBefore c (drop 10 (now (room .entry))) ⌝ }
 {
     let month = c.date.month;
-    let year = month / 12 - 10000;
+    let year = month / 12 - YEAR_0;
     put_field(b'-', c.date.day + 1, 10, room);
     put_field(b'-', month % 12 + 1, 7, room);
     decimal::put_two(year % 100, 4, room);

@@ -17,6 +17,10 @@ ghost use Rattle.time.specs.Header.{sizeOf, headerBytes, headerWritten, 
 ghost use Rattle.time.specs.Iso.{isoBytes, isoWritten};
 use text::decimal;
 
+// 100 hours. The header writer refuses an offset of this size or more.
+const OFFSET_LIMIT: u64 = 360000;
+
+// Seconds since 1970, and an offset from UTC in seconds.
 pub struct Time {
     pub seconds: i64,
     pub offset: i32,
@@ -76,7 +80,7 @@ impl Time {
     {
         let seconds = self.seconds;
         let wide = write::offset_size(self.offset);
-        if 360000 <= wide {
+        if OFFSET_LIMIT <= wide {
             return Written::Refused(Refusal::Offset);
         }
         let n = self.size();

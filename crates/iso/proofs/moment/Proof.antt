@@ -1,15 +1,15 @@
--- `iso::moment` meets its contract: the instant is far within 64 bits, and the two tests are the range.
+-- `iso::moment` meets its contract: the instant is far within 64 bits.
 -- Assumes nothing.
-use mathlib.Core.Path.{_∙_}
+use mathlib.Core.Path.{_≡_, sym, ap, _∙_}
 use Prim.Native.Nat.{_+_, _*_, _≤_, _<_}
 use native.Mathlib.Omega.{arith}
 use lib.IntN.{pos, negsuc, _-ℤ_}
 use mir.Syntax.{w32, w64}
 use mir.Val.{toZ, ofZ}
-use Rattle.ints.proofs.Machine.{At, cast, lit, known, sub, fits, read, lt-yes, lt-no, isIn-of-lt, isIn-of-gt}
+use Rattle.ints.proofs.Machine.{At, cast, lit, known, sub, fits, read}
 use Rattle.calendar.proofs.Dates.{lt-of-Below}
 use Rattle.time.specs.Answers.{timeAt}
-use Rattle.time.specs.Range.{leastSeconds, mostSeconds, since1970}
+use Rattle.time.specs.Range.{secondsInRange, since1970}
 use Rattle.time.specs.declared.Answer.the-variants.{Time}
 use Rattle.iso.proofs.Instants.{momentOf-no-day, momentOf-out, momentOf-in}
 use borrow.Author.Needs.{needs}
@@ -32,6 +32,10 @@ z-at c =
     let at-start = c .before .before .before in
     sub (read w64 tt (since-at c)) (known w64 tt (at-start .pre .1 .1))
 
+-- the answer about the range
+tested : (c : tie.After-seconds-in-range) → c .seconds-in-range .result ≡ secondsInRange (since1970 (c .before .before .d .given .0 .0 * 86400 + c .before .before .before .before .args .second) -ℤ c .before .before .before .before .args .offset)
+tested c = c .seconds-in-range .ensures ∙ ap secondsInRange (read w64 tt (z-at (c .before)) .is)
+
 -- the date does not exist
 returns : tie.Need-returns
 returns c = momentOf-no-day _ _ (c .enum-told .given .1)
@@ -51,31 +55,24 @@ sub-z c = fits w64 tt (since-at c)
 sub-z-2 : tie.Need-sub-z-2
 sub-z-2 c = fits w64 tt (z-at c)
 
--- before the range
-returns-2 : tie.Need-returns-2
-returns-2 c = momentOf-out _ _ (c .before .before .d .given .1) (isIn-of-lt leastSeconds mostSeconds (lt-yes (read w64 tt (z-at (c .before))) (lit leastSeconds) (c .if1 .taken)))
-
--- after it
-returns-3 : tie.Need-returns-3
-returns-3 c =
-    let at-d = c .before .before .before in
-    let z = read w64 tt (z-at (c .before .before)) in
-    momentOf-out _ _ (at-d .d .given .1) (isIn-of-gt leastSeconds mostSeconds (lt-no z (lit leastSeconds) (c .before .if1 .left)) (lt-yes (lit mostSeconds) z (c .if2 .taken)))
-
 cast-new : tie.Need-cast-new
 cast-new c =
     let at-start = c .before .before .before .before .before in
     fits w32 tt (known w64 tt (at-start .pre .1 .1))
 
--- in it
-returns-4 : tie.Need-returns-4
-returns-4 c =
-    let at-if1 = c .before .before in
-    let at-d = at-if1 .before .before in
+-- in range
+returns-2 : tie.Need-returns-2
+returns-2 c =
+    let at-test = c .before .before in
+    let at-d = at-test .before .before in
     let at-start = at-d .before .before in
-    let z = read w64 tt (z-at (at-if1 .before)) in
+    let z = read w64 tt (z-at (at-test .before)) in
     let o = read w32 tt (known w64 tt (at-start .pre .1 .1)) in
-    (λ i. Time (c .new .ensures i)) ∙ (λ i. Time (timeAt (z .is i) (o .is i))) ∙ momentOf-in _ _ (at-d .d .given .1) (record { low = lt-no z (lit leastSeconds) (at-if1 .if1 .left); high = lt-no (lit mostSeconds) z (c .before .if2 .left) })
+    (λ i. Time (c .new .ensures i)) ∙ (λ i. Time (timeAt (z .is i) (o .is i))) ∙ momentOf-in _ _ (at-d .d .given .1) (sym (tested at-test) ∙ c .before .if1 .taken)
+
+-- out of it
+returns-3 : tie.Need-returns-3
+returns-3 c = momentOf-out _ _ (c .before .before .before .d .given .1) (sym (tested (c .before)) ∙ c .if1 .left)
 
 pub moment-spec : {M : Type 1} → statement M
 moment-spec =
@@ -89,8 +86,8 @@ moment-spec =
     cast-z
     sub-z
     sub-z-2
-    returns-2
-    returns-3
+    (λ c κs. search needs)
     cast-new
     (λ c κs. search needs)
-    returns-4)
+    returns-2
+    returns-3)

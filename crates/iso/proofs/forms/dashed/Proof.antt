@@ -1,7 +1,7 @@
 -- `iso::forms::dashed` meets its contract.
 -- Assumes nothing.
 use Rattle.text.proofs.Lists.{take-length-sub-drop}
-use Rattle.iso.proofs.Said.{dotted-yes}
+use Rattle.iso.proofs.FormFields.{dotted-yes}
 use borrow.Author.Needs.{needs}
 use Rattle.iso.proofs.forms.dashed.Statement.{statement}
 use Rattle.iso.proofs.forms.dashed.Tie as tie

@@ -1,7 +1,7 @@
 -- `iso::forms::parse` meets its contract.
 -- Assumes nothing.
 use mathlib.Core.Path.{sym, _∙_}
-use Rattle.iso.proofs.Said.{formOf-dotted, formOf-compact, formOf-flexible, FieldsIn-of-Are}
+use Rattle.iso.proofs.FormFields.{formOf-dotted, formOf-compact, formOf-flexible, FieldsIn-of-Are}
 use borrow.Author.Needs.{needs}
 use Rattle.iso.proofs.forms.parse.Statement.{statement}
 use Rattle.iso.proofs.forms.parse.Tie as tie

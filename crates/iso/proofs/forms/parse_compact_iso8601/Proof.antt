@@ -5,7 +5,7 @@ use Prim.Native.Nat.{_≤_}
 use native.Mathlib.Omega.{arith}
 use lib.ListN.{length}
 use lib.Seq.{length-take-le}
-use Rattle.iso.proofs.Said.{compact-short, compact-no, compact-yes}
+use Rattle.iso.proofs.FormFields.{compact-short, compact-no, compact-yes}
 use borrow.Author.Needs.{needs}
 use Rattle.iso.proofs.forms.parse_compact_iso8601.Statement.{statement}
 use Rattle.iso.proofs.forms.parse_compact_iso8601.Tie as tie

@@ -2,7 +2,7 @@
 -- Assumes nothing.
 use mathlib.Core.Path.{sym}
 use lib.Seq.{length-take-le}
-use Rattle.iso.proofs.Said.{dotted-short, dotted-no, dotted-four, dotted-seven, isDotted-yes}
+use Rattle.iso.proofs.FormFields.{dotted-short, dotted-no, dotted-four, dotted-seven, isDotted-yes}
 use borrow.Author.Needs.{needs}
 use Rattle.iso.proofs.forms.parse_iso8601_dots.Statement.{statement}
 use Rattle.iso.proofs.forms.parse_iso8601_dots.Tie as tie

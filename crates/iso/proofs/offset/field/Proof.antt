@@ -4,10 +4,10 @@ use mathlib.Core.Path.{sym, ap, _∙_}
 use lib.IntN.{pos, negsuc}
 use mir.Syntax.{w64}
 use Rattle.ints.specs.Range.{In}
-use Rattle.ints.proofs.Machine.{known, param, le-yes, le-no}
+use Rattle.ints.proofs.Machine.{In-of-At, known, param, le-yes, le-no}
 use Rattle.text.specs.declared.number.Integer.the-variants.{Is}
 use Rattle.iso.specs.Parts.{int32}
-use Rattle.iso.proofs.Offsets.{int32-two-within, In-of-At, In-of-Within, upTo-not, upTo-value, upTo-over}
+use Rattle.iso.proofs.Offsets.{int32-two-within, In-of-Within, upTo-not, upTo-value, upTo-over}
 use borrow.Author.Needs.{needs}
 use Rattle.iso.proofs.offset.field.Statement.{statement}
 use Rattle.iso.proofs.offset.field.Tie as tie

@@ -3,7 +3,7 @@
 use mathlib.Core.Path.{ap, _∙_}
 use lib.IntN.{pos, negsuc}
 use Rattle.ints.specs.Range.{In}
-use Rattle.iso.specs.Offset.{turned}
+use Rattle.iso.specs.Offset.{negated}
 use Rattle.iso.proofs.Offsets.{offsetOf-nil, offsetOf-east, offsetOf-west, offsetOf-zed, offsetOf-zed-not, offsetOf-not}
 use borrow.Author.Needs.{needs}
 use Rattle.iso.proofs.offset.parse_flexible_offset.Statement.{statement}
@@ -24,7 +24,7 @@ returns-2 c = (c .hours-minutes .ensures .0 ∙ offsetOf-east _ (c .before .befo
 returns-3 : tie.Need-returns-3
 returns-3 c =
     let at-if3 = c .before .before .before in
-    (c .turned .ensures .0 ∙ ap turned (c .before .hours-minutes2 .ensures .0) ∙ offsetOf-west _ (at-if3 .if3 .taken), c .turned .ensures .1)
+    (c .negated .ensures .0 ∙ ap negated (c .before .hours-minutes2 .ensures .0) ∙ offsetOf-west _ (at-if3 .if3 .taken), c .negated .ensures .1)
 
 -- `Z` alone
 returns-4 : tie.Need-returns-4

@@ -4,9 +4,9 @@ use mathlib.Core.Path.{ap, _∙_}
 use lib.IntN.{pos, negsuc}
 use mir.Syntax.{w64}
 use mir.Val.{toZ, ofZ}
-use Rattle.ints.proofs.Machine.{At, known, times, add, read, fits}
+use Rattle.ints.proofs.Machine.{In-of-At, At, known, times, add, read, fits}
 use Rattle.text.specs.declared.number.Integer.the-variants.{Is}
-use Rattle.iso.proofs.Offsets.{In-of-At, In-of-Within, secondsOf-not-hours, secondsOf-not-minutes, secondsOf-value}
+use Rattle.iso.proofs.Offsets.{In-of-Within, secondsOf-not-hours, secondsOf-not-minutes, secondsOf-value}
 use borrow.Author.Needs.{needs}
 use Rattle.iso.proofs.offset.seconds.Statement.{statement}
 use Rattle.iso.proofs.offset.seconds.Tie as tie

@@ -21,7 +21,7 @@ use Rattle.iso.specs.Parts.{two, int32}
 use Rattle.iso.specs.Cut.{cut, timeText, offsetText}
 use Rattle.iso.specs.Clock.{timeOf}
 use Rattle.iso.specs.Offset.{offsetOf}
-use Rattle.iso.specs.Forms.{saidOf, fieldsOf, isSeparator, flexible, firstAt, compact, dashOf, dashes, isDotted, dotted, orElse, formOf}
+use Rattle.iso.specs.Forms.{allFields, fieldsOf, isSeparator, flexible, firstAt, compact, dashOf, dashes, isDotted, dotted, orElse, formOf}
 use Rattle.iso.specs.Held.{FieldsIn}
 use Rattle.iso.specs.declared.forms.Local.{Local}
 use Rattle.iso.specs.declared.forms.Fields.{Fields}
@@ -30,50 +30,50 @@ use Rattle.text.proofs.FirstPlaces.{getD-firstPlace, firstPlace-is, firstPlace-
 
 -- ---- all five, or none
 module _ (y m d : Integer) (t : Number) (o : Integer) where
-  pub saidOf-not-year : y ≡ NotOne → Missing ≡ saidOf y m d t o
-  unfolding saidOf
-  saidOf-not-year a = rw a
+  pub allFields-not-year : y ≡ NotOne → Missing ≡ allFields y m d t o
+  unfolding allFields
+  allFields-not-year a = rw a
 
   module _ {y′ : ℤ} (a : y ≡ Is y′) where
-    pub saidOf-not-month : m ≡ NotOne → Missing ≡ saidOf y m d t o
-    unfolding saidOf
-    saidOf-not-month b = rw (a, b)
+    pub allFields-not-month : m ≡ NotOne → Missing ≡ allFields y m d t o
+    unfolding allFields
+    allFields-not-month b = rw (a, b)
 
     module _ {m′ : ℤ} (b : m ≡ Is m′) where
-      pub saidOf-not-day : d ≡ NotOne → Missing ≡ saidOf y m d t o
-      unfolding saidOf
-      saidOf-not-day e = rw (a, b, e)
+      pub allFields-not-day : d ≡ NotOne → Missing ≡ allFields y m d t o
+      unfolding allFields
+      allFields-not-day e = rw (a, b, e)
 
       module _ {d′ : ℤ} (e : d ≡ Is d′) where
-        pub saidOf-not-time : t ≡ Not → Missing ≡ saidOf y m d t o
-        unfolding saidOf
-        saidOf-not-time f = rw (a, b, e, f)
+        pub allFields-not-time : t ≡ Not → Missing ≡ allFields y m d t o
+        unfolding allFields
+        allFields-not-time f = rw (a, b, e, f)
 
         module _ {t′ : ℕ} (f : t ≡ Value t′) where
-          pub saidOf-not-offset : o ≡ NotOne → Missing ≡ saidOf y m d t o
-          unfolding saidOf
-          saidOf-not-offset g = rw (a, b, e, f, g)
+          pub allFields-not-offset : o ≡ NotOne → Missing ≡ allFields y m d t o
+          unfolding allFields
+          allFields-not-offset g = rw (a, b, e, f, g)
 
-          pub saidOf-value : {o′ : ℤ} → o ≡ Is o′ → Are (record { year = y′; month = m′; day = d′; second = t′; offset = o′ }) ≡ saidOf y m d t o
-          unfolding saidOf
-          saidOf-value g = rw (a, b, e, f, g)
+          pub allFields-value : {o′ : ℤ} → o ≡ Is o′ → Are (record { year = y′; month = m′; day = d′; second = t′; offset = o′ }) ≡ allFields y m d t o
+          unfolding allFields
+          allFields-value g = rw (a, b, e, f, g)
 
 -- a field that is no number leaves none
-pub saidOf-of-month : (y d : Integer) (t : Number) (o : Integer) → saidOf y NotOne d t o ≡ Missing
-unfolding saidOf
-saidOf-of-month (Is y) d t o = refl
-saidOf-of-month NotOne d t o = refl
+pub allFields-of-month : (y d : Integer) (t : Number) (o : Integer) → allFields y NotOne d t o ≡ Missing
+unfolding allFields
+allFields-of-month (Is y) d t o = refl
+allFields-of-month NotOne d t o = refl
 
-pub saidOf-of-day : (y m : Integer) (t : Number) (o : Integer) → saidOf y m NotOne t o ≡ Missing
-unfolding saidOf
-saidOf-of-day (Is y) (Is m) t o = refl
-saidOf-of-day (Is y) NotOne t o = refl
-saidOf-of-day NotOne m t o = refl
+pub allFields-of-day : (y m : Integer) (t : Number) (o : Integer) → allFields y m NotOne t o ≡ Missing
+unfolding allFields
+allFields-of-day (Is y) (Is m) t o = refl
+allFields-of-day (Is y) NotOne t o = refl
+allFields-of-day NotOne m t o = refl
 
 -- ---- the fields of a text: r is what follows the date, trimmed, i its cut, b what stands before the dot
 module _ (y m d s : List ℕ) (r : List ℕ) (i : ℕ) (b t o : List ℕ) (x : Number) (z y′ m′ d′ : Integer) where
   pub fieldsOf-parts : r ≡ trim s → i ≡ cut r → b ≡ before 46 (take i r) → t ≡ trim b → x ≡ timeOf t → o ≡ trim (take (length r - i) (drop i r)) → z ≡ offsetOf o
-      → y′ ≡ fitSigned (2 ^ 31) (signedOf y) → m′ ≡ fitSigned (2 ^ 31) (signedOf m) → d′ ≡ fitSigned (2 ^ 31) (signedOf d) → saidOf y′ m′ d′ x z ≡ fieldsOf y m d s
+      → y′ ≡ fitSigned (2 ^ 31) (signedOf y) → m′ ≡ fitSigned (2 ^ 31) (signedOf m) → d′ ≡ fitSigned (2 ^ 31) (signedOf d) → allFields y′ m′ d′ x z ≡ fieldsOf y m d s
   unfolding fieldsOf timeText offsetText int32
   fieldsOf-parts er ei eb et ex eo ez ey em ed = rw (ey, em, ed, ez, eo, take-length-sub-drop r i, ex, et, eb, ei, er)
 
