@@ -5,6 +5,7 @@ ghost use Rattle.header.specs.Raw.{rule1};
 ghost use Rattle.dates.specs.Any.{settles as settlesOf, isSettled, numbered as numberedOf, markedOf, plainOf, anyOf};
 use text::number;
 use text::number::Integer;
+use text::number::Width;
 use time::Answer;
 use time::Now;
 use time::Refusal;
@@ -55,7 +56,7 @@ fn parse_plain(s: &[u8]) -> Answer
     if s[0] == b'@' {
         return parse_marked(&s[1..]);
     }
-    numbered(LEAST_PLAIN, number::signed_number(s, number::HALF_64))
+    numbered(LEAST_PLAIN, number::signed_number(s, Width::Bits64))
 }
 
 // Reads what follows `@`: as a raw date, or else as any number of 64 signed bits.
@@ -66,7 +67,7 @@ fn parse_marked(s: &[u8]) -> Answer
     if is_settled(raw) {
         return raw;
     }
-    numbered(LEAST_64, number::signed_number(s, number::HALF_64))
+    numbered(LEAST_64, number::signed_number(s, Width::Bits64))
 }
 
 // A number of at least `least`, as seconds at offset 0. Any other number is refused by 2.
