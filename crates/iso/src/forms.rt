@@ -14,6 +14,7 @@ use crate::parts;
 use text::number;
 use text::number::Integer;
 use text::number::Number;
+use text::number::Width;
 use text::places;
 use text::trim;
 
@@ -137,9 +138,9 @@ fn read_fields(y: &[u8], m: &[u8], d: &[u8], s: &[u8]) -> Fields
     let i = cut::split_time_and_offset(r);
     let t = clock::parse_time_component(trim::trimmed(places::before(&r[..i], b'.')));
     let o = offset::parse_flexible_offset(trim::trimmed(&r[i..]));
-    let year = number::signed_number(y, number::HALF_32);
-    let month = number::signed_number(m, number::HALF_32);
-    let day = number::signed_number(d, number::HALF_32);
+    let year = number::signed_number(y, Width::Bits32);
+    let month = number::signed_number(m, Width::Bits32);
+    let day = number::signed_number(d, Width::Bits32);
     all_fields(year, month, day, t, o)
 }
 

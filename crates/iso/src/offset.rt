@@ -7,6 +7,7 @@ ghost use Rattle.iso.specs.Offset.{upTo, secondsOf, hoursMinutes, negate
 ghost use Rattle.iso.specs.Held.{Within};
 use text::number;
 use text::number::Integer;
+use text::number::Width;
 
 // The offset in a trimmed text: nothing, `Z`, or a sign and `HH` or `HHMM`, with colons anywhere behind it.
 pub fn parse_flexible_offset(o: &[u8]) -> Integer
@@ -66,7 +67,7 @@ fn field(x: u8, y: u8, limit: i64) -> Integer
     ensures range { λ r. ⌜ Within 99 r ⌝ }
 {
     let f = [x, y];
-    let Integer::Is(z) = number::signed_number(&f, number::HALF_32) else {
+    let Integer::Is(z) = number::signed_number(&f, Width::Bits32) else {
         return Integer::NotOne;
     };
     if z <= limit {
