@@ -4,17 +4,19 @@
 // line that has no end yet, at most 4,097 bytes of it, and what was read behind it. No contract can say what is read or written;
 // `lines::cut` says which answers a buffer gives and what of it is kept, and `output-of-reads` in that crate's `proofs/Run.antt` says
 // that the answers come out the same however the input is cut into reads.
+mod arguments;
 mod help;
+mod streams;
 
 ghost use Prim.Native.Nat.{_≤_};
 ghost use lib.ListN.{length};
 ghost use Rattle.calendar.specs.Table.{IsMonths};
 use libc::STDIN_FILENO;
-use libc::STDOUT_FILENO;
+use text::places;
 
 fn main() {
     if os::arg_count() > 1 {
-        help::answer_arguments();
+        arguments::answer_first();
         return;
     }
     let months = calendar::months();
@@ -53,15 +55,21 @@ fn read_and_answer(months: &[u32], buffer: &mut [u8], held: usize, out: &mut [u8
     ensures { λ r. ⌜ r .held ≤ 4097 ⌝ }
 {
     let got = libc::read(STDIN_FILENO, &mut buffer[held..]);
-    if got < 0 {
+    if streams::has_failed(got) {
         os::fail(b"whenread: standard input");
         return Turn {
             held: 0,
             is_last: true,
         };
     }
+    if got < 0 {
+        return Turn {
+            held,
+            is_last: false,
+        };
+    }
     if got == 0 {
-        answer_last(months, &buffer[..held], out);
+        answer_last(months, places::up_to(buffer, held), out);
         return Turn {
             held: 0,
             is_last: true,
@@ -79,7 +87,7 @@ fn answer_last(months: &[u32], line: &[u8], out: &mut [u8])
         return;
     }
     let n = lines::answer_with(months, line, out);
-    write_answers(out, n);
+    streams::write_out(places::up_to(out, n));
 }
 
 // Answers the lines of the first `end` bytes, a room full of answers at a time, and keeps what is left.
@@ -98,7 +106,8 @@ fn answer_held(months: &[u32], buffer: &mut [u8], end: usize, out: &mut [u8]) ->
                 is_last: false,
             };
         }
-        if write_answers(out, step.written) {
+        let answers = places::up_to(out, step.written);
+        if streams::write_out(answers) {
             from += taken;
         } else {
             return Turn {
@@ -111,16 +120,4 @@ fn answer_held(months: &[u32], buffer: &mut [u8], end: usize, out: &mut [u8]) ->
         held: 0,
         is_last: false,
     }
-}
-
-// Writes the first n bytes of `out`, and says why where that fails.
-fn write_answers(out: &[u8], n: usize) -> bool {
-    if out.len() < n {
-        return false;
-    }
-    if io::write_all(STDOUT_FILENO, &out[..n]) {
-        return true;
-    }
-    os::fail(b"whenread: standard output");
-    false
 }

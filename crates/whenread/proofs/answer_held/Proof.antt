@@ -24,20 +24,33 @@ within c =
     omega (arith, c .answer-lines-with .ensures .1 .1 .0, at-loop .loop .inv .0, length-take (end - at-loop .loop .from) (drop (at-loop .loop .from) (at-loop .loop .buffer)))
 
 same-length : tie.Need-same-length Inv-loop μ-loop
-same-length c = let e = c .before .before .before .before .before .before .before .before .before .before .before .before .loop .inv .1 in search needs
+same-length c = let at-call = c .before .before .before .before .before .before .before in
+    let e = at-call .before .before .before .before .before .loop .inv .1 in search needs
 
 same-length-2 : tie.Need-same-length-2 Inv-loop μ-loop
-same-length-2 c = let e = c .before .before .before .before .before .before .before .before .before .before .before .before .loop .inv .2 in search needs
+same-length-2 c = let at-call = c .before .before .before .before .before .before .before in
+    let e = at-call .before .before .before .before .before .loop .inv .2 in search needs
 
 add-from : tie.Need-add-from Inv-loop μ-loop
-add-from c = record { fits = omega (arith, within (c .before .before .before .before .before .before), c .before .before .before .before .before .before .before .before .before .before .before .before .before .before .before .fits .end) }
+add-from c = let at-call = c .before .before .before .before .before .before .before in
+    let start = at-call .before .before .before .before .before .before .before .before .before in
+    record { fits = omega (arith, within at-call, start .fits .end) }
+
+loop-less : tie.Need-loop-less Inv-loop μ-loop
+loop-less c = let at-if = c .before .before .before .before in
+    omega (arith, within (at-if .before .before .before), at-if .if1 .left)
 
 loop-again : tie.Need-loop-again Inv-loop μ-loop
-loop-again c = let inv = c .before .before .before .before .before .before .before .before .before .before .before .loop .inv in
-    (within (c .before .before .before .before .before .before), inv .1, search needs)
+loop-again c = let at-call = c .before .before .before .before .before .before .before in
+    let inv = at-call .before .before .before .before .before .loop .inv in
+    (within at-call, inv .1, search needs)
+
+same-length-3 : tie.Need-same-length-3 Inv-loop μ-loop
+same-length-3 c = let at-call = c .before .before .before .before .before .before .before in at-call .before .before .before .before .before .loop .inv .1
 
 same-length-4 : tie.Need-same-length-4 Inv-loop μ-loop
-same-length-4 c = let e = c .before .before .before .before .before .before .before .before .before .before .before .loop .inv .2 in search needs
+same-length-4 c = let at-call = c .before .before .before .before .before .before .before in
+    let e = at-call .before .before .before .before .before .loop .inv .2 in search needs
 
 pub answer-held-spec : {M : Type 1} → statement M
 answer-held-spec =
@@ -54,11 +67,12 @@ answer-held-spec =
     same-length
     same-length-2
     (λ c. c .before .before .keep .ensures .1 .1 .0)
-    (λ c κs. tt)
+    (λ c κs. search needs)
+    (λ c κs. search needs)
     add-from
-    (λ c. omega (arith, within (c .before .before .before .before .before .before), c .before .before .before .if1 .left))
+    loop-less
     loop-again
-    (λ c. c .before .before .before .before .before .before .before .before .before .before .before .loop .inv .1)
+    same-length-3
     same-length-4
     (λ c. omega arith)
     (λ c. c .before .loop .inv .1)
