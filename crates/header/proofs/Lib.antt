@@ -1,6 +1,6 @@
 -- Laws. In order: an offset's word; an offset's word of unsigned fields; the first word's number; one pass over a text; what the
--- readers answer by it; the usual tail; what they answer to it and to a number alone; where a header is written; what is written
--- is read back; the offsets that a header can give; where the raw and the header reader answer alike; the worked examples.
+-- readers answer by it; the usual tail; what they answer to it and to a number alone; what is written is read
+-- back; the offsets that a header can give; where the raw and the header reader answer alike; the worked examples.
 pub mod Offsets
 pub mod Unsigned
 pub mod FirstWord
@@ -8,7 +8,6 @@ pub mod Pass
 pub mod Readers
 pub mod Usual
 pub mod Shortcuts
-pub mod Written
 pub mod ReadBack
 pub mod Reach
 pub mod Alike

@@ -8,7 +8,8 @@ use mathlib.Core.Bool.{Bool, true, false, cond}
 use mathlib.Core.List.{List, [], _∷_}
 use Prim.Native.Nat.{ℕ, suc, _+_, _*_, _/_, _%_, _≤_, _<_}
 use native.Mathlib.Omega.{arith}
-use lib.Dec.{eqb}
+use borrow.Author.Tests.{leb-false}
+use lib.Dec.{eqb, leb}
 use lib.IntN.{ℤ, pos, negsuc, negℤ, natAbs}
 use lib.ListN.{length, take}
 use Rattle.text.specs.Bytes.{isSpace, isSign}
@@ -16,6 +17,7 @@ use Rattle.text.specs.Words.{words}
 use Rattle.text.specs.Decimal.{signed, signedBefore, twoBefore}
 use Rattle.text.specs.declared.number.Integer.the-variants.{Is}
 use Rattle.text.specs.Room.{roomAfter}
+use Rattle.text.proofs.Lists.{by-test}
 use Rattle.text.proofs.Numbers.{isDigit-of-le}
 use Rattle.text.proofs.Decimals.{Between, twoBefore-between}
 use Rattle.text.proofs.Signed.{signedBefore-append, length-signed-pos, signedBefore-between, signed-between, fitSigned-signed}
@@ -25,13 +27,13 @@ use Rattle.time.specs.Header.{headerBytes, headerSign, headerWritten, offsetByt
 use Rattle.time.specs.declared.Time.{Time}
 use Rattle.time.specs.declared.Written.the-variants.{Length}
 use Rattle.time.specs.declared.Answer.the-variants.{Time as At}
+use Rattle.time.proofs.Theorems.{header-in-room}
 use Rattle.header.specs.Offset.{fiveOrSeven, fieldOf, lastField, fieldsOf, offsetOf}
 use Rattle.header.specs.Header.{headerOf, headerOfWords, headerTime, secondsOf, headerOffset}
 use Rattle.header.specs.Theorems.{Seconds64}
 use Rattle.header.specs.declared.offset.Fields.{Fields}
 use Rattle.header.specs.declared.offset.Parsed.the-variants.{Offset}
 use Rattle.text.proofs.Texts.{ascii-of-between, no-colon-of-between, whole-of-between, Between-le, signedOf-two}
-use Rattle.header.proofs.Written.{offset-lt-of-written, take-roomAfter}
 
 -- ---- the seconds' word
 secondsOf-signed : (z : ℤ) → Seconds64 z → secondsOf (signed z) ≡ Is z
@@ -109,7 +111,14 @@ unfolding headerBytes headerSign
 header-read-back t r h =
     headerOf-signedBefore (t .seconds) (written (t .offset)) r (omega arith) (written-between (t .offset) h) ∙ read-written (t .seconds) (t .offset) h
 
+-- a header is written only at an offset under 100 hours
+offset-lt-of-written : (t : Time) (room : List ℕ) (n : ℕ) → headerWritten t room ≡ Length n → natAbs (t .offset) < 360000
+unfolding headerWritten
+offset-lt-of-written t room n e =
+    by-test (leb 360000 (natAbs (t .offset))) (λ y. let k = rw y at e in let q : _≡_ {A = ℕ} 0 1 = cc in absurd (omega arith))
+    (λ y. omega (arith, leb-false 360000 (natAbs (t .offset)) y))
+
 -- and so does what a call that wrote n bytes has left in the first n bytes of the room
 pub header-read-back-in-room : (t : Time) (room : List ℕ) (n : ℕ) → Seconds64 (t .seconds) → headerWritten t room ≡ Length n
     → headerOf (take n (roomAfter (isWritten (headerWritten t room)) (headerBytes t) room)) ≡ At (timeAt (t .seconds) (cutToMinutes (t .offset)))
-header-read-back-in-room t room n r e = rw (take-roomAfter t room n e) (header-read-back t r (offset-lt-of-written t room n e))
+header-read-back-in-room t room n r e = rw (header-in-room t room n e) (header-read-back t r (offset-lt-of-written t room n e))
