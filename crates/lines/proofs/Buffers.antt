@@ -12,7 +12,7 @@ use Rattle.text.specs.Places.{firstPlace}
 use Rattle.text.specs.Room.{fits, roomAfter}
 use Rattle.text.proofs.Lists.{by-test}
 use Rattle.text.proofs.Lines.{endedLines-none, endedLines-at}
-use Rattle.lines.specs.Rows.{writtenIn}
+use Rattle.lines.specs.Rows.{writtenIn, answerRoom}
 use Rattle.lines.specs.Answers.{rowOf, answerLine}
 use Rattle.lines.specs.Lines.{fitting, answersOf, answered, stepOf, roomAfterStep}
 use Rattle.lines.proofs.Printing.{length-rowBytes}
@@ -94,7 +94,7 @@ going-again {s} {room} {now} {t} {w} g rest line now′ e n pr pe h pl pn some p
 abbrev Stopped : List ℕ → List ℕ → List ℕ → ℕ → ℕ → Type 0
 Stopped s room now t w =
     (record { taken = t; written = w } ≡ stepOf s (length room))
-    × ((now ≡ roomAfterStep s room) × ((t ≤ length s) × (w ≤ length room) × (64 ≤ length room → t ≡ 0 → endedLines s ≡ [])))
+    × ((now ≡ roomAfterStep s room) × ((t ≤ length s) × (w ≤ length room) × (answerRoom ≤ length room → t ≡ 0 → endedLines s ≡ [])))
 
 -- no line has its end any more
 pub stop-no-line : {s room now : List ℕ} {t w : ℕ} → Going s room now t w → (rest : List ℕ) (e : ℕ) → rest ≡ drop t s → e ≡ firstPlace newline rest → length rest ≤ e
@@ -112,7 +112,7 @@ answerLine-some s = omega (arith, length-rowBytes (rowOf s))
 -- the next answer does not fit
 pub stop-full : {s room now : List ℕ} {t w : ℕ} → Going s room now t w → (rest line now′ : List ℕ) (e n : ℕ)
     → rest ≡ drop t s → e ≡ firstPlace newline rest → e < length rest → line ≡ take e rest
-    → n ≡ writtenIn (answerLine line) (drop w now) → n ≡ 0 → (64 ≤ length (drop w now) → 0 < n) → now′ ≡ take w now ++ roomAfter (fits (answerLine line) (drop w now)) (answerLine line) (drop w now)
+    → n ≡ writtenIn (answerLine line) (drop w now) → n ≡ 0 → (answerRoom ≤ length (drop w now) → 0 < n) → now′ ≡ take w now ++ roomAfter (fits (answerLine line) (drop w now)) (answerLine line) (drop w now)
     → Stopped s room now′ t w
 stop-full {s} {room} {now} {t} {w} g rest line now′ e n pr pe h pl pn z some pm =
     let a = answerLine line in

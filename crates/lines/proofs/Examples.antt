@@ -1,5 +1,5 @@
--- Document 01's words on `whenread`, computed: the words are above the rows that show them. In order: what lines ask; a text
--- that keeps its tabs; answer lines. What lines an input has is shown in `text`.
+-- Examples of RULES 10, computed: each is under the words that it shows. In order: what lines ask for; a text that keeps its tabs; answer
+-- lines. Which lines an input has is shown in `text`.
 -- Assumes nothing.
 use Prim.Native.Nat.{ℕ}
 use Prim.Native.String.{String}
@@ -24,7 +24,7 @@ use Rattle.lines.specs.declared.layout.Line.the-variants.{Asks, Wrong}
 abbrev line : String → String → String → String → List ℕ
 line form seconds offset text = bytes form ++ tab ∷ bytes seconds ++ tab ∷ bytes offset ++ tab ∷ bytes text
 
--- a line, and what it asks
+-- a line, and what it asks for
 data Example : Type 0 where
   reads : List ℕ → Line → Example
 
@@ -34,25 +34,25 @@ AllRight (reads s x ∷ es) = (lineOf s ≡ x) × AllRight es
 
 abbrev layouts : List Example
 layouts =
-    -- the document's lines: `header`, `relative` and `any`, the last at place 8
+    -- the lines of RULES 11.11: `header`, `relative` and `any`; the text of the last begins at place 8
     reads (line "header" "-" "-" "1745582210 +0200") (Asks Header Missing 11)
     ∷ reads (line "relative" "1698400800" "0" "2 minutes ago") (Asks Relative (At (timeAt (pos 1698400800) (pos 0))) 22)
     ∷ reads (line "any" "-" "-" "now") (Asks Any Missing 8)
-    -- "signed numbers", as defined, take `+` and leading zeros
+    -- RULES 10.3, "signed numbers": a `+` and leading zeros are allowed (RULES 4.2, 4.4)
     ∷ reads (line "any" "+0" "007" "now") (Asks Any (At (timeAt (pos 0) (pos 7))) 11)
-    -- the least of both widths
+    -- the least number of each width
     ∷ reads (line "iso" "-9223372036854775808" "-2147483648" "") (Asks Iso (At (timeAt (negsuc 9223372036854775807) (negsuc 2147483647))) 37)
-    -- no 64-bit number, no 32-bit number
+    -- not a 64-bit number; not a 32-bit number
     ∷ reads (line "header" "9999999999999999999" "0" "5") Wrong
     ∷ reads (line "header" "0" "2147483648" "5") Wrong
-    -- "or both `-`", also for a form that uses no current time
+    -- RULES 10.3, "or both fields are `-`": also for a form that uses no current time
     ∷ reads (line "header" "-" "0" "5") Wrong
-    -- four fields are there, the last is empty; an empty line lacks them
+    -- the fourth field may be empty; an empty line has no fields
     ∷ reads (line "raw" "-" "-" "") (Asks Raw Missing 8)
     ∷ reads [] Wrong
-    -- a form is one of five, in small letters
+    -- the form is one of five names, in small letters
     ∷ reads (line "Header" "-" "-" "5") Wrong
-    -- a byte of 128 before the text: 9 is tested first
+    -- RULES 2.2, "`whenread` tests 9 first": a byte of 128 in the form is 9 and not 1
     ∷ reads (128 ∷ line "raw" "-" "-" "5") Wrong
     ∷ []
 
@@ -60,12 +60,12 @@ layout-examples : AllRight layouts
 unfolding lineOf formOf currentOf same has firstPlace run signedOf fitSigned unsignedOf digitsOf readFrom isDigit
 layout-examples = (refl, (refl, (refl, (refl, (refl, (refl, (refl, (refl, (refl, (refl, (refl, (refl, tt))))))))))))
 
--- "the text keeps further tabs"
+-- RULES 10.2, "the text keeps further tabs"
 further-tabs : textOf (line "raw" "-" "-" "5" ++ tab ∷ bytes "+0100") ≡ bytes "5" ++ tab ∷ bytes "+0100"
 unfolding firstPlace run
 further-tabs = refl
 
--- number, seconds, offset: the document's first answer, and the least numbers
+-- RULES 10.4 and 11.11: number, seconds, offset, of the first answer there and of the least numbers
 first-answer : rowBytes (record { number = 0; seconds = pos 1745582210; offset = pos 7200 }) ≡ bytes "0" ++ tab ∷ bytes "1745582210" ++ tab ∷ bytes "7200" ++ newline ∷ []
 unfolding rowBytes decimal digitsUpTo signed
 first-answer = refl

@@ -15,10 +15,10 @@ use Rattle.text.specs.Lines.{newline, linesOf, endedLines, takenBy}
 use Rattle.text.specs.Places.{firstPlace}
 use Rattle.text.proofs.Lines.{endedLines-none, endedLines-cut, endedLines-take, linesOf-cut, linesOf-open, headOf, tailOf}
 use Rattle.text.proofs.Lists.{by-test}
-use Rattle.lines.specs.Layout.{textOf}
+use Rattle.lines.specs.Layout.{maxLine, textOf}
 use Rattle.lines.specs.Rows.{rowBytes}
 use Rattle.lines.specs.Answers.{rowBy, rowOf, answerLine}
-use Rattle.lines.specs.Lines.{answersOf, outputOf, fitting, answered, kept}
+use Rattle.lines.specs.Lines.{answersOf, outputOf, fitting, answered, maxKept, kept}
 use Rattle.lines.specs.declared.layout.Line.{Line}
 use Rattle.lines.proofs.Layouts.{lineOf-of-length}
 use Rattle.lines.proofs.Buffers.{fitting-fits, fitting-full}
@@ -71,7 +71,7 @@ unfolding outputOf answersOf
 output-open s b z h = ap answersOf (linesOf-open s b z h)
 
 -- all lines that are too long have one answer
-answerLine-long : (s t : List ℕ) → 4096 < length s → 4096 < length t → answerLine s ≡ answerLine t
+answerLine-long : (s t : List ℕ) → maxLine < length s → maxLine < length t → answerLine s ≡ answerLine t
 unfolding answerLine rowOf
 answerLine-long s t h k =
     sym (ap (λ (l : Line). rowBytes (rowBy l (textOf s))) (lineOf-of-length s h)) ∙ ap (λ (l : Line). rowBytes (rowBy l (textOf t))) (lineOf-of-length t k)
@@ -81,14 +81,14 @@ pub output-kept : (s z : List ℕ) → endedLines s ≡ [] → outputOf (kept s 
 output-kept [] z h = refl
 output-kept (b ∷ s) z h =
     let rest = headOf (linesOf z) in
-    by-test (ltb 4096 (length s))
+    by-test (ltb maxLine (length s))
     (λ y.
-    let l : 4096 < length s = ltb-true 4096 (length s) y in
-    output-open (take 4096 s) b z (endedLines-take 4097 (b ∷ s) h)
+    let l : maxLine < length s = ltb-true maxLine (length s) y in
+    output-open (take maxLine s) b z (endedLines-take maxKept (b ∷ s) h)
     ∙ ap (λ (v : List ℕ). v ++ answersOf (tailOf (linesOf z)))
-    (answerLine-long (b ∷ take 4096 s ++ rest) (b ∷ s ++ rest) (omega (arith, length-append (take 4096 s) rest, length-take-le 4096 s (omega arith))) (omega (arith, length-append s rest)))
+    (answerLine-long (b ∷ take maxLine s ++ rest) (b ∷ s ++ rest) (omega (arith, length-append (take maxLine s) rest, length-take-le maxLine s (omega arith))) (omega (arith, length-append s rest)))
     ∙ sym (output-open s b z h))
-    (λ y. let l : length s ≤ 4096 = ltb-false 4096 (length s) y in ap (λ (v : List ℕ). outputOf (b ∷ v ++ z)) (take-all 4096 s l))
+    (λ y. let l : length s ≤ maxLine = ltb-false maxLine (length s) y in ap (λ (v : List ℕ). outputOf (b ∷ v ++ z)) (take-all maxLine s l))
 
 -- and at the end of the input it is the last line
 pub output-last : (s : List ℕ) → endedLines s ≡ [] → 0 < length s → outputOf s ≡ answerLine s

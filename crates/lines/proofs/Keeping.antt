@@ -9,12 +9,12 @@ use native.Mathlib.Numerals.{add-one}
 use lib.ListN.{length, take, drop, set, getD, length-take, length-drop, length-append}
 use lib.Seq.{length-take-le, set-at, take-suc, getD-append-add, getD-drop}
 use Rattle.text.proofs.Lists.{drop-cons-add-one, take-length-take-take}
-use Rattle.lines.specs.Lines.{heldPart, kept}
+use Rattle.lines.specs.Lines.{heldPart, maxKept, kept}
 
 pub record Moved (from end : ℕ) (was now : List ℕ) (n at : ℕ) : Type 0 where
   pub is : now ≡ take n (drop from was) ++ drop n was
   pub place : at ≡ from + n
-  pub most : n ≤ 4097
+  pub most : n ≤ maxKept
   pub ends : n ≤ end - from
   pub fits : n ≤ length was - from
 
@@ -25,7 +25,7 @@ pub length-moved : {from end n at : ℕ} {was now : List ℕ} → Moved from end
 length-moved {from} {end} {n} {at} {was} {now} m =
     omega (arith, ap length (m .is), length-append (take n (drop from was)) (drop n was), length-take n (drop from was), length-drop from was, length-drop n was, m .fits)
 
-pub moved-again : {from end n at : ℕ} {was now : List ℕ} → Moved from end was now n at → at < end → at < length now → n < 4097
+pub moved-again : {from end n at : ℕ} {was now : List ℕ} → Moved from end was now n at → at < end → at < length now → n < maxKept
     → Moved from end was (set now n (getD now at 0)) (n + 1) (at + 1)
 moved-again {from} {end} {n} {at} {was} {now} m a b c =
     let l = length-moved m in
@@ -49,21 +49,21 @@ moved-again {from} {end} {n} {at} {was} {now} m a b c =
 abbrev Kept : ℕ → List ℕ → List ℕ → ℕ → ℕ → Type 0
 Kept n now was from end =
     (n ≡ length (kept (heldPart was from end)))
-    × ((now ≡ kept (heldPart was from end) ++ drop n was) × ((n ≤ 4097) × (n ≤ length was)))
+    × ((now ≡ kept (heldPart was from end) ++ drop n was) × ((n ≤ maxKept) × (n ≤ length was)))
 
 kept-of-length : {from end n at : ℕ} {was now : List ℕ} → Moved from end was now n at → n ≡ length (kept (heldPart was from end)) → Kept n now was from end
 kept-of-length {from} {end} {n} {at} {was} {now} m e = (
   e,
   (
-    m .is ∙ ap (λ (t : List ℕ). t ++ drop n was) (ap (λ (v : ℕ). take v (drop from was)) e ∙ take-length-take-take 4097 (end - from) (drop from was)),
+    m .is ∙ ap (λ (t : List ℕ). t ++ drop n was) (ap (λ (v : ℕ). take v (drop from was)) e ∙ take-length-take-take maxKept (end - from) (drop from was)),
     (m .most, omega (arith, m .fits)),
   ),
 )
 
 module _ {from end n at : ℕ} {was now : List ℕ} (m : Moved from end was now n at) where
-  length-kept : length (kept (heldPart was from end)) ≡ min 4097 (min (end - from) (length was - from))
+  length-kept : length (kept (heldPart was from end)) ≡ min maxKept (min (end - from) (length was - from))
   length-kept =
-      length-take 4097 (heldPart was from end) ∙ ap (min 4097) (length-take (end - from) (drop from was) ∙ ap (min (end - from)) (length-drop from was))
+      length-take maxKept (heldPart was from end) ∙ ap (min maxKept) (length-take (end - from) (drop from was) ∙ ap (min (end - from)) (length-drop from was))
 
   pub kept-at-end : end ≤ at → Kept n now was from end
   kept-at-end h = kept-of-length m (omega (arith, length-kept, m .place, m .most, m .ends, m .fits))
@@ -71,5 +71,5 @@ module _ {from end n at : ℕ} {was now : List ℕ} (m : Moved from end was now 
   pub kept-at-length : length now ≤ at → Kept n now was from end
   kept-at-length h = kept-of-length m (omega (arith, length-kept, length-moved m, m .place, m .most, m .ends, m .fits))
 
-  pub kept-at-most : 4097 ≤ n → Kept n now was from end
+  pub kept-at-most : maxKept ≤ n → Kept n now was from end
   kept-at-most h = kept-of-length m (omega (arith, length-kept, m .place, m .most, m .ends, m .fits))

@@ -21,7 +21,7 @@ use Rattle.text.specs.Lines.{tab, field, rest}
 use Rattle.text.proofs.Lists.{by-test, both}
 use Rattle.text.proofs.Lines.{cut-rest}
 use Rattle.time.specs.declared.Now.{Now}
-use Rattle.lines.specs.Layout.{textOf, textPlace, asks, lineOf, formOf, currentOf}
+use Rattle.lines.specs.Layout.{maxLine, textOf, textPlace, asks, lineOf, formOf, currentOf}
 use Rattle.lines.specs.Held.{Fits32}
 use Rattle.lines.specs.declared.layout.Form.{Form}
 use Rattle.lines.specs.declared.layout.Named.{Named}
@@ -44,9 +44,9 @@ Fits32-of-fitSigned (Is z) r e =
 Fits32-of-fitSigned NotOne r e = rw e tt
 
 -- ---- a line by its length and its tabs
-pub lineOf-of-length : (s : List ℕ) → 4096 < length s → Wrong ≡ lineOf s
+pub lineOf-of-length : (s : List ℕ) → maxLine < length s → Wrong ≡ lineOf s
 unfolding lineOf
-lineOf-of-length s h = rw (lt-leb (length s) 4096 h)
+lineOf-of-length s h = rw (lt-leb (length s) maxLine h)
 
 pub lineOf-no-tab : (s : List ℕ) → length s ≤ firstPlace tab s → Wrong ≡ lineOf s
 unfolding lineOf has
@@ -69,7 +69,7 @@ module _ (s r : List ℕ) (a b : ℕ) (ea : a ≡ firstPlace tab s) (er : r ≡ 
     lineOf-two-tabs h =
         rw (le-ltb (firstPlace tab (rest (rest s))) (length (rest (rest s))) (omega (arith, ap length last-is, ap (firstPlace tab) last-is)), and-false, and-false, and-false)
 
-    pub lineOf-three-tabs : (f g h : List ℕ) (n : Named) (k : Current) (x : Line) → length s ≤ 4096 → a < length s → b < length r → c < length t
+    pub lineOf-three-tabs : (f g h : List ℕ) (n : Named) (k : Current) (x : Line) → length s ≤ maxLine → a < length s → b < length r → c < length t
         → f ≡ take a s → g ≡ take b r → h ≡ take c t → n ≡ formOf f → k ≡ currentOf g h → x ≡ asks n k (a + 1 + (b + 1) + (c + 1)) → x ≡ lineOf s
     unfolding lineOf has
     lineOf-three-tabs f g h n k x l la lb lc ef eg eh en ek ex =
@@ -81,7 +81,7 @@ module _ (s r : List ℕ) (a b : ℕ) (ea : a ≡ firstPlace tab s) (er : r ≡ 
         let kg : g ≡ field (rest s) = eg ∙ (λ i. take (pb i) (p i)) in
         let kh : h ≡ field (rest (rest s)) = eh ∙ (λ i. take (pc i) (q i)) in
         rw (
-          le-leb (length s) 4096 l,
+          le-leb (length s) maxLine l,
           lt-ltb (firstPlace tab s) (length s) (omega arith),
           lt-ltb (firstPlace tab (rest s)) (length (rest s)) (omega (arith, ap length p)),
           lt-ltb (firstPlace tab (rest (rest s))) (length (rest (rest s))) (omega (arith, ap length q)),
@@ -105,6 +105,6 @@ drop-textPlace s =
 pub lineOf-asks : (s : List ℕ) (f : Form) (n : Now) (at : ℕ) → lineOf s ≡ Asks f n at → drop at s ≡ textOf s
 unfolding lineOf
 lineOf-asks s f n at e =
-    by-test (leb (length s) 4096 && (has tab s && (has tab (rest s) && has tab (rest (rest s)))))
+    by-test (leb (length s) maxLine && (has tab s && (has tab (rest s) && has tab (rest (rest s)))))
     (λ y. ap (λ (v : ℕ). drop v s) (sym (asks-place (formOf (field s)) (currentOf (field (rest s)) (field (rest (rest s)))) (textPlace s) f n at (rw y at e))) ∙ drop-textPlace s)
     (λ y. let w : Wrong ≡ Asks f n at = rw y at e in let z : _≡_ {A = ℕ} 0 1 = cc in absurd (omega arith))

@@ -10,7 +10,7 @@ use lib.ListN.{length, drop, length-append}
 use Rattle.text.specs.Lines.{endedLines, takenBy, left}
 use Rattle.text.proofs.Lines.{endedLines-left, endedLines-take}
 use Rattle.lines.specs.Answers.{answerLine}
-use Rattle.lines.specs.Lines.{answersOf, outputOf, fitting, kept}
+use Rattle.lines.specs.Lines.{answersOf, outputOf, fitting, maxKept, kept}
 use Rattle.lines.specs.Run.{lastOf, runOf, joined}
 use Rattle.lines.proofs.Buffers.{fitting-fits}
 use Rattle.lines.proofs.Flow.{output-step, output-kept, output-last, output-nothing}
@@ -42,7 +42,7 @@ run-held held (r ∷ reads) e =
     let s = held ++ r in
     ap outputOf (sym (append-assoc held r (joined reads))) ∙ output-all s (joined reads)
     ∙ ap (λ (v : List ℕ). answersOf (endedLines s) ++ v)
-    (sym (output-kept (left s) (joined reads) (endedLines-left s)) ∙ run-held (kept (left s)) reads (endedLines-take 4097 (left s) (endedLines-left s)))
+    (sym (output-kept (left s) (joined reads) (endedLines-left s)) ∙ run-held (kept (left s)) reads (endedLines-take maxKept (left s) (endedLines-left s)))
 
 -- however an input is cut into reads, the answers are those of its lines
 pub output-of-reads : (reads : List (List ℕ)) → outputOf (joined reads) ≡ runOf [] reads

@@ -1,5 +1,5 @@
--- Document 01, `whenread`: what a line is answered. The number is 9 for a line of the wrong layout or too long, tested first; else the
--- reader's that the form names.
+-- The answer of a line (RULES 10.4). Its number is 9 if the line has the wrong layout or is too long, which is tested first (RULES 2.2);
+-- otherwise it is the number that the form's reader returns.
 -- Assumes nothing.
 use Prim.Native.Nat.{ℕ}
 use mathlib.Core.List.{List}
@@ -20,6 +20,7 @@ use Rattle.lines.specs.declared.layout.Line.{Line}
 use Rattle.lines.specs.declared.layout.Line.the-variants.{Asks, Wrong}
 use Rattle.lines.specs.declared.print.Row.{Row}
 
+-- what the form's reader answers for text t at current time n
 abbrev pub answerBy : Form → List ℕ → Now → Answer
 answerBy Header t n = headerOf t
 answerBy Raw t n = rawOf rule1 t
@@ -27,20 +28,23 @@ answerBy Iso t n = isoOf t
 answerBy Relative t n = relativeOf maxPairs t n
 answerBy Any t n = anyOf rule1 t n
 
--- a refusal prints its number, 0, 0
+-- the three numbers of an answer; a refusal has its number, seconds 0 and offset 0 (RULES 2.1)
 abbrev pub rowAt : Answer → Row
 rowAt a = record { number = answerNumber a; seconds = answerTime a .seconds; offset = answerTime a .offset }
 
--- 9 for a line of the wrong layout or too long
+-- RULES 2.1: the number of a line of the wrong layout, or too long
 abbrev pub wrongLayout : ℕ
 wrongLayout = 9
 
+-- the row of a line that asks for text t to be read
 abbrev pub rowBy : Line → List ℕ → Row
 rowBy (Asks f n at) t = rowAt (answerBy f t n)
 rowBy Wrong t = record { number = wrongLayout; seconds = pos 0; offset = pos 0 }
 
+-- the row of a line
 unfoldable pub rowOf : List ℕ → Row
 rowOf s = rowBy (lineOf s) (textOf s)
 
+-- the answer line of a line
 unfoldable pub answerLine : List ℕ → List ℕ
 answerLine s = rowBytes (rowOf s)

@@ -1,5 +1,5 @@
--- Document 01, `whenread`: a line is form, current seconds, current offset, text, at most 4,096 bytes before its end. Places are
--- counted from 0: in `any`, tab, `-`, tab, `-`, tab, `now` the text begins at place 8.
+-- The layout of a line (RULES 10.1 to 10.3): form, current seconds, current offset, text, with tabs between. Places are counted from 0:
+-- in `any`, tab, `-`, tab, `-`, tab, `now` the text begins at place 8.
 -- Assumes nothing.
 use Prim.Native.Nat.{ℕ, _+_, _^_}
 use mathlib.Core.Bool.{cond, _&&_}
@@ -23,7 +23,11 @@ use Rattle.lines.specs.declared.layout.Current.the-variants.{Is as Known
 use Rattle.lines.specs.declared.layout.Line.{Line}
 use Rattle.lines.specs.declared.layout.Line.the-variants.{Asks, Wrong}
 
--- form (`header`, `raw`, `iso`, `relative`, `any`)
+-- RULES 10.1: the most bytes that a line has before its end
+abbrev pub maxLine : ℕ
+maxLine = 4096
+
+-- RULES 10.2: the form is `header`, `raw`, `iso`, `relative` or `any`
 unfoldable pub formOf : List ℕ → Named
 formOf s =
     cond (same s (bytes "header")) (As Header)
@@ -32,33 +36,34 @@ formOf s =
     (cond (same s (bytes "relative")) (As Relative)
     (cond (same s (bytes "any")) (As Any) Unknown))))
 
--- current seconds and offset: signed numbers of 64 and 32 bits
+-- RULES 10.3: the current seconds and offset, if both fields are numbers
 abbrev pub currentAt : Integer → Integer → Current
 currentAt (Is z) (Is o) = Known (At (timeAt z o))
 currentAt (Is z) NotOne = Neither
 currentAt NotOne o = Neither
 
--- `-` and `-`: the current time is missing
+-- signed numbers of 64 and 32 bits; or both fields are `-`, and the current time is missing
 unfoldable pub currentOf : List ℕ → List ℕ → Current
 currentOf s o =
     cond (same s (bytes "-") && same o (bytes "-")) (Known Missing)
     (currentAt (fitSigned (2 ^ 63) (signedOf s)) (fitSigned (2 ^ 31) (signedOf o)))
 
--- the text, which keeps further tabs, and its place
+-- RULES 10.2: the text, which keeps further tabs, and the place where it begins
 abbrev pub textOf : List ℕ → List ℕ
 textOf s = rest (rest (rest s))
 
 abbrev pub textPlace : List ℕ → ℕ
 textPlace s = firstPlace tab s + 1 + (firstPlace tab (rest s) + 1) + (firstPlace tab (rest (rest s)) + 1)
 
+-- what a line of these fields asks for
 abbrev pub asks : Named → Current → ℕ → Line
 asks (As f) (Known n) at = Asks f n at
 asks (As f) Neither at = Wrong
 asks Unknown c at = Wrong
 
--- at most 4,096 bytes, three tabs at least, and each field as it has to be
+-- a line that is not too long, has at least three tabs, and whose first three fields are as the rules say
 unfoldable pub lineOf : List ℕ → Line
 lineOf s =
-    cond (leb (length s) 4096 && (has tab s && (has tab (rest s) && has tab (rest (rest s)))))
+    cond (leb (length s) maxLine && (has tab s && (has tab (rest s) && has tab (rest (rest s)))))
     (asks (formOf (field s)) (currentOf (field (rest s)) (field (rest (rest s)))) (textPlace s))
     Wrong

@@ -1,5 +1,5 @@
--- Document 01, the part on `whenread`. In order: the layout of a line; an answer line; the answer of a line; lines in a buffer; a whole
--- run. Last what the code holds on the way.
+-- The program `whenread` (RULES 10). In order: the layout of a line; an answer line; the answer of a line; lines in a buffer; a whole
+-- run. Last what only private functions need.
 pub mod Layout
 pub mod Rows
 pub mod Answers

@@ -1,4 +1,4 @@
--- A whole run of `whenread`: its reads, one after the other, through a buffer that keeps the start of a line.
+-- A whole run of `whenread`: its reads, one after the other, through a buffer that keeps the start of a line that has no end yet.
 -- Assumes nothing.
 use Prim.Native.Nat.{ℕ}
 use mathlib.Core.List.{List, [], _∷_, _++_}
@@ -11,7 +11,7 @@ unfoldable pub lastOf : List ℕ → List ℕ
 lastOf [] = []
 lastOf (b ∷ s) = answerLine (b ∷ s)
 
--- each read goes behind what is held; the lines that have their end are answered, and the start of the next is kept
+-- each read is put behind what is held; the lines that have their end are answered, and what is left, the start of a line, is kept
 unfoldable pub runOf : List ℕ → List (List ℕ) → List ℕ
 runOf held [] = lastOf held
 runOf held (r ∷ reads) = answersOf (endedLines (held ++ r)) ++ runOf (kept (left (held ++ r))) reads

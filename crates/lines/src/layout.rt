@@ -1,4 +1,5 @@
-// The layout of a line: four fields with tabs between, of which the last keeps further tabs. A line is given without its end.
+// The layout of a line (RULES 10.1 to 10.3): four fields with tabs between, of which the last keeps
+// further tabs. A line is given without its newline.
 ghost use mathlib.Core.Path.{_≡_};
 ghost use mathlib.Core.Bool.{cond};
 ghost use Rattle.text.specs.Bytes.{same};
@@ -12,6 +13,10 @@ use text::places;
 use time::Now;
 use time::Time;
 
+// The most bytes that a line has before its end (RULES 10.1).
+pub const MAX_LINE: usize = 4096;
+
+// The five forms of a date.
 pub enum Form {
     Header,
     Raw,
@@ -20,17 +25,18 @@ pub enum Form {
     Any,
 }
 
-// What a line asks: the text from a place of the line on, in a form, at a current time. Or it is laid out wrongly, or too long.
+// What a line asks for: that the text which begins at a place of the line is read in a form, at a
+// current time. `Wrong` is a line that has the wrong layout or is too long.
 pub enum Line {
     Asks(Form, Now, usize),
     Wrong,
 }
 
-// A line of more than 4,096 bytes is not looked into.
+// Parses a line. If it is too long, none of its bytes is read.
 pub fn parse_line(line: &[u8]) -> Line
     ensures { λ r. ⌜ r ≡ lineOf (now (line .entry)) ⌝ }
 {
-    if 4096 < line.len() {
+    if MAX_LINE < line.len() {
         return Line::Wrong;
     }
     let a = places::first_place(line, b'\t');
@@ -52,16 +58,19 @@ pub fn parse_line(line: &[u8]) -> Line
     asks(form, current, a + 1 + (b + 1) + (c + 1))
 }
 
+// The form that a field names.
 pub(crate) enum Named {
     As(Form),
     Unknown,
 }
 
+// The current time that two fields give.
 pub(crate) enum Current {
     Is(Now),
     Neither,
 }
 
+// The line with these fields, whose text begins at `at`.
 fn asks(form: Named, current: Current, at: usize) -> Line
     ensures { λ r. ⌜ r ≡ asksOf form current at ⌝ }
 {
@@ -74,7 +83,7 @@ fn asks(form: Named, current: Current, at: usize) -> Line
     }
 }
 
-// Forms are written in small letters alone.
+// The form with this name. Names are in small letters (RULES 10.2).
 fn form_of(s: &[u8]) -> Named
     ensures { λ r. ⌜ r ≡ formOf (now (s .entry)) ⌝ }
 {
@@ -97,18 +106,19 @@ fn form_named(s: &[u8], name: &[u8], form: Form, other: Named) -> Named
     other
 }
 
-// Numbers of 64 and of 32 bits, or both `-`.
+// The current time of two fields: signed numbers of 64 and 32 bits, or both `-` (RULES 10.3).
 fn current_of(seconds: &[u8], offset: &[u8]) -> Current
     ensures { λ r. ⌜ r ≡ currentOf (now (seconds .entry)) (now (offset .entry)) ⌝ }
 {
     if bytes::same(seconds, b"-") & bytes::same(offset, b"-") {
         return Current::Is(Now::Missing);
     }
-    let z = number::signed_number(seconds, 9223372036854775808);
-    let o = number::signed_number(offset, 2147483648);
+    let z = number::signed_number(seconds, number::HALF_64);
+    let o = number::signed_number(offset, number::HALF_32);
     current_at(z, o)
 }
 
+// The current time of two numbers, if both fields are numbers.
 fn current_at(seconds: Integer, offset: Integer) -> Current
     requires { ⌜ Fits32 offset ⌝ }
     ensures { λ r. ⌜ r ≡ currentAt seconds offset ⌝ }

@@ -1,7 +1,9 @@
-// `whenread`, on slices: a line to its answer line, and a buffer of lines to their answers. The program adds reading and writing.
+// What the program `whenread` does to lines (RULES 10), on slices: it turns a line into its answer
+// line, and a buffer of lines into their answers. The program adds reading and writing.
 //
-// A line is form, current seconds, current offset and text, with tabs between; its answer is number, seconds and offset, with tabs
-// between and a newline. Every line has an answer, of any length and any bytes, and no answer line is longer than 64 bytes.
+// A line is form, current seconds, current offset and text, with tabs between; its answer line is
+// number, seconds and offset, with tabs between and a newline. Every line has an answer, whatever
+// its length and its bytes. No answer line is longer than 64 bytes (`answerRoom` in the contracts).
 pub mod cut;
 pub mod layout;
 pub mod print;
@@ -12,7 +14,7 @@ ghost use lib.ListN.{length};
 ghost use Rattle.calendar.specs.Table.{IsMonths};
 ghost use Rattle.lines.specs.Answers.{answerBy, rowAt, rowOf, answerLine};
 ghost use Rattle.text.specs.Room.{fits, roomAfter};
-ghost use Rattle.lines.specs.Rows.{writtenIn};
+ghost use Rattle.lines.specs.Rows.{writtenIn, answerRoom};
 use layout::Form;
 use layout::Line;
 use print::Row;
@@ -20,30 +22,31 @@ use text::places;
 use time::Answer;
 use time::Now;
 
-// The number of a line of the wrong layout, or too long. The readers' refusals have the numbers below it.
+// The number of a line that has the wrong layout or is too long (RULES 2.1).
 const WRONG_LAYOUT: u64 = 9;
 
-// Writes the answer line of `line`, which is without its end, to the front of `out`, and returns how many bytes that took. The bytes
-// beyond stay. An answer that does not fit is not written: 0, and `out` holds what it held. 64 bytes are room for every answer.
+// Writes the answer line of `line`, which is given without its newline, to the front of `out`, and
+// returns the length of the answer line. The bytes behind it are unchanged. If the answer line does
+// not fit, nothing is written and 0 is returned; 64 bytes are enough for every answer line.
 pub fn answer(line: &[u8], out: &mut [u8]) -> usize
     ensures { λ r. ⌜ r ≡ writtenIn (answerLine (now (line .entry))) (now (out .entry)) ⌝ }
     ensures { λ _. ⌜ now (out .exit) ≡ roomAfter (fits (answerLine (now (line .entry))) (now (out .entry))) (answerLine (now (line .entry))) (now (out .entry)) ⌝ }
-    ensures { λ r. ⌜ (r ≤ 64) × (64 ≤ length (now (out .entry)) → 0 < r) ⌝ }
+    ensures { λ r. ⌜ (r ≤ answerRoom) × (answerRoom ≤ length (now (out .entry)) → 0 < r) ⌝ }
 {
     answer_with(&[], line, out)
 }
 
-// The same with a table of months, for many lines in a row: the whole table, or any leading part of it.
+// The same with a table of months, for many calls: the whole table, or any leading part of it.
 pub fn answer_with(months: &[u32], line: &[u8], out: &mut [u8]) -> usize
     requires { ⌜ IsMonths (now months) ⌝ }
     ensures { λ r. ⌜ r ≡ writtenIn (answerLine (now (line .entry))) (now (out .entry)) ⌝ }
     ensures { λ _. ⌜ now (out .exit) ≡ roomAfter (fits (answerLine (now (line .entry))) (now (out .entry))) (answerLine (now (line .entry))) (now (out .entry)) ⌝ }
-    ensures { λ r. ⌜ (r ≤ 64) × (64 ≤ length (now (out .entry)) → 0 < r) ⌝ }
+    ensures { λ r. ⌜ (r ≤ answerRoom) × (answerRoom ≤ length (now (out .entry)) → 0 < r) ⌝ }
 {
     print::write_row(row_of(months, line), out)
 }
 
-// What a line asks, answered, or refused where its layout is wrong.
+// The number, seconds and offset that answer a line.
 fn row_of(months: &[u32], line: &[u8]) -> Row
     requires { ⌜ IsMonths (now months) ⌝ }
     ensures { λ r. ⌜ r ≡ rowOf (now (line .entry)) ⌝ }
@@ -62,6 +65,7 @@ fn row_of(months: &[u32], line: &[u8]) -> Row
     }
 }
 
+// Reads a text in a form.
 fn parse_as(months: &[u32], form: Form, text: &[u8], current: Now) -> Answer
     requires { ⌜ IsMonths (now months) ⌝ }
     ensures { λ r. ⌜ r ≡ answerBy form (now (text .entry)) current ⌝ }

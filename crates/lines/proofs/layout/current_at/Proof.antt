@@ -1,9 +1,8 @@
 -- `lines::layout::current_at` meets its contract: an offset that 32 bits hold stays what it is.
 -- Assumes nothing.
 use mathlib.Core.Path.{_∙_}
-use lib.IntN.{pos, negsuc}
 use mir.Syntax.{w32, w64}
-use Rattle.ints.specs.Range.{In}
+use Rattle.lines.specs.Held.{In32}
 use Rattle.ints.proofs.Machine.{known, read, fits, back}
 use Rattle.time.specs.Answers.{timeAt}
 use Rattle.time.specs.declared.Now.the-variants.{At}
@@ -12,7 +11,7 @@ use borrow.Author.Needs.{needs}
 use Rattle.lines.proofs.layout.current_at.Statement.{statement}
 use Rattle.lines.proofs.layout.current_at.Tie as tie
 
-offset-in : (c : tie.After-known-told2) → In (negsuc 2147483647) (pos 2147483647) (c .before .offset .given .0 .0)
+offset-in : (c : tie.After-known-told2) → In32 (c .before .offset .given .0 .0)
 offset-in c = rw (c .before .offset .given .1) at (c .before .before .before .before .before .before .pre)
 
 cast-new : tie.Need-cast-new

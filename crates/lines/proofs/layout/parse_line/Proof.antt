@@ -4,6 +4,7 @@ use mathlib.Core.Path.{ap}
 use native.Mathlib.Omega.{arith}
 use lib.ListN.{length, length-drop}
 use Prim.Native.Nat.{_+_, _≤_}
+use Rattle.lines.specs.Layout.{maxLine}
 use Rattle.lines.proofs.Layouts.{lineOf-of-length, lineOf-no-tab, lineOf-one-tab, lineOf-two-tabs, lineOf-three-tabs}
 use borrow.Author.Needs.{needs}
 use Rattle.lines.proofs.layout.parse_line.Statement.{statement}
@@ -38,7 +39,7 @@ add-asks-5 c = let at-c = c .before .before .before .before .before .before in
     let at-rest = at-b .before in
     let at-a = at-rest .before .before in
     let start = at-a .before .before .before in
-    let l : length (start .args .line .now) ≤ 4096 = at-a .before .if1 .left in
+    let l : length (start .args .line .now) ≤ maxLine = at-a .before .if1 .left in
     record { fits = omega (arith, l, at-a .first-place .ensures .1, at-b .first-place2 .ensures .1, at-c .first-place3 .ensures .1, ap length (at-rest .from .ensures), ap length (at-last .from2 .ensures), length-drop (at-a .first-place .result + 1) (start .args .line .now), length-drop (at-b .first-place2 .result + 1) (at-rest .from .result .now)) }
 
 returns-5 : tie.Need-returns-5
