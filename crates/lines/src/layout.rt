@@ -9,6 +9,7 @@ ghost use Rattle.lines.specs.Held.{Fits32};
 use text::bytes;
 use text::number;
 use text::number::Integer;
+use text::number::Width;
 use text::places;
 use time::Now;
 use time::Time;
@@ -113,8 +114,8 @@ fn current_of(seconds: &[u8], offset: &[u8]) -> Current
     if bytes::same(seconds, b"-") & bytes::same(offset, b"-") {
         return Current::Is(Now::Missing);
     }
-    let z = number::signed_number(seconds, number::HALF_64);
-    let o = number::signed_number(offset, number::HALF_32);
+    let z = number::signed_number(seconds, Width::Bits64);
+    let o = number::signed_number(offset, Width::Bits32);
     current_at(z, o)
 }
 
