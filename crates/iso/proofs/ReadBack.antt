@@ -81,9 +81,6 @@ module _ (y mo d h m s : ℕ) (o : ℤ) (yl : y < 10000) (ml : mo < 100) (dl : d
   signByte-lt (pos n) = omega arith
   signByte-lt (negsuc n) = omega arith
 
-  h< : h < 100
-  h< = omega arith
-
   trim-line : trim line ≡ line
   trim-line =
       trim-of-ends (48 + y / 100 / 10)
