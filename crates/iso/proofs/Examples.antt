@@ -1,6 +1,6 @@
--- What the definitions answer, computed. In order: document 01's ISO examples that are to be proved together; its other ISO examples;
--- texts of which the document's words might be read in two ways, each under the reading that is taken; the forms that gix-date's
--- comments name; trimming, leap days and refusals.
+-- Worked examples of ISO dates, computed. In order: those marked P (RULES 11.5); the others (RULES 11.6); texts that the words of the
+-- rules might leave open, each below the reading that is taken (docs/DECISIONS.md); the forms that gix-date's comments name;
+-- trimming, leap days and refusals.
 -- Assumes nothing.
 use mathlib.Core.Path.{refl}
 use mathlib.Core.List.{List, [], _∷_, _++_}
@@ -40,62 +40,62 @@ at s o = Time (timeAt s o)
 
 abbrev rows : List Row
 rows =
-    -- document 01's other examples
+    -- RULES 11.6
     row (bytes "2008-02-14 20:30:45:99") (at (pos 1203021045) (pos 0)) ∷
     row (bytes "2008-02-14 20:30:60") (Refused Form) ∷
     row (bytes "9999-12-31 00:00:00 +02:00") (at (pos 253402207200) (pos 7200)) ∷
     row (bytes "9999-12-31 00:00:00 +01:59") (Refused Form) ∷
-    -- I1: all dots in the ten bytes turn, so `.008` is year -8
+    -- 6.2: all dots among the ten bytes are read as dashes, so `.008` is year -8
     row (bytes ".008.02.14 20:30:45") (at (negℤ (pos 62415804555)) (pos 0)) ∷
-    -- I2: a space is byte 32, no other white space
+    -- 6.2, 6.4: a space is byte 32, no other white space
     row (bytes "2008-02-14" ++ (9 ∷ []) ++ bytes "20:30:45") (Refused Form) ∷
     row (bytes "2008.02.14" ++ (9 ∷ []) ++ bytes "20:30:45") (Refused Form) ∷
-    -- I3: beyond place 5 is 6 or more; the sign rule reads the second
+    -- 6.6: beyond place 5 means 6 or more; the second of these is read by the rule for signs
     row (bytes "2008-02-14 20:30 +-5") (Refused Form) ∷
     row (bytes "2008-02-14 20:30 +0500") (at (pos 1203003000) (pos 18000)) ∷
-    -- I4: the last space is byte 32; what follows it is trimmed of any white space
+    -- 6.6: the last space is byte 32; what follows it is trimmed of any white space
     row (bytes "2008-02-14 20:30:45" ++ (9 ∷ []) ++ bytes "+-5") (Refused Form) ∷
     row (bytes "2008-02-14 20:30:45 " ++ (9 ∷ []) ++ bytes "+-5") (at (pos 1203039045) (negℤ (pos 18000))) ∷
-    -- I5: a digit directly after the sign; the space rule asks none
+    -- 6.6: the rule for signs needs a digit directly after the sign; the rule for spaces does not
     row (bytes "2008-02-14 20:30:45+:05") (Refused Form) ∷
     row (bytes "2008-02-14 20:30:45 +:05") (at (pos 1203003045) (pos 18000)) ∷
-    -- I6: the rightmost of the signs that have a digit after them, so `+05-`
+    -- 6.6: the rightmost of the signs that have a digit after them, so the offset is `+05-`
     row (bytes "2008-02-14 20:30:45.1+05-") (Refused Form) ∷
-    -- I7: cut, then trimmed
+    -- 6.7: what is before the dot is trimmed
     row (bytes "2008-02-14 20:30:45 .5") (at (pos 1203021045) (pos 0)) ∷
-    -- I8: the cut leaves hour 20 alone
+    -- 6.7: only the hour is before the first dot
     row (bytes "2008-02-14 20.30.45") (at (pos 1203019200) (pos 0)) ∷
     row (bytes "2008.02.14 20.30.45") (at (pos 1203019200) (pos 0)) ∷
-    -- I9: a fourth part is ignored, also if it is empty; a third is not
+    -- 6.7: a fourth part is ignored, also if it is empty; a third is not
     row (bytes "2008-02-14 20:30:45:") (at (pos 1203021045) (pos 0)) ∷
     row (bytes "2008-02-14 20:30:") (Refused Form) ∷
-    -- I10: three two-byte fields are the most
+    -- 6.7: there are at most three two-byte fields
     row (bytes "2008-02-14 20304599") (Refused Form) ∷
-    -- I11: parts of the time are not trimmed
+    -- 6.7: the parts of a time are not trimmed
     row (bytes "2008-02-14 20: 30") (Refused Form) ∷
-    -- I12: unsigned numbers may open with `+`; a sign at place 0 or 1, or before a final `Z`, opens no offset
+    -- 6.7: unsigned numbers may start with `+`; a sign at place 0 or 1, or in front of a final `Z`, opens no offset
     row (bytes "2008-02-14 +8:30") (at (pos 1202977800) (pos 0)) ∷
     row (bytes "2008-02-14 08:+5:00Z") (at (pos 1202976300) (pos 0)) ∷
-    -- I13: colons are removed wherever they stand
+    -- 6.8: colons are removed wherever they are
     row (bytes "2008-02-14 20:30:45+0:5") (at (pos 1203003045) (pos 18000)) ∷
     row (bytes "2008-02-14 20:30:45+01:") (at (pos 1203017445) (pos 3600)) ∷
-    -- I14: the sign turns the whole sum
+    -- 6.8: the sign belongs to the whole offset
     row (bytes "2008-02-14 20:30:45 -01-5") (at (pos 1203024345) (negℤ (pos 3300))) ∷
-    -- I15: colons are removed before the bytes are counted: `530` is three
+    -- 6.8: colons are removed before the bytes are counted: `530` has three
     row (bytes "2008-02-14 20:30:45+5:30") (Refused Form) ∷
-    -- I16: the final `Z` wins, and what is left ends in an ignored part
+    -- 6.6, 6.7: the final `Z` is the offset, and what is before it ends in a part that is ignored
     row (bytes "2008-02-14 20:30:45:x +0100Z") (at (pos 1203021045) (pos 0)) ∷
-    -- I17: `T` and `Z` are capitals
+    -- 4.6: `T` and `Z` are capitals
     row (bytes "2008-02-14t20:30:45") (Refused Form) ∷
     row (bytes "2008-02-14T20:30:45z") (Refused Form) ∷
-    -- I18: the year is a signed field of four bytes
+    -- 6.5: the year is a signed field of four bytes
     row (bytes "-0010101T00") (at (negℤ (pos 62198755200)) (pos 0)) ∷
     row (bytes "-001-01-01 00") (at (negℤ (pos 62198755200)) (pos 0)) ∷
-    -- I19: there is no empty time
+    -- 6.7: an empty text is no time
     row (bytes "2008-02-14") (Refused Form) ∷
     row (bytes "2008-02-14T") (Refused Form) ∷
     row (bytes "2008-02-14 Z") (Refused Form) ∷
-    -- I20: the space rule asks only for a sign; without the space `-x` falls with the fraction
+    -- 6.6: the rule for spaces needs only a sign; without the space `-x` belongs to the fraction, which is dropped
     row (bytes "2008-02-14 20:30:45.5 -x") (Refused Form) ∷
     row (bytes "2008-02-14 20:30:45.5-x") (at (pos 1203021045) (pos 0)) ∷
     -- the forms that gix-date's comments name
@@ -106,7 +106,7 @@ rows =
     row (bytes "1970-01-01 00:00:00 Z") (at (pos 0) (pos 0)) ∷
     row (bytes "2008-02-14 20:30:45 -05") (at (pos 1203039045) (negℤ (pos 18000))) ∷
     row (bytes "2008-02-14 20:30:45 -05:00") (at (pos 1203039045) (negℤ (pos 18000))) ∷
-    -- the text is trimmed; 29 February; what is no date at all; 1 first, also for what is no date
+    -- the text is trimmed; 29 February; texts that are no date at all; a byte of 128 or more is refused by 1, whatever the text
     row (bytes " " ++ (9 ∷ []) ++ bytes "2008-02-14 20:30:45" ++ (10 ∷ [])) (at (pos 1203021045) (pos 0)) ∷
     row (bytes "2008-02-29 00:00:00") (at (pos 1204243200) (pos 0)) ∷
     row (bytes "2007-02-29 00:00:00") (Refused Form) ∷

@@ -70,7 +70,7 @@ allFields-of-day (Is y) (Is m) t o = refl
 allFields-of-day (Is y) NotOne t o = refl
 allFields-of-day NotOne m t o = refl
 
--- ---- the fields of a text: r is what follows the date, trimmed, i its cut, b what stands before the dot
+-- ---- the fields of a text: r is what follows the date, trimmed, i its cut, b what is before the dot
 module _ (y m d s : List ℕ) (r : List ℕ) (i : ℕ) (b t o : List ℕ) (x : Number) (z y′ m′ d′ : Integer) where
   pub fieldsOf-parts : r ≡ trim s → i ≡ cut r → b ≡ before 46 (take i r) → t ≡ trim b → x ≡ timeOf t → o ≡ trim (take (length r - i) (drop i r)) → z ≡ offsetOf o
       → y′ ≡ fitSigned (2 ^ 31) (signedOf y) → m′ ≡ fitSigned (2 ^ 31) (signedOf m) → d′ ≡ fitSigned (2 ^ 31) (signedOf d) → allFields y′ m′ d′ x z ≡ fieldsOf y m d s

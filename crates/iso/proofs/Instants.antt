@@ -1,4 +1,4 @@
--- The instant. In order: the day of a date, by its year, month and day; a moment, by what its range test says; fields by both; the
+-- The instant. In order: the day of a date, by its year, month and day; a moment, by whether it is in range; fields by both; the
 -- answer by its fields.
 -- Assumes nothing.
 use mathlib.Core.Path.{_≡_, refl}

@@ -1,6 +1,6 @@
--- Laws, and the document's words computed. In order: a text without a byte; the cut, and the walk that finds it; the time; the offset;
--- the fields and the forms; the instant; digits, and the line that the ISO writer writes; what a caller can say of the whole, and that
--- a written line is read back; examples.
+-- Laws, and worked examples. In order: a text without one of its bytes; the cut, and the scan that finds it; the time; the offset; the
+-- fields and the forms; the instant; digits, and the line that the ISO writer writes; what a caller may rely on; that a written line is
+-- read back; worked examples.
 -- Assumes nothing.
 pub mod Places
 pub mod Cuts

@@ -78,7 +78,7 @@ module _ (h m s : ℕ) (p : h ≤ 23) (q : m ≤ 59) (r : s ≤ 59) where
         lastPlace-of-Free 32 tail
         (no-space (48 + h / 10) (tens h h<), (no-space (48 + h % 10) (ones h), (refl, (no-space (48 + m / 10) (tens m m<), (no-space (48 + m % 10) (ones m), (refl, (no-space (48 + s / 10) (tens s s<), (no-space (48 + s % 10) (ones s), (other, (no-space (48 + a / 10) (tens a k), (no-space (48 + a % 10) (ones a), (refl, (no-space (48 + c / 10) (tens c l), (no-space (48 + c % 10) (ones c), tt))))))))))))))
 
-    -- behind the sign stands no other
+    -- there is no other sign behind it
     digit-opens : (x : ℕ) (t : List ℕ) → isDigit x ≡ true → isOffset (x ∷ t) ≡ false
     unfolding isOffset
     digit-opens x [] e = refl

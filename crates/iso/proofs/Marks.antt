@@ -1,5 +1,5 @@
--- A walk from the end of a text: which byte ends it as a sign that opens an offset. What the walk knows where it stops is said of
--- any test in `text` (`last-here`, `none-before`).
+-- A scan back from the end of a text for a sign with a digit after it: when the byte in front of place e is such a sign, and when it is
+-- not. The same for any test of a byte is in `text` (`last-here`, `none-before`).
 -- Assumes nothing.
 use mathlib.Core.Path.{_≡_, refl, sym}
 use mathlib.Core.Bool.{Bool, true, false, _&&_, and-false}
@@ -16,7 +16,7 @@ unfolding isOffset isDigit
 isOffset-cons b [] = sym (and-false (isSign b))
 isOffset-cons b (d ∷ t) = refl
 
--- d says whether a digit stands at e
+-- d says whether there is a digit at e
 module _ (s : List ℕ) {e : ℕ} {d : Bool} (p : 0 < e) (n : None isOffset s e) (q : isDigit (getD (drop e s) 0 0) ≡ d) where
   pub sign-here : (isSign (getD s (e - 1) 0) && d) ≡ true → e - 1 ≡ lastWhere isOffset s
   sign-here h = last-here isOffset s e p n (rw (isOffset-cons (getD s (e - 1) 0) (drop e s), q) h)

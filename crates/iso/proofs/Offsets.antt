@@ -79,8 +79,8 @@ unfolding offsetOf
 offsetOf-not [] h p m z = absurd (h refl)
 offsetOf-not (b ∷ s) h p m z = rw (ne-eqb b 90 z, ne-eqb b 43 p, ne-eqb b 45 m)
 
--- ---- the answers of the code, by what it met
--- a number that is met within k is within k
+-- ---- the answers of the code, case by case
+-- a number that is there is within k
 pub In-of-Within : {k : ℕ} {x : Integer} {z : ℤ} → x ≡ Is z → Within k x → In (negℤ (pos k)) (pos k) z
 In-of-Within {k} e w = subst (Within k) e w
 

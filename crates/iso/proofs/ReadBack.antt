@@ -81,9 +81,6 @@ module _ (y mo d h m s : ℕ) (o : ℤ) (yl : y < 10000) (ml : mo < 100) (dl : d
   signByte-lt (pos n) = omega arith
   signByte-lt (negsuc n) = omega arith
 
-  h< : h < 100
-  h< = omega arith
-
   trim-line : trim line ≡ line
   trim-line =
       trim-of-ends (48 + y / 100 / 10)
@@ -234,7 +231,7 @@ iso-read-back t room n e whole =
     let s = shown-of-whole-minutes t whole in
     rw s (line-read-back t (wasWritten t room n (rw s at e)) whole)
 
--- and so is what the writer leaves in the room, as far as it says that it wrote
+-- and so are the bytes that the writer leaves at the front of the room
 pub iso-read-back-in-room : (t : Time) (room : List ℕ) (n : ℕ) → isoWritten t room ≡ Length n → natAbs (t .offset) % 60 ≡ 0
     → isoOf (take n (roomAfter (isWritten (isoWritten t room)) (isoBytes t) room)) ≡ Read t
 iso-read-back-in-room t room n e whole = ap isoOf (line-in-room t room n e) ∙ iso-read-back t room n e whole .1

@@ -18,11 +18,11 @@ use Rattle.text.specs.declared.number.Integer.the-variants.{NotOne}
 use Rattle.text.proofs.Lists.{by-test, both, take-two-drop}
 use Rattle.time.specs.Answers.{answerNumber}
 use Rattle.time.specs.declared.Time.{Time}
-use Rattle.time.specs.declared.Answer.{Answer}
-use Rattle.time.specs.declared.Answer.the-variants.{Time as At, Refused}
+use Rattle.time.specs.declared.Answer.the-variants.{Time as At}
 use Rattle.iso.specs.Parts.{two, int32}
 use Rattle.iso.specs.Forms.{fieldsOf, isSeparator, flexible, firstAt, compact, dashes, isDotted, dotted, orElse, formOf}
 use Rattle.iso.specs.Iso.{zoned, isoOf}
+use Rattle.iso.specs.Theorems.{isThere, accepts}
 use Rattle.iso.specs.declared.forms.Fields.{Fields}
 use Rattle.iso.specs.declared.forms.Fields.the-variants.{Are, Missing}
 use Rattle.text.proofs.FirstPlaces.{getD-firstPlace}
@@ -95,10 +95,6 @@ first-false x y e = rw e
 second-false : (x y : Bool) → y ≡ false → (x && y) ≡ false
 second-false x y e = rw e (and-false x)
 
-abbrev pub isThere : Fields → Bool
-isThere (Are f) = true
-isThere Missing = false
-
 there-missing : {f : Fields} → f ≡ Missing → isThere f ≡ false
 there-missing e = rw e
 
@@ -117,10 +113,6 @@ one-form-has-fields s =
         compact-or-flexible s (λ e. first-false b d (there-missing e)) (λ e. second-false b d (there-missing e)),
       ),
     )
-
-abbrev pub accepts : Answer → Bool
-accepts (At t) = true
-accepts (Refused r) = false
 
 zoned-missing : {f : Fields} → f ≡ Missing → accepts (zoned f) ≡ false
 unfolding zoned

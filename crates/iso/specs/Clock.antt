@@ -1,4 +1,4 @@
--- Document 01, "Reading ISO dates": the time, as a second of the day, from 0 to 86,399.
+-- Times of day (RULES 6.7), as a second of the day from 0 to 86,399.
 -- Assumes nothing.
 use Prim.Native.Nat.{ℕ, _+_, _*_, _-_, _^_}
 use Prim.Native.Char.{code}
@@ -14,7 +14,7 @@ use Rattle.text.specs.declared.number.Number.{Number}
 use Rattle.text.specs.declared.number.Number.the-variants.{Value, Not}
 use Rattle.iso.specs.Parts.{two}
 
--- an unsigned 32-bit number, to the limit
+-- an unsigned 32-bit number, up to the limit
 unfoldable pub timePart : ℕ → List ℕ → Number
 timePart limit s = fit limit (fit (2 ^ 32 - 1) (unsignedOf s))
 
@@ -25,7 +25,7 @@ secondOf (Value h) (Value m) Not = Not
 secondOf (Value h) Not s = Not
 secondOf Not m s = Not
 
--- hour to 23, minute and second to 59
+-- hours go to 23, minutes and seconds to 59
 unfoldable pub clock : List ℕ → List ℕ → List ℕ → Number
 clock h m s = secondOf (timePart 23 h) (timePart 59 m) (timePart 59 s)
 

@@ -1,4 +1,4 @@
--- The ISO dates among document 01's examples that are to be proved together, with the others of that kind.
+-- The ISO dates among the worked examples marked P (RULES 11.5).
 -- Assumes nothing.
 use mathlib.Core.List.{List, [], _∷_}
 use lib.IntN.{pos, negℤ}

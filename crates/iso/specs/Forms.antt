@@ -1,5 +1,5 @@
--- Document 01, "Reading ISO dates": the three forms of a trimmed text, and what each says: a year, a month, a day, a second of the
--- day, an offset. The date may not exist. Places count from 0.
+-- The three forms of a trimmed text (RULES 6.2 to 6.5), and the fields that each reads: a year, a month, a day, a second of the day, an
+-- offset. The date need not exist. Places are counted from 0.
 -- Assumes nothing.
 use Prim.Native.Nat.{ℕ}
 use Prim.Native.Char.{code}
@@ -20,7 +20,7 @@ use Rattle.iso.specs.Offset.{offsetOf}
 use Rattle.iso.specs.declared.forms.Fields.{Fields}
 use Rattle.iso.specs.declared.forms.Fields.the-variants.{Are, Missing}
 
--- all five, or none
+-- all five fields, or none
 unfoldable pub allFields : Integer → Integer → Integer → Number → Integer → Fields
 allFields (Is y) (Is m) (Is d) (Value c) (Is o) = Are (record { year = y; month = m; day = d; second = c; offset = o })
 allFields (Is y) (Is m) (Is d) (Value c) NotOne = Missing
@@ -29,7 +29,7 @@ allFields (Is y) (Is m) NotOne c o = Missing
 allFields (Is y) NotOne d c o = Missing
 allFields NotOne m d c o = Missing
 
--- year, month, day: signed 32-bit fields; and what follows the `T` or space
+-- year, month and day are signed 32-bit fields; s is what follows the `T` or space
 unfoldable pub fieldsOf : List ℕ → List ℕ → List ℕ → List ℕ → Fields
 fieldsOf y m d s = allFields (int32 y) (int32 m) (int32 d) (timeOf (timeText (trim s))) (offsetOf (offsetText (trim s)))
 
@@ -37,21 +37,21 @@ fieldsOf y m d s = allFields (int32 y) (int32 m) (int32 d) (timeOf (timeText (tr
 unfoldable pub isSeparator : ℕ → Bool
 isSeparator b = eqb b (code "T") || eqb b (code " ")
 
--- flexible: dashes at 4 and 7, `T` or space at 10
+-- flexible: dashes at places 4 and 7, and a `T` or a space at place 10
 unfoldable pub flexible : List ℕ → Fields
 flexible s =
     cond (eqb (getD s 4 0) (code "-") && (eqb (getD s 7 0) (code "-") && isSeparator (getD s 10 0)))
     (fieldsOf (take 4 s) (two 5 s) (two 8 s) (drop 11 s)) Missing
 
--- the first b stands at place i
+-- the first b is at place i
 unfoldable pub firstAt : ℕ → ℕ → List ℕ → Bool
 firstAt b i s = eqb (firstPlace b s) i && ltb i (length s)
 
--- compact: the first `T` at place 8
+-- compact: the first `T` is at place 8
 unfoldable pub compact : List ℕ → Fields
 compact s = cond (firstAt (code "T") 8 s) (fieldsOf (take 4 s) (two 4 s) (two 6 s) (drop 9 s)) Missing
 
--- all dots become dashes
+-- dots read as dashes
 unfoldable pub dashOf : ℕ → ℕ
 dashOf b = cond (eqb b (code ".")) (code "-") b
 
@@ -59,11 +59,11 @@ unfoldable pub dashes : List ℕ → List ℕ
 dashes [] = []
 dashes (b ∷ s) = dashOf b ∷ dashes s
 
--- ten bytes before the first space, dots at places 4 and 7
+-- ten bytes before the first space, with dots at places 4 and 7
 unfoldable pub isDotted : List ℕ → Bool
 isDotted s = firstAt (code " ") 10 s && (eqb (getD s 4 0) (code ".") && eqb (getD s 7 0) (code "."))
 
--- dotted: all dots in the ten bytes become dashes, then as flexible
+-- dotted: all dots among those ten are read as dashes, and the text is then read as flexible
 unfoldable pub dotted : List ℕ → Fields
 dotted s = cond (isDotted s) (flexible (dashes (take 10 s) ++ drop 10 s)) Missing
 

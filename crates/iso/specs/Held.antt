@@ -1,4 +1,4 @@
--- What private contracts of the reader's parts speak of: ranges of offsets and of fields. Nothing here is needed to read what
+-- What the private contracts of the reader speak of: ranges of offsets and of fields. Nothing here is needed to read what
 -- `parse_git_date_format` ensures.
 -- Assumes nothing.
 use Prim.Native.Nat.{ℕ, _≤_}

@@ -1,5 +1,5 @@
--- Document 01, "Reading ISO dates": the date must exist, the instant must be in range. Years are signed here, and counted from
--- -10000 where the calendar is asked: its day 0 is 1 January of year -10000; 1 January 1970 is day 4,371,953.
+-- ISO dates as answers: the date must exist (RULES 6.5), and the instant must be in range (RULES 6.9). Years are signed here. The
+-- calendar counts them from -10000: its day 0 is 1 January of year -10000, and 1 January 1970 is day 4,371,953.
 -- Assumes nothing.
 use Prim.Native.Nat.{ℕ, _+_, _*_}
 use mathlib.Core.Bool.{cond}
@@ -21,13 +21,13 @@ use Rattle.iso.specs.Forms.{formOf}
 use Rattle.iso.specs.declared.forms.Fields.{Fields}
 use Rattle.iso.specs.declared.forms.Fields.the-variants.{Are, Missing}
 
--- the date must exist, in the years -9999 to 9999; no month or day is below 0
+-- the day of a date, which must exist and be in the years -9999 to 9999; no month or day is negative
 unfoldable pub dayOf : ℤ → ℤ → ℤ → Found
 dayOf y (pos m) (pos d) = cond (isIn (negsuc 9998) (pos 9999) y) (dayNumber (yearCount y) m d) Nothing
 dayOf y (pos m) (negsuc d) = Nothing
 dayOf y (negsuc m) d = Nothing
 
--- second c of a day by the clock of offset o; an instant out of range is 2
+-- second c of a day, by the clock of offset o; an instant out of range is refused by 2
 unfoldable pub momentOf : Found → ℕ → ℤ → Answer
 momentOf (At d) c o =
     let z = since1970 (d * 86400 + c) -ℤ o in
@@ -38,6 +38,6 @@ unfoldable pub zoned : Fields → Answer
 zoned (Are f) = momentOf (dayOf (f .year) (f .month) (f .day)) (f .second) (f .offset)
 zoned Missing = Refused Form
 
--- 1 first; then the forms, of what is trimmed
+-- a byte of 128 or more is refused by 1 first; then the trimmed text is read by the forms
 unfoldable pub isoOf : List ℕ → Answer
 isoOf s = cond (ascii s) (zoned (formOf (trim s))) (Refused NotAscii)

@@ -1,5 +1,5 @@
--- Document 01, "Reading ISO dates". In order: parts of a text; the cut into time and offset; the time; the offset; the three forms;
--- the instant and the answer; worked examples; what private contracts speak of.
+-- Reading ISO dates (RULES 6). In order: parts of a text; the cut into time and offset; the time; the offset; the three forms; the
+-- instant and the answer; worked examples; what theorems speak of; what private contracts speak of.
 -- Assumes nothing.
 pub mod Parts
 pub mod Cut
@@ -8,4 +8,5 @@ pub mod Offset
 pub mod Forms
 pub mod Iso
 pub mod Examples
+pub mod Theorems
 pub mod Held

@@ -1,4 +1,4 @@
--- Document 01, "Reading ISO dates": the offset, in seconds: an hour east is 3600, an hour west -3600.
+-- Offsets (RULES 6.8), in seconds: an hour east of UTC is 3600, an hour west -3600.
 -- Assumes nothing.
 use Prim.Native.Nat.{ℕ}
 use Prim.Native.Char.{code}
@@ -12,7 +12,7 @@ use Rattle.text.specs.declared.number.Integer.{Integer}
 use Rattle.text.specs.declared.number.Integer.the-variants.{Is, NotOne}
 use Rattle.iso.specs.Parts.{two, without, int32}
 
--- to the limit; two bytes are never below -9, and no lower limit is asked
+-- up to the limit; two bytes are never below -9, so there is no lower limit
 unfoldable pub upTo : ℤ → Integer → Integer
 upTo limit (Is z) = cond (leZ z limit) (Is z) NotOne
 upTo limit NotOne = NotOne
@@ -23,18 +23,18 @@ secondsOf (Is h) (Is m) = Is (h *ℤ pos 3600 +ℤ m *ℤ pos 60)
 secondsOf (Is h) NotOne = NotOne
 secondsOf NotOne m = NotOne
 
--- 2 or 4 bytes in signed fields, hours to 23, minutes to 59
+-- 2 or 4 bytes in two-byte signed fields; hours go to 23, minutes to 59
 unfoldable pub hoursMinutes : List ℕ → Integer
 hoursMinutes s =
     cond (eqb (length s) 2) (secondsOf (upTo (pos 23) (int32 (two 0 s))) (Is (pos 0)))
     (cond (eqb (length s) 4) (secondsOf (upTo (pos 23) (int32 (two 0 s))) (upTo (pos 59) (int32 (two 2 s)))) NotOne)
 
--- a `-` before the fields turns the whole sum
+-- a `-` in front of the fields negates their whole sum
 unfoldable pub negated : Integer → Integer
 negated (Is z) = Is (negℤ z)
 negated NotOne = NotOne
 
--- empty or `Z` is 0; a sign, then, with all colons removed, the fields
+-- nothing or `Z` is 0; otherwise a sign and then, once all colons are removed, the fields
 unfoldable pub offsetOf : List ℕ → Integer
 offsetOf [] = Is (pos 0)
 offsetOf (b ∷ s) =

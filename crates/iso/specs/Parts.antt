@@ -1,5 +1,5 @@
--- Parts of a text that "Reading ISO dates" speaks of: fields of two bytes, a text without a byte; and signed 32-bit fields. Places
--- count from 0.
+-- Parts of a text that the rules for ISO dates speak of: fields of two bytes, a text without one of its bytes, and signed 32-bit fields.
+-- Places are counted from 0.
 -- Assumes nothing.
 use Prim.Native.Nat.{ℕ, _^_}
 use Prim.Native.Char.{code}
@@ -10,7 +10,7 @@ use lib.ListN.{take, drop}
 use Rattle.text.specs.Number.{signedOf, fitSigned}
 use Rattle.text.specs.declared.number.Integer.{Integer}
 
--- bytes that contracts name
+-- two bytes, by name, for contracts
 abbrev pub space : ℕ
 space = code " "
 
@@ -21,7 +21,7 @@ colon = code ":"
 abbrev pub two : ℕ → List ℕ → List ℕ
 two i s = take 2 (drop i s)
 
--- s with each b removed
+-- s with every b removed
 unfoldable pub without : ℕ → List ℕ → List ℕ
 without b [] = []
 without b (x ∷ s) = let r = without b s in cond (eqb x b) r (x ∷ r)

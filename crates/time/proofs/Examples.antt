@@ -1,4 +1,4 @@
--- Document 01's words on the range and on writing, computed: each example is under the words that it shows.
+-- The rules for the range (RULES 2.4) and for writing (RULES 9), computed: each example is below the words that it shows.
 -- Assumes nothing.
 use mathlib.Core.Path.{_≡_, refl}
 use mathlib.Core.Bool.{true, false}
@@ -20,7 +20,7 @@ use Rattle.time.specs.declared.Refusal.the-variants.{Offset, Range, Room
 use Rattle.time.specs.declared.Written.the-variants.{Length, Refused}
 
 -- ---- the range
--- "Range: seconds -377705023201 to 253402207200; current offset -93599 to 93599"
+-- "The range of seconds is -377705023201 to 253402207200. The range of a current time's offset is -93599 to 93599."
 range-ends : (secondsInRange (negsuc 377705023200) ≡ true) × (secondsInRange (negsuc 377705023201) ≡ false) × (secondsInRange (pos 253402207200) ≡ true) × (secondsInRange (pos 253402207201) ≡ false)
 unfolding secondsInRange
 range-ends = (refl, refl, refl, refl)
@@ -32,9 +32,9 @@ offset-ends = (refl, refl, refl, refl)
 -- ---- the header
 abbrev headers : List Row
 headers =
-    -- "seconds in plain decimal, space, `-` for a negative offset and otherwise `+`, two digits of hours, two of minutes"
+    -- "the seconds in plain decimal, a space, `-` for a negative offset and otherwise `+`, two digits of hours and two of minutes"
     writes (headerBytes (timeAt (pos 1745582210) (pos 7200))) (bytes "1745582210 +0200") ∷
-    -- "359999 writes `+9959`"
+    -- RULES 11.2, "359999 is written `+9959`"
     writes (headerBytes (timeAt (pos 5) (pos 359999))) (bytes "5 +9959") ∷
     -- Git's published writer tests, t0006
     writes (headerBytes (timeAt (pos 1466000000) (pos 7200))) (bytes "1466000000 +0200") ∷
@@ -44,22 +44,22 @@ headers-right : AllRight headers
 unfolding headerBytes signedBefore signed decimal digitsUpTo headerSign signByte wholeMinutes
 headers-right = (refl, (refl, (refl, (refl, tt))))
 
--- "360000, which writes as 7"
+-- RULES 11.2, "360000, which the header writer refuses by 7"
 too-wide : headerWritten (timeAt (pos 5) (pos 360000)) (replicate 26 0) ≡ Refused Offset
 unfolding headerWritten
 too-wide = refl
 
--- the least offset of 32 bits has a size, and is too wide
+-- the least offset of 32 bits is too wide; its size does not fit 32 signed bits
 least-offset : headerWritten (timeAt (pos 5) (negsuc (2 ^ 31 - 1))) [] ≡ Refused Offset
 unfolding headerWritten
 least-offset = refl
 
--- "the room lent is shorter than the bytes to be written": six bytes for `5 +0000`, which takes seven
+-- "the buffer is shorter than the bytes to be written": six bytes for `5 +0000`, which takes seven
 short-by-one : headerWritten (timeAt (pos 5) (pos 0)) (replicate 6 0) ≡ Refused Room
 unfolding headerWritten sizeOf signed decimal digitsUpTo
 short-by-one = refl
 
--- "`size` is digits, plus 1 if negative, plus 6"; zero has one digit
+-- "the length of the seconds in plain decimal plus 6"; zero has one digit
 sizes : (sizeOf (pos 0) ≡ 7) × (sizeOf (negsuc 0) ≡ 8) × (sizeOf (pos 1745582210) ≡ 16)
 unfolding sizeOf signed decimal digitsUpTo
 sizes = (refl, refl, refl)
@@ -69,7 +69,7 @@ abbrev lines : List Row
 lines =
     -- "`YYYY-MM-DDTHH:MM:SS+HH:MM`"
     writes (isoBytes (timeAt (pos 1203039045) (negsuc 17999))) (bytes "2008-02-14T20:30:45-05:00") ∷
-    -- "The fields show the clock at the full offset, the offset is printed cut to minutes, with `-` if it is negative"
+    -- "The fields show the clock at the full offset; the offset is printed cut toward zero to whole minutes, with `-` if it is negative"
     writes (isoBytes (timeAt (pos 0) (negsuc 89))) (bytes "1969-12-31T23:58:30-00:01") ∷
     -- Git's published writer tests, t0006, but for offset 0, where Git prints `Z`
     writes (isoBytes (timeAt (pos 1466000000) (pos 7200))) (bytes "2016-06-15T16:13:20+02:00") ∷
@@ -79,7 +79,7 @@ lines-right : AllRight lines
 unfolding isoBytes shown lineBytes clockOf signByte wholeMinutes dateOf monthOf yearOf spanOf monthLength yearLength firstDay yearStart total lengths leap
 lines-right = (refl, (refl, (refl, (refl, tt))))
 
--- "writers 7, 6, 8": the largest seconds at an offset of a day, with no room
+-- "Writers test in the order 7, 6, 8": the largest seconds at an offset of a day, with no room
 seven-first : isoWritten (timeAt (pos (2 ^ 63 - 1)) (pos 86400)) [] ≡ Refused Offset
 unfolding isoWritten shown lineWritten lineOf
 seven-first = refl

@@ -1,5 +1,5 @@
--- Laws. In order: the range and the move to numbers from 0; the header as it is written; a buffer for it; the ISO line; what a caller
--- may rely on; tables of examples joined; the document's examples.
+-- Laws. In order: the range, and times as numbers from 0; the header as it is written; the buffer for it; the ISO line; what a caller
+-- may rely on; tables of examples joined; worked examples.
 -- Assumes nothing.
 pub mod Ranges
 pub mod Headers

@@ -3,13 +3,12 @@
 -- one shape.
 -- Assumes nothing.
 use mathlib.Core.Path.{_≡_, refl, sym, _∙_}
-use mathlib.Core.Bool.{Bool, true, false, cond, _&&_}
-use mathlib.Core.List.{List, [], _∷_}
-use Prim.Native.Char.{code}
+use mathlib.Core.Bool.{true}
+use mathlib.Core.List.{List}
 use Prim.Native.Nat.{ℕ, _+_, _-_, _/_, _%_, _^_, _≤_, _<_}
 use native.Mathlib.Omega.{arith}
 use borrow.Author.Tests.{lt-leb, le-ltb}
-use lib.Dec.{eqb, leb, ltb}
+use lib.Dec.{leb, ltb}
 use lib.IntN.{ℤ, pos, negsuc, natAbs}
 use lib.ListN.{length, take, drop}
 use lib.Seq.{take-append-seam}
@@ -22,15 +21,16 @@ use Rattle.calendar.specs.Dates.{dateOf}
 use Rattle.text.proofs.Signed.{length-signed-le}
 use Rattle.text.proofs.Lists.{by-test}
 use Rattle.text.proofs.Digits.{tens, ones}
-use Rattle.text.specs.Bytes.{isDigit, isSign}
+use Rattle.text.specs.Bytes.{isSign}
 use Rattle.text.specs.Decimal.{digitsUpTo, decimal, signed}
 use Rattle.text.specs.Quote.{bytes}
 use Rattle.text.specs.Room.{roomAfter}
 use Rattle.time.specs.Answers.{isWritten}
 use Rattle.time.specs.Clock.{clockOf, localOf}
-use Rattle.time.specs.Header.{sizeOf, headerBytes, headerWritten, signByte, wholeMinutes, HasHeader, smallestTime, largestTime}
+use Rattle.time.specs.Header.{sizeOf, headerBytes, headerWritten, signByte, wholeMinutes, smallestTime, largestTime}
 use Rattle.time.specs.Range.{instantOf}
 use Rattle.time.specs.Iso.{lineClock, yearOf, lineBytes, shown, isoBytes, isoWritten}
+use Rattle.time.specs.Theorems.{HasHeader, isLike}
 use Rattle.time.specs.declared.Time.{Time}
 use Rattle.time.specs.declared.Refusal.{Refusal}
 use Rattle.time.specs.declared.Refusal.the-variants.{Offset, Room}
@@ -109,16 +109,6 @@ pub line-in-room : (t : Time) (room : List ℕ) (n : ℕ) → isoWritten t room 
     → take n (roomAfter (isWritten (isoWritten t room)) (isoBytes t) room) ≡ isoBytes t
 unfolding isoWritten
 line-in-room t room n e = take-of-written (isoWritten t room) n (isoBytes t) room e (wasWritten (shown t) room n e .length ∙ sym (iso-line-is-25-bytes t))
-
--- a line like a pattern, in which `0` stands for any digit and `+` for either sign
-abbrev pub likeByte : ℕ → ℕ → Bool
-likeByte p b = cond (eqb p (code "0")) (isDigit b) (cond (eqb p (code "+")) (isSign b) (eqb b p))
-
-abbrev pub isLike : List ℕ → List ℕ → Bool
-isLike [] [] = true
-isLike [] (b ∷ s) = false
-isLike (p ∷ ps) [] = false
-isLike (p ∷ ps) (b ∷ s) = likeByte p b && isLike ps s
 
 pub isSign-signByte : (z : ℤ) → isSign (signByte z) ≡ true
 unfolding isSign signByte

@@ -1,4 +1,4 @@
--- Document 01, "Numbers returned": the number, time and length of each answer.
+-- The number, time and length that each answer returns (RULES 2.1).
 -- Assumes nothing.
 use Prim.Native.Nat.{ℕ}
 use mathlib.Core.Bool.{Bool, true, false}
@@ -29,7 +29,7 @@ abbrev pub answerNumber : Answer → ℕ
 answerNumber (At t) = 0
 answerNumber (Refused r) = numberOf r
 
--- each refusal returns seconds 0, offset 0
+-- a refusal returns seconds 0 and offset 0
 abbrev pub answerTime : Answer → Time
 answerTime (At t) = t
 answerTime (Refused r) = timeAt (pos 0) (pos 0)
@@ -38,7 +38,7 @@ abbrev pub writtenNumber : Written → ℕ
 writtenNumber (Length n) = 0
 writtenNumber (NotWritten r) = numberOf r
 
--- and length 0
+-- and length 0, from a writer
 abbrev pub writtenLength : Written → ℕ
 writtenLength (Length n) = n
 writtenLength (NotWritten r) = 0

@@ -1,15 +1,12 @@
--- Document 01, "Writing", header: seconds in plain decimal, space, `-` for a negative offset and otherwise `+`, two digits of
--- hours, two of minutes, offset seconds dropped.
+-- Headers as they are written (RULES 9.1 to 9.3): the bytes of a header, their number, and when one is refused (RULES 2.5).
 -- Assumes nothing.
-use Prim.Native.Nat.{ℕ, suc, _+_, _-_, _*_, _/_, _%_, _^_, _<_}
+use Prim.Native.Nat.{ℕ, suc, _+_, _-_, _*_, _/_, _%_, _^_}
 use Prim.Native.Char.{code}
 use mathlib.Core.Bool.{cond}
 use mathlib.Core.List.{List, [], _∷_}
 use lib.Dec.{leb, ltb}
 use lib.IntN.{ℤ, pos, negsuc, negℤ, natAbs}
 use lib.ListN.{length}
-use mir.Syntax.{w64}
-use mir.Val.{SFits}
 use Rattle.text.specs.Decimal.{signed, signedBefore, twoBefore}
 use Rattle.time.specs.Answers.{timeAt}
 use Rattle.time.specs.declared.Time.{Time}
@@ -22,7 +19,7 @@ unfoldable pub signByte : ℤ → ℕ
 signByte (pos n) = code "+"
 signByte (negsuc n) = code "-"
 
--- the sign in a header: the same, of the time's offset
+-- the sign in the header of a time
 unfoldable pub headerSign : Time → ℕ
 headerSign t = signByte (t .offset)
 
@@ -40,22 +37,17 @@ space = code " "
 unfoldable pub headerBytes : Time → List ℕ
 headerBytes t = signedBefore (t .seconds) (space ∷ offsetBytes (headerSign t) (wholeMinutes (t .offset)))
 
--- the signed decimal's length and 6, also for an offset too wide to write
+-- the length of the seconds in plain decimal plus 6, also for an offset that is too wide to write
 unfoldable pub sizeOf : ℤ → ℕ
 sizeOf z = length (signed z) + 6
 
--- 7 if the size of the offset is 360000 or more, then 8
+-- refused by 7 if the size of the offset is 360000 or more, then by 8 if the room is too short
 unfoldable pub headerWritten : Time → List ℕ → Written
 headerWritten t room =
     cond (leb 360000 (natAbs (t .offset))) (Refused Offset)
     (cond (ltb (length room) (sizeOf (t .seconds))) (Refused Room) (Length (sizeOf (t .seconds))))
 
--- a time that a header can carry: seconds of 64 bits, an offset under 100 hours
-pub record HasHeader (t : Time) : Type 0 where
-  pub seconds : SFits w64 (t .seconds)
-  pub offset : natAbs (t .offset) < 360000
-
--- the smallest and the largest of these
+-- the smallest and the largest time that a header can carry
 abbrev pub smallestTime : Time
 smallestTime = timeAt (negsuc (2 ^ 63 - 1)) (negsuc 359998)
 

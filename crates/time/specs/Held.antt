@@ -1,4 +1,4 @@
--- What private contracts of the ISO writer's parts speak of. Nothing here is needed to read what `Time::write_iso` ensures.
+-- What the private contracts of the ISO writer speak of. Nothing here is needed to read what `Time::write_iso` ensures.
 -- Assumes nothing.
 use Rattle.time.specs.Range.{InRange}
 use Rattle.time.specs.declared.format.Line.{Line}

@@ -1,6 +1,5 @@
--- Document 01, "Writing", ISO (RFC 3339's shape): `YYYY-MM-DDTHH:MM:SS+HH:MM`, 25 bytes. The fields show the clock at the full
--- offset, the offset is printed cut to minutes, with `-` if it is negative. In two layers: the line of a time as it is, then the time
--- that a line shows.
+-- ISO lines as they are written (RULES 9.4): `YYYY-MM-DDTHH:MM:SS+HH:MM`, 25 bytes. In two layers: the line of a time as it is, then
+-- the time that a line shows.
 -- Assumes nothing.
 use Prim.Native.Nat.{ℕ, _+_, _-_, _/_, _%_}
 use Prim.Native.Char.{code}
@@ -49,20 +48,20 @@ clockBefore c t =
 abbrev pub offsetBefore : ℤ → List ℕ → List ℕ
 offsetBefore o t = fieldBefore (signByte o) (wholeMinutes o / 60) (fieldBefore (code ":") (wholeMinutes o % 60) t)
 
--- all of a line: a clock, and the offset that it is at
+-- all of a line: a clock, and its offset
 abbrev pub clockLine : Clock → ℤ → List ℕ
 clockLine c o = dateBefore c (clockBefore c (offsetBefore o []))
 
 unfoldable pub lineBytes : Time → List ℕ
 lineBytes t = clockLine (lineClock t) (t .offset)
 
--- 7 if the size of the offset is 86400 or more, then 6 if the seconds are out of range; else the instant whose clock it is
+-- refused by 7 if the size of the offset is 86400 or more, then by 6 if the seconds are out of range; otherwise the instant
 unfoldable pub lineOf : Time → Line
 lineOf t =
     cond (leb 86400 (natAbs (t .offset))) (NoLine Offset)
     (cond (secondsInRange (t .seconds)) (At (instantOf t)) (NoLine Range))
 
--- 6 too if the local year is outside 0 to 9999, then 8
+-- refused by 6 too if the local year is outside 0 to 9999, then by 8 if the room is too short
 abbrev pub writtenAt : Clock → List ℕ → Written
 writtenAt c room =
     cond (leb 10000 (yearOf c) && ltb (yearOf c) 20000) (cond (ltb (length room) 25) (Refused Room) (Length 25)) (Refused Range)
@@ -75,7 +74,7 @@ unfoldable pub lineWritten : Time → List ℕ → Written
 lineWritten t room = written (lineOf t) room
 
 -- ---- the ISO line of a time
--- the time that a line shows: today the time itself
+-- the time that a line shows: for now the time itself
 unfoldable pub shown : Time → Time
 shown t = t
 

@@ -1,6 +1,5 @@
--- Document 01, "Numbers returned": the range. Seconds and offsets are counted from 0 where the calendar works on them: second 0 is
--- the first of 1 January of year -10000, so that 1 January 1970 begins at second 377,736,739,200; offset 0 is -93600, so that
--- UTC is 93,600.
+-- The range of times (RULES 2.4). Where the calendar works on them, seconds and offsets are counted from 0: second 0 is the first of
+-- 1 January of year -10000, so that 1970 begins at second 377,736,739,200; offsets are counted from -93600, so that UTC is 93,600.
 -- Assumes nothing.
 use Prim.Native.Nat.{ℕ, _≤_}
 use mathlib.Core.Bool.{Bool, cond, _&&_}
@@ -25,7 +24,7 @@ mostSeconds = pos 253402207200
 unfoldable pub secondsInRange : ℤ → Bool
 secondsInRange z = isIn leastSeconds mostSeconds z
 
--- current offset -93599 to 93599
+-- offset of a current time -93599 to 93599
 abbrev pub leastOffset : ℤ
 leastOffset = negsuc 93598
 
@@ -45,14 +44,14 @@ since1970 n = pos n -ℤ pos 377736739200
 abbrev pub timeOf : Instant → Time
 timeOf i = timeAt (since1970 (i .seconds)) (pos (i .offset) -ℤ pos 93600)
 
--- the other way, of a time in range: there neither sum is below 0
+-- the other way, of a time in range: neither sum is negative there
 abbrev pub instantOf : Time → Instant
 instantOf t = record { seconds = natAbs (t .seconds +ℤ pos 377736739200); offset = natAbs (t .offset +ℤ pos 93600) }
 
 unfoldable pub movedOf : Time → Moved
 movedOf t = cond (timeInRange t) (In (instantOf t)) Out
 
--- an instant as an answer: 6 if its time is out of range
+-- an instant as an answer: refused by 6 if its time is out of range
 unfoldable pub answerAt : Instant → Answer
 answerAt i = cond (timeInRange (timeOf i)) (At (timeOf i)) (Refused Range)
 

@@ -1,29 +1,30 @@
-// A buffer that holds the header of any time that has one. It is passed and returned by value, where gix-date borrows a struct.
+// A buffer with room for every header. It is passed and returned by value, where gix-date borrows it.
 ghost use mathlib.Core.Path.{_≡_};
 ghost use Rattle.time.specs.Buf.{storedOf};
 use crate::Time;
 use crate::Written;
 
-// The bytes of the widest header, that of `Time::MIN`; a buffer has as many.
+// How many bytes the widest header takes, that of `Time::MIN`. A buffer has as many.
 pub fn widest() -> usize
     ensures { λ r. ⌜ r ≡ 26 ⌝ }
 {
     Time::MIN.size()
 }
 
+// The bytes of the buffer, and how many of them the header that was last written takes.
 pub struct TimeBuf {
     pub bytes: [u8; 26],
     pub end: usize,
 }
 
-// What writing into a buffer answers, and the buffer after it.
+// The answer of a call that writes into a buffer, and the buffer after it.
 pub struct Stored {
     pub answer: Written,
     pub buf: TimeBuf,
 }
 
 // Writes the header of a time to the front of a buffer. An offset of 100 hours or more is refused by 7, where gix-date's `to_str`
-// panics, and the buffer comes back as it was. There is room for every other time.
+// panics, and the buffer is returned as it was. The header of every other time fits.
 pub fn to_str(t: Time, buf: TimeBuf) -> Stored
     ensures { λ r. ⌜ r ≡ storedOf t buf ⌝ }
 {

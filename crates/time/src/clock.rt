@@ -1,4 +1,4 @@
-// What the clock of an offset shows: a date, and a second of its day. An ISO line is written from it.
+// What a local clock shows: a date, and a second of its day. An ISO line is written from it.
 use calendar::Date;
 
 pub struct Clock {

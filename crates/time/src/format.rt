@@ -60,6 +60,7 @@ pub fn write_line_with(t: Time, months: &[u32], room: &mut [u8]) -> Written
     }
 }
 
+// The instant of a time's line, unless the time is refused.
 fn line_of(t: Time) -> Line
     ensures is { λ r. ⌜ r ≡ lineOf t ⌝ }
     ensures range { λ r. ⌜ LineInRange r ⌝ }
@@ -75,7 +76,7 @@ fn line_of(t: Time) -> Line
     Line::At(i)
 }
 
-// Writes the line of an instant, with this offset printed.
+// Writes the local clock of an instant, and this offset behind it.
 fn write_instant(months: &[u32], i: Instant, offset: i32, room: &mut [u8]) -> Written
     requires table { ⌜ IsMonths (now months) ⌝ }
     requires range { ⌜ InRange i ⌝ }
@@ -97,7 +98,7 @@ fn write_instant(months: &[u32], i: Instant, offset: i32, room: &mut [u8]) -> Wr
     Written::Length(LINE_LENGTH)
 }
 
-// The local clock of an instant in range.
+// The local clock of an instant.
 fn local_clock(months: &[u32], i: Instant) -> Clock
     requires table { ⌜ IsMonths (now months) ⌝ }
     requires range { ⌜ InRange i ⌝ }
@@ -122,7 +123,7 @@ fn put_field(b: u8, n: u64, end: usize, room: &mut [u8])
     decimal::put_byte(b, end - 2, room);
 }
 
-// `+HH:MM`, the last six bytes.
+// `+HH:MM`, the last six bytes of a line.
 fn put_offset(offset: i32, room: &mut [u8])
     requires { ⌜ (natAbs offset < 86400) × (25 ≤ length (now room)) ⌝ }
     ensures { λ _. ⌜ now (room .exit) ≡ take 19 (now (room .entry)) ++ offsetBefore offset (drop 25 (now (room .entry))) ⌝ }
@@ -132,7 +133,7 @@ fn put_offset(offset: i32, room: &mut [u8])
     put_field(write::sign_byte(offset), minutes / 60, 22, room);
 }
 
-// `THH:MM:SS`, the nine bytes before.
+// `THH:MM:SS`, the nine bytes before those.
 fn put_clock(c: Clock, room: &mut [u8])
     requires { ⌜ (c .second < 86400) × (19 ≤ length (now room)) ⌝ }
     ensures { λ _. ⌜ now (room .exit) ≡ take 10 (now (room .entry)) ++ clockBefore c (drop 19 (now (room .entry))) ⌝ }

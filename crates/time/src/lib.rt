@@ -1,5 +1,5 @@
-// A time, what readers and writers answer, and the two writers. A time is seconds since 1970 and an offset in seconds, each of any
-// value that its width holds. Only calendar arithmetic needs the smaller range (`range`).
+// Times (RULES 1.4), what readers and writers return (RULES 2), and the two writers (RULES 9). Seconds and offset may have any value that
+// their width holds. Only calendar arithmetic needs the smaller range of the module `range`.
 pub mod buf;
 pub mod clock;
 mod format;
@@ -58,22 +58,22 @@ impl Time {
         Time { seconds, offset }
     }
 
-    // How many decimal digits n has; zero has one.
+    // How many decimal digits n has. Zero has one.
     pub fn count_positive_digits(n: u64) -> usize
         ensures { λ r. ⌜ (r ≡ length (decimalOf n)) × (1 ≤ r) × (r ≤ 20) ⌝ }
     {
         decimal::count_digits(n)
     }
 
-    // The bytes that its header takes, also of an offset too wide to write: `MIN` takes the most, 26.
+    // How many bytes its header takes, also for an offset that is too wide to write. `MIN` takes the most, 26.
     pub fn size(self) -> usize
         ensures { λ r. ⌜ (r ≡ sizeOf (self .seconds)) × (r ≤ 26) × (6 < r) ⌝ }
     {
         decimal::signed_width(self.seconds) + 6
     }
 
-    // Writes its header to the front of `room`, and hands back how many bytes that took: `size`. Those beyond stay. An offset of
-    // 100 hours or more is refused by 7, a room too short by 8, and the room then holds what it held.
+    // Writes its header to the front of `room` and returns how many bytes that took, which is `size`. The bytes beyond them stay as
+    // they were. An offset of 100 hours or more is refused by 7, a room that is too short by 8. A refusal changes nothing in the room.
     pub fn write_to(self, room: &mut [u8]) -> Written
         ensures { λ r. ⌜ r ≡ headerWritten self (now (room .entry)) ⌝ }
         ensures { λ _. ⌜ now (room .exit) ≡ roomAfter (isWritten (headerWritten self (now (room .entry)))) (headerBytes self) (now (room .entry)) ⌝ }
@@ -91,9 +91,9 @@ impl Time {
         Written::Length(n)
     }
 
-    // Writes it as an ISO line, `2008-02-14T20:30:45-05:00`, to the front of `room`: 25 bytes, and those beyond stay. An offset of
-    // 24 hours or more is refused by 7, seconds out of range or a local year outside 0 to 9999 by 6, a room too short by 8, and
-    // the room then holds what it held.
+    // Writes it as an ISO line of 25 bytes, `2008-02-14T20:30:45-05:00`, to the front of `room`. The bytes beyond them stay as they
+    // were. An offset of 24 hours or more is refused by 7, seconds out of range or a local year outside 0 to 9999 by 6, a room that is
+    // too short by 8. A refusal changes nothing in the room.
     pub fn write_iso(self, room: &mut [u8]) -> Written
         ensures { λ r. ⌜ r ≡ isoWritten self (now (room .entry)) ⌝ }
         ensures { λ _. ⌜ now (room .exit) ≡ roomAfter (isWritten (isoWritten self (now (room .entry)))) (isoBytes self) (now (room .entry)) ⌝ }
@@ -101,7 +101,7 @@ impl Time {
         self.write_iso_with(&[], room)
     }
 
-    // The same with a borrowed table of months, the whole table or any leading part of it, for callers that write many lines.
+    // The same with a borrowed table of months, for callers that write many lines: the whole table, or any leading part of it.
     pub fn write_iso_with(self, months: &[u32], room: &mut [u8]) -> Written
         requires { ⌜ IsMonths (now months) ⌝ }
         ensures { λ r. ⌜ r ≡ isoWritten self (now (room .entry)) ⌝ }
@@ -115,23 +115,23 @@ impl Time {
 pub enum Refusal {
     // 1: the text holds a byte of 128 or more.
     NotAscii,
-    // 2: the text is not of the form asked.
+    // 2: the text is not of the form asked for.
     Form,
-    // 3: the text is relative, the current time is missing.
+    // 3: the text is relative and the current time is missing.
     Missing,
-    // 4: the current time's seconds or offset is out of range.
+    // 4: the text is relative and the current time's seconds or offset is out of range.
     Current,
-    // 5: the text is relative with too many pairs.
+    // 5: the text is relative with more than 32 pairs.
     Pairs,
-    // 6: a relative step leaves the range; or the ISO writer is given such seconds, or a local year outside 0 to 9999.
+    // 6: a relative step leaves the range; or the ISO writer is given seconds out of range or a local year outside 0 to 9999.
     Range,
-    // 7: a writer's offset is too wide.
+    // 7: a writer is given an offset that is too wide.
     Offset,
-    // 8: the room lent is shorter than the bytes to be written.
+    // 8: the room is shorter than the bytes to be written.
     Room,
 }
 
-// The number of a refusal in document 01.
+// The number of a refusal (RULES 2.1).
 pub fn number_of(r: Refusal) -> u8
     ensures { λ n. ⌜ n ≡ numberOf r ⌝ }
 {
@@ -147,19 +147,19 @@ pub fn number_of(r: Refusal) -> u8
     }
 }
 
-// What a reader answers.
+// What a reader returns.
 pub enum Answer {
     Time(Time),
     Refused(Refusal),
 }
 
-// What a writer answers: how many bytes it wrote, or why it wrote none.
+// What a writer returns: how many bytes it wrote, or why it wrote none.
 pub enum Written {
     Length(usize),
     Refused(Refusal),
 }
 
-// The current time, which only relative texts ask for.
+// The current time (RULES 1.5). Only relative dates use it.
 pub enum Now {
     Missing,
     At(Time),

@@ -1,4 +1,4 @@
-// The header writer's parts: `1745582210 +0200`. A header is written from its end to its front, so that nothing is moved.
+// Writes a header, `1745582210 +0200`, from its end to its front, so that nothing is moved (RULES 9.1).
 ghost use mathlib.Core.Path.{_≡_};
 ghost use mathlib.Core.List.{_∷_, _++_};
 ghost use Prim.Native.Nat.{_-_, _≤_, _<_};
@@ -9,13 +9,14 @@ ghost use Rattle.time.specs.Header.{signByte, headerSign, offsetBytes, s
 use crate::Time;
 use text::decimal;
 
+// The size of an offset: the offset without its sign.
 pub fn offset_size(offset: i32) -> u64
     ensures { λ r. ⌜ r ≡ natAbs offset ⌝ }
 {
     decimal::magnitude(offset as i64)
 }
 
-// By the sign of the offset itself: one of less than a minute below 0 is written `-0000`.
+// `-` for a negative offset, otherwise `+`. It is decided before seconds are dropped: offset -30 is written `-0000`.
 pub fn sign_byte(offset: i32) -> u8
     ensures { λ r. ⌜ r ≡ signByte offset ⌝ }
 {
@@ -32,7 +33,7 @@ pub fn header_sign(t: Time) -> u8
     sign_byte(t.offset)
 }
 
-// All of a header, in a room that holds it.
+// A whole header, to the front of a room that is long enough.
 pub fn put_header(seconds: i64, sign: u8, minutes: u64, end: usize, room: &mut [u8])
     requires { ⌜ (minutes < 6000) × (end ≡ sizeOf seconds) × (end ≤ length (now room)) ⌝ }
     ensures { λ _. ⌜ now (room .exit) ≡ signedBefore seconds (space ∷ offsetBytes sign minutes ++ drop end (now (room .entry))) ⌝ }

@@ -67,7 +67,7 @@ cast-day-number-3 c =
     let at-start = c .before .before .before .before .before in
     unsign w64 tt (from (param w64 (at-start .fits .d)) (d-from c))
 
--- the calendar tells
+-- the calendar says whether the date exists
 returns-5 : tie.Need-returns-5
 returns-5 c =
     let at-start = c .before .before .before .before .before .before in

@@ -1,5 +1,5 @@
 -- `iso::cut::find_marks` meets its contract. The invariant: from e on there is no space, no sign has a digit after it, and `digit`
--- says whether a digit stands at e. The measure is e.
+-- says whether a digit is at e. The measure is e.
 -- Assumes nothing.
 use mathlib.Core.Path.{_≡_, sym}
 use mathlib.Core.Bool.{false}

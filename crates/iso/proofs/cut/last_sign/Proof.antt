@@ -1,5 +1,5 @@
 -- `iso::cut::last_sign` meets its contract. The invariant: from e on no sign has a digit after it, and `digit` says whether a digit
--- stands at e. The measure is e.
+-- is at e. The measure is e.
 -- Assumes nothing.
 use mathlib.Core.Path.{_≡_, sym}
 use native.Mathlib.Omega.{arith}

@@ -1,4 +1,4 @@
--- `iso::cut::split_time_and_offset` meets its contract: the tests in the document's order.
+-- `iso::cut::split_time_and_offset` meets its contract: the tests are in the order of RULES 6.6.
 -- Assumes nothing.
 use mathlib.Core.Path.{sym, _∙_}
 use borrow.Author.Tests.{eq-eqb, ne-eqb}
@@ -18,7 +18,7 @@ returns c = (cut-nil _ (c .if1 .taken), search needs)
 returns-2 : tie.Need-returns-2
 returns-2 c = (cut-zed _ (eq-eqb _ _ (c .if2 .taken)), search needs)
 
--- the last space stands beyond place 5, and what follows opens with a sign
+-- the last space is beyond place 5, and what follows it starts with a sign
 returns-3 : tie.Need-returns-3
 unfolding lastPlace
 returns-3 c =

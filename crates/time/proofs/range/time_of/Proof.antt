@@ -14,7 +14,7 @@ use borrow.Author.Needs.{needs}
 use Rattle.time.proofs.range.time_of.Statement.{statement}
 use Rattle.time.proofs.range.time_of.Tie as tie
 
--- in range, as the test tells
+-- the test was passed, so the time is in range
 tested : (c : tie.Then1) → timeInRange (timeOf (c .before .before .args .i)) ≡ true
 tested c = sym (timeInRange-timeOf (c .before .before .args .i) (c .before .in-range .ensures)) ∙ c .if1 .taken
 

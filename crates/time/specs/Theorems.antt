@@ -1,0 +1,29 @@
+-- What the theorems about times speak of (docs/PROMISES.md): the times that a header can carry, and the shape of a line. No contract
+-- cites these.
+-- Assumes nothing.
+use Prim.Native.Char.{code}
+use Prim.Native.Nat.{ℕ, _<_}
+use mathlib.Core.Bool.{Bool, true, false, cond, _&&_}
+use mathlib.Core.List.{List, [], _∷_}
+use lib.Dec.{eqb}
+use lib.IntN.{natAbs}
+use mir.Syntax.{w64}
+use mir.Val.{SFits}
+use Rattle.text.specs.Bytes.{isDigit, isSign}
+use Rattle.time.specs.declared.Time.{Time}
+
+-- a time that a header can carry: seconds that 64 bits hold, an offset under 100 hours
+pub record HasHeader (t : Time) : Type 0 where
+  pub seconds : SFits w64 (t .seconds)
+  pub offset : natAbs (t .offset) < 360000
+
+-- whether a byte is as a pattern's byte says: `0` is any digit, `+` is either sign, any other byte is itself
+abbrev pub likeByte : ℕ → ℕ → Bool
+likeByte p b = cond (eqb p (code "0")) (isDigit b) (cond (eqb p (code "+")) (isSign b) (eqb b p))
+
+-- whether a text is as a pattern says, byte for byte
+abbrev pub isLike : List ℕ → List ℕ → Bool
+isLike [] [] = true
+isLike [] (b ∷ s) = false
+isLike (p ∷ ps) [] = false
+isLike (p ∷ ps) (b ∷ s) = likeByte p b && isLike ps s
