@@ -1,16 +1,21 @@
-// `whenread`: reads dates, a line each, from standard input, and writes an answer line for each to standard output.
+// The program `whenread` (RULES 10): it reads dates, one from each line of standard input, and
+// writes an answer line for each to standard output.
 //
-// Everything that can be said of an answer is said in `lines`; here are the reads and writes alone. A buffer holds the start of a
-// line that has no end yet, at most 4,097 bytes of it, and what was read behind it. No contract can say what is read or written;
-// `lines::cut` says which answers a buffer gives and what of it is kept, and `output-of-reads` in that crate's `proofs/Run.antt` says
-// that the answers come out the same however the input is cut into reads.
+// What the answers are is said in the contracts of `lines`; this crate only reads and writes. No
+// contract can say which bytes are read or written. `lines::cut` says which answers a buffer gives
+// and what is kept of it, and `output-of-reads` in `crates/lines/proofs/Run.antt` says that the
+// answers are the same however the input is cut into reads.
+//
+// The exit status is always 0: a Rattle program has no other. A read or a write that fails is
+// reported on standard error.
 mod arguments;
 mod help;
 mod streams;
 
-ghost use Prim.Native.Nat.{_≤_};
+ghost use Prim.Native.Nat.{_≤_, _<_};
 ghost use lib.ListN.{length};
 ghost use Rattle.calendar.specs.Table.{IsMonths};
+ghost use Rattle.lines.specs.Lines.{maxKept};
 use libc::STDIN_FILENO;
 use text::places;
 
@@ -25,10 +30,12 @@ fn main() {
     answer_all(&months, &mut buffer, &mut out);
 }
 
-// A proved loop has to end, and nothing says that an input does. So the loop counts its turns down, from a number that no run uses up.
+// Reads and answers to the end of the input. A proved loop has to end, and nothing says that an
+// input does, so the loop counts its turns down from a number that no run uses up. The buffer is
+// longer than what is kept of a line, so that there is always room for a read.
 fn answer_all(months: &[u32], buffer: &mut [u8], out: &mut [u8])
     requires { ⌜ IsMonths (now months) ⌝ }
-    requires { ⌜ 65536 ≤ length (now buffer) ⌝ }
+    requires { ⌜ maxKept < length (now buffer) ⌝ }
 {
     let mut held: usize = 0;
     let mut turns = u64::MAX;
@@ -42,17 +49,20 @@ fn answer_all(months: &[u32], buffer: &mut [u8], out: &mut [u8])
     }
 }
 
-// What a turn leaves: how many bytes at the front of the buffer are the start of a line, and whether it was the last.
+// What a turn leaves: how many bytes at the front of the buffer are the start of a line that has no
+// end yet, and whether this was the last turn.
 struct Turn {
     held: usize,
     is_last: bool,
 }
 
-// Reads once, behind what is held, and answers. The turn is the last where the input ends, and where a read or a write fails.
+// Reads once, behind what is held, and answers the lines that have their end. The turn is the last
+// one if the input has ended, or if the read or a write has failed. A read that has to be made again
+// leaves everything to the next turn.
 fn read_and_answer(months: &[u32], buffer: &mut [u8], held: usize, out: &mut [u8]) -> Turn
     requires { ⌜ IsMonths (now months) ⌝ }
-    requires { ⌜ (65536 ≤ length (now buffer)) × (held ≤ 4097) ⌝ }
-    ensures { λ r. ⌜ r .held ≤ 4097 ⌝ }
+    requires { ⌜ (maxKept < length (now buffer)) × (held ≤ maxKept) ⌝ }
+    ensures { λ r. ⌜ r .held ≤ maxKept ⌝ }
 {
     let got = libc::read(STDIN_FILENO, &mut buffer[held..]);
     if streams::has_failed(got) {
@@ -79,7 +89,7 @@ fn read_and_answer(months: &[u32], buffer: &mut [u8], held: usize, out: &mut [u8
     answer_held(months, buffer, end, out)
 }
 
-// A last line that lacks its end. There is none where nothing is held.
+// Answers a last line that lacks its end. If nothing is held, there is no such line.
 fn answer_last(months: &[u32], line: &[u8], out: &mut [u8])
     requires { ⌜ IsMonths (now months) ⌝ }
 {
@@ -90,11 +100,12 @@ fn answer_last(months: &[u32], line: &[u8], out: &mut [u8])
     streams::write_out(places::up_to(out, n));
 }
 
-// Answers the lines of the first `end` bytes, a room full of answers at a time, and keeps what is left.
+// Answers the lines of the first `end` bytes, as many at a time as have answers that fit into `out`,
+// and keeps what is left.
 fn answer_held(months: &[u32], buffer: &mut [u8], end: usize, out: &mut [u8]) -> Turn
     requires { ⌜ IsMonths (now months) ⌝ }
     requires { ⌜ end ≤ length (now buffer) ⌝ }
-    ensures { λ r. ⌜ r .held ≤ 4097 ⌝ }
+    ensures { λ r. ⌜ r .held ≤ maxKept ⌝ }
 {
     let mut from = 0;
     while from < end {

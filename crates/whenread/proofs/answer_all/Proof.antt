@@ -6,11 +6,12 @@ use Prim.Native.Nat.{_≤_}
 use native.Mathlib.Omega.{arith}
 use borrow.Author.Needs.{needs}
 use lib.ListN.{length}
+use Rattle.lines.specs.Lines.{maxKept}
 use Rattle.whenread.proofs.answer_all.Statement.{statement}
 use Rattle.whenread.proofs.answer_all.Tie as tie
 
 abbrev Inv-loop : tie.InvT-loop
-Inv-loop months buffer₀ out₀ held₀ turns₀ buffer out held turns = (held ≤ 4097) × (length buffer ≡ length buffer₀) × (length out ≡ length out₀)
+Inv-loop months buffer₀ out₀ held₀ turns₀ buffer out held turns = (held ≤ maxKept) × (length buffer ≡ length buffer₀) × (length out ≡ length out₀)
 
 abbrev μ-loop : tie.MeasureT-loop
 μ-loop months buffer₀ out₀ held₀ turns₀ buffer out held turns = turns
