@@ -11,7 +11,7 @@ use lib.Signed.{leZ}
 use Rattle.text.specs.Bytes.{ascii}
 use Rattle.text.specs.Number.{signedOf, fitSigned}
 use Rattle.text.specs.declared.number.Integer.{Integer}
-use Rattle.text.specs.declared.number.Integer.the-variants.{Is, NotOne}
+use Rattle.text.specs.declared.number.Integer.the-variants.{Is, Nothing}
 use Rattle.time.specs.Answers.{timeAt}
 use Rattle.time.specs.declared.Now.{Now}
 use Rattle.time.specs.declared.Refusal.{Refusal}
@@ -45,7 +45,7 @@ orElse a b = cond (isSettled a) a b
 -- a number of at least `least`, as seconds at offset 0
 abbrev pub numbered : ℤ → Integer → Answer
 numbered least (Is z) = cond (leZ least z) (Time (timeAt z (pos 0))) (Refused Form)
-numbered least NotOne = Refused Form
+numbered least Nothing = Refused Form
 
 -- the text as a 64-bit number of at least `least`
 unfoldable pub numberFrom : ℤ → List ℕ → Answer

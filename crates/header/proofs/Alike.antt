@@ -13,7 +13,7 @@ use lib.ListN.{getD}
 use Rattle.text.specs.Bytes.{isSpace, isDigit, ascii}
 use Rattle.text.specs.Words.{words}
 use Rattle.text.specs.declared.number.Integer.{Integer}
-use Rattle.text.specs.declared.number.Integer.the-variants.{Is, NotOne}
+use Rattle.text.specs.declared.number.Integer.the-variants.{Is, Nothing as NoInteger}
 use Rattle.text.proofs.Lists.{by-test}
 use Rattle.time.specs.Answers.{timeAt}
 use Rattle.time.specs.declared.Time.{Time}
@@ -26,7 +26,7 @@ use Rattle.header.specs.Theorems.{Alike}
 use Rattle.header.specs.declared.offset.Field.the-variants.{Byte}
 use Rattle.header.specs.declared.offset.Fields.{Fields}
 use Rattle.header.specs.declared.offset.Parsed.{Parsed}
-use Rattle.header.specs.declared.offset.Parsed.the-variants.{Offset, NoOffset}
+use Rattle.header.specs.declared.offset.Parsed.the-variants.{Offset, Nothing as NoOffset}
 use Rattle.header.proofs.Unsigned.{fieldsOf-signed}
 use Rattle.header.proofs.Readers.{headerOfWords-is, rawOfWords-is, no-colon-of-raw}
 
@@ -46,7 +46,7 @@ accepted l (Is z) (Offset f) t e =
     record { number = ap (λ (u : Time). Is (u .seconds)) same; fields = f; parsed = refl; offset-is = ap (λ (u : Time). u .offset) same })
     (λ a. let k = rw a at e in let q : _≡_ {A = ℕ} 0 1 = cc in absurd (omega arith))
 accepted l (Is z) NoOffset t e = let q : _≡_ {A = ℕ} 0 1 = cc in absurd (omega arith)
-accepted l NotOne p t e = let q : _≡_ {A = ℕ} 0 1 = cc in absurd (omega arith)
+accepted l NoInteger p t e = let q : _≡_ {A = ℕ} 0 1 = cc in absurd (omega arith)
 
 -- the offset that the header reader gives where raw gives o: o if a digit follows the sign, else 0
 abbrev keptOffset : List ℕ → ℤ → ℤ

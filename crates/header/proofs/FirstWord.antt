@@ -15,7 +15,7 @@ use Rattle.text.specs.Bytes.{isSpace, isSign}
 use Rattle.text.specs.Places.{run, leading, no, past}
 use Rattle.text.specs.Number.{signedOf, fitSigned, numeral}
 use Rattle.text.specs.declared.number.Integer.{Integer}
-use Rattle.text.specs.declared.number.Integer.the-variants.{Is, NotOne}
+use Rattle.text.specs.declared.number.Integer.the-variants.{Is, Nothing}
 use Rattle.text.specs.declared.number.LeadingInteger.{LeadingInteger}
 use Rattle.text.proofs.Lists.{by-test, drop-cons-add-one}
 use Rattle.text.proofs.Runs.{run-le-length, run-drop}
@@ -26,15 +26,15 @@ use Rattle.text.proofs.Plain.{no-space-of-isSign, no-space-of-isDigit}
 use Rattle.header.specs.Header.{number64, orElse, secondsOf}
 use Rattle.header.specs.Held.{endsAt, firstWord, LeadsWithNumber}
 
-orElse-NotOne : (i : Integer) → orElse i NotOne ≡ i
+orElse-NotOne : (i : Integer) → orElse i Nothing ≡ i
 orElse-NotOne (Is z) = refl
-orElse-NotOne NotOne = refl
+orElse-NotOne Nothing = refl
 
 orElse-self : (i : Integer) → orElse i i ≡ i
 orElse-self (Is z) = refl
-orElse-self NotOne = refl
+orElse-self Nothing = refl
 
-pub number64-nil : number64 [] ≡ NotOne
+pub number64-nil : number64 [] ≡ Nothing
 unfolding signedOf fitSigned
 number64-nil = refl
 
@@ -57,23 +57,23 @@ module _ (w : List ℕ) where
   Wholly true = length w ≤ numeral w
   Wholly false = numeral w < length w
 
-  number64-by : (whole : Bool) → Wholly whole → number64 w ≡ cond whole opening NotOne
+  number64-by : (whole : Bool) → Wholly whole → number64 w ≡ cond whole opening Nothing
   unfolding fitSigned
   number64-by true h = sym (ap number64 (take-all (numeral w) w h))
   number64-by false h = rw (signedOf-of-numeral-lt w h)
 
-  secondsOf-by : (whole : Bool) → Wholly whole → secondsOf w ≡ cond (whole || not (isSign (getD w 0 0))) opening NotOne
+  secondsOf-by : (whole : Bool) → Wholly whole → secondsOf w ≡ cond (whole || not (isSign (getD w 0 0))) opening Nothing
   unfolding secondsOf
   secondsOf-by whole h =
       by-test (isSign (getD w 0 0))
       (λ e. rw (leading-of-isSign w e, number64-nil, orElse-NotOne (number64 w), e) (signed whole h))
       (λ e. rw (← numeral-of-digits w e, number64-by whole h, e) (unsigned whole))
     where
-      signed : (whole : Bool) → Wholly whole → number64 w ≡ cond (whole || false) opening NotOne
+      signed : (whole : Bool) → Wholly whole → number64 w ≡ cond (whole || false) opening Nothing
       signed true k = number64-by true k
       signed false k = number64-by false k
 
-      unsigned : (whole : Bool) → orElse (cond whole opening NotOne) opening ≡ cond (whole || true) opening NotOne
+      unsigned : (whole : Bool) → orElse (cond whole opening Nothing) opening ≡ cond (whole || true) opening Nothing
       unsigned true = orElse-self opening
       unsigned false = refl
 
@@ -111,10 +111,10 @@ module _ (s : List ℕ) (r : LeadingInteger) (l : LeadsWithNumber s r) where
       let k : numeral (drop first s) + behind ≡ run (no isSpace) (drop first s) = rw (l .end-is, ← drop-drop (numeral (drop first s)) first s) (run-drop (no isSpace) (numeral (drop first s)) (drop first s) le-run) in
       by-test (eqb behind 0) (λ e. rw e (omega (arith, eqb-true behind 0 e))) (λ e. rw e (omega (arith, eqb-false behind 0 e)))
 
-  pub number64-firstWord : number64 (firstWord s) ≡ cond (endsAt s (r .end)) (r .number) NotOne
+  pub number64-firstWord : number64 (firstWord s) ≡ cond (endsAt s (r .end)) (r .number) Nothing
   unfolding endsAt
   number64-firstWord = rw (firstWord-is, ← opening-is) (number64-by word (eqb behind 0) wholly)
 
-  pub secondsOf-firstWord : secondsOf (firstWord s) ≡ cond (endsAt s (r .end) || not (r .signed)) (r .number) NotOne
+  pub secondsOf-firstWord : secondsOf (firstWord s) ≡ cond (endsAt s (r .end) || not (r .signed)) (r .number) Nothing
   unfolding endsAt
   secondsOf-firstWord = rw (firstWord-is, ← opening-is, ← signed-is) (secondsOf-by word (eqb behind 0) wholly)

@@ -14,9 +14,9 @@ use Rattle.ints.proofs.Machine.{In-of-natAbs}
 use Rattle.text.specs.Bytes.{isDigit, isSign}
 use Rattle.text.specs.Number.{signedOf, unsignedOf, plus}
 use Rattle.text.specs.declared.number.Number.{Number}
-use Rattle.text.specs.declared.number.Number.the-variants.{Value, Not}
+use Rattle.text.specs.declared.number.Number.the-variants.{Value, Nothing as NoNumber}
 use Rattle.text.specs.declared.number.Integer.{Integer}
-use Rattle.text.specs.declared.number.Integer.the-variants.{Is, NotOne}
+use Rattle.text.specs.declared.number.Integer.the-variants.{Is, Nothing as NoInteger}
 use Rattle.text.proofs.Lists.{by-test, take-two-drop}
 use Rattle.text.proofs.Digits.{unsignedOf-two-digits}
 use Rattle.text.proofs.Numbers.{Short, Below, signedOf-short, unsignedOf-below, pow-length-take, fit-take}
@@ -27,7 +27,7 @@ use Rattle.header.specs.Held.{Small, AllSmall, twoDigits}
 use Rattle.header.specs.declared.offset.Field.{Field}
 use Rattle.header.specs.declared.offset.Field.the-variants.{Signed, Byte}
 use Rattle.header.specs.declared.offset.Fields.{Fields}
-use Rattle.header.specs.declared.offset.Parsed.the-variants.{Offset, NoOffset}
+use Rattle.header.specs.declared.offset.Parsed.the-variants.{Offset, Nothing as NoOffset}
 
 pub le-of-fiveOrSeven : (n : ℕ) → fiveOrSeven n ≡ true → 5 ≤ n
 unfolding fiveOrSeven
@@ -37,7 +37,7 @@ le-of-fiveOrSeven n e = by-test (eqb n 5) (λ a. omega (arith, eqb-true n 5 a)) 
 -- the number of two bytes is below 100 in size
 abbrev TwoBytes : Integer → Type 0
 TwoBytes (Is z) = In (negsuc 98) (pos 99) z
-TwoBytes NotOne = Unit {0}
+TwoBytes NoInteger = Unit {0}
 
 two-bytes : (z : ℤ) → natAbs z < 100 → TwoBytes (Is z)
 two-bytes z h = In-of-natAbs 99 z (omega arith)
@@ -48,12 +48,12 @@ fieldOf-two-bytes Signed w at = go (signedOf (take 2 (drop at w))) (signedOf-sho
   where
     go : (x : Integer) → Short (10 ^ length (take 2 (drop at w))) x → TwoBytes x
     go (Is z) b = two-bytes z (omega (arith, pow-length-take (drop at w)))
-    go NotOne b = tt
+    go NoInteger b = tt
 fieldOf-two-bytes Byte w at = rw (fit-take 255 (drop at w) (omega arith)) (go (unsignedOf (take 2 (drop at w))) (unsignedOf-below (take 2 (drop at w))))
   where
     go : (x : Number) → Below (10 ^ length (take 2 (drop at w))) x → TwoBytes (plus x)
     go (Value n) b = two-bytes (pos n) (omega (arith, pow-length-take (drop at w)))
-    go Not b = tt
+    go NoNumber b = tt
 
 lastField-two-bytes : (by : Field) (w : List ℕ) → TwoBytes (lastField by w)
 unfolding lastField
@@ -61,9 +61,9 @@ lastField-two-bytes by w = by-test (eqb (length w) 7) (λ e. rw e (fieldOf-two-b
 
 together-small : (minus : Bool) (h m x : Integer) → TwoBytes h → TwoBytes m → TwoBytes x → AllSmall (together minus h m x)
 together-small minus (Is h) (Is m) (Is x) p q r = record { hours-in = p; minutes-in = q; seconds-in = r }
-together-small minus NotOne m x p q r = tt
-together-small minus (Is h) NotOne x p q r = tt
-together-small minus (Is h) (Is m) NotOne p q r = tt
+together-small minus NoInteger m x p q r = tt
+together-small minus (Is h) NoInteger x p q r = tt
+together-small minus (Is h) (Is m) NoInteger p q r = tt
 
 -- ---- two digits are a number of either kind
 module _ (w : List ℕ) (at : ℕ) (h : at + 2 ≤ length w) (x : isDigit (getD w at 0) ≡ true) (y : isDigit (getD w (at + 1) 0) ≡ true) where

@@ -15,7 +15,7 @@ use Rattle.text.specs.Places.{no, past, has, part}
 use Rattle.text.specs.Words.{words}
 use Rattle.text.specs.Number.{numeral}
 use Rattle.text.specs.declared.number.Integer.{Integer}
-use Rattle.text.specs.declared.number.Integer.the-variants.{NotOne}
+use Rattle.text.specs.declared.number.Integer.the-variants.{Nothing}
 use Rattle.text.specs.declared.number.LeadingInteger.{LeadingInteger}
 use Rattle.text.proofs.Lists.{by-test}
 use Rattle.text.proofs.Runs.{past-add, same-drop-past, has-drop-nil}
@@ -45,7 +45,7 @@ onlyWord-is [] = refl
 onlyWord-is (w ∷ []) = refl
 onlyWord-is (w ∷ v ∷ ws) = rw (lt-ltb 0 (suc (length ws)) (omega arith))
 
-whole-seconds : (whole other : Bool) (x : Integer) → cond whole (cond (whole || other) x NotOne) NotOne ≡ cond whole x NotOne
+whole-seconds : (whole other : Bool) (x : Integer) → cond whole (cond (whole || other) x Nothing) Nothing ≡ cond whole x Nothing
 whole-seconds true other x = refl
 whole-seconds false other x = refl
 
@@ -110,7 +110,7 @@ module _ (s : List ℕ) (r : LeadingInteger) (l : LeadsWithNumber s r) where
     -- ---- all that the pass finds
     pub FirstWords-of-pass : FirstWords s
         (record {
-          number = cond (endsAt s (r .end) || not (r .signed)) (r .number) NotOne;
+          number = cond (endsAt s (r .end) || not (r .signed)) (r .number) Nothing;
           whole = endsAt s (r .end);
           «offset_word» = cond (ltb (third s (r .end)) (length s)) nowhere (spanOf (second s (r .end)) (secondEnd s (r .end)));
           colon = has 58 s;

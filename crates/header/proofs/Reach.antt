@@ -15,7 +15,7 @@ use Rattle.text.specs.Places.{has}
 use Rattle.text.specs.Words.{words}
 use Rattle.text.specs.Decimal.{twoBefore}
 use Rattle.text.specs.declared.number.Integer.{Integer}
-use Rattle.text.specs.declared.number.Integer.the-variants.{Is, NotOne}
+use Rattle.text.specs.declared.number.Integer.the-variants.{Is, Nothing as NoInteger}
 use Rattle.text.proofs.Lists.{by-test}
 use Rattle.text.proofs.Decimals.{Between}
 use Rattle.time.specs.Answers.{timeAt}
@@ -29,7 +29,7 @@ use Rattle.header.specs.Header.{headerOf, headerOfWords, headerTime, hea
 use Rattle.header.specs.Theorems.{Seconds64, HeaderOffset, hoursIn, minutesIn, secondsIn, sevenBytes, headerWith}
 use Rattle.header.specs.declared.offset.Fields.{Fields}
 use Rattle.header.specs.declared.offset.Parsed.{Parsed}
-use Rattle.header.specs.declared.offset.Parsed.the-variants.{Offset, NoOffset}
+use Rattle.header.specs.declared.offset.Parsed.the-variants.{Offset, Nothing as NoOffset}
 use Rattle.header.proofs.Offsets.{headerOffset-all-small}
 use Rattle.header.proofs.ReadBack.{signByte-between, two-between, offsetOf-fieldsAre, headerOffset-seven, headerOf-signedBefore}
 
@@ -50,7 +50,7 @@ Within (Refused r) = Unit {0}
 headerTime-within : (i : Integer) (p : Parsed) → AllSmall p → Within (headerTime i p)
 headerTime-within (Is z) (Offset f) h = offsetOf-in f h
 headerTime-within (Is z) NoOffset h = zero-in
-headerTime-within NotOne p h = tt
+headerTime-within NoInteger p h = tt
 
 headerOfWords-within : (ws : List (List ℕ)) → Within (headerOfWords ws)
 unfolding headerOfWords

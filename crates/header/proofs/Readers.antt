@@ -12,7 +12,7 @@ use Rattle.text.specs.Places.{run, has, part}
 use Rattle.text.specs.Words.{words}
 use Rattle.text.specs.Number.{signedOf, fitSigned}
 use Rattle.text.specs.declared.number.Integer.{Integer}
-use Rattle.text.specs.declared.number.Integer.the-variants.{Is, NotOne}
+use Rattle.text.specs.declared.number.Integer.the-variants.{Is, Nothing as NoInteger}
 use Rattle.text.proofs.Numbers.{fitSigned-value}
 use Rattle.text.proofs.Texts.{Lacking, not-has-of-words, no-colon-of-between, between-of-signedOf}
 use Rattle.time.specs.declared.Answer.the-variants.{Refused}
@@ -25,14 +25,14 @@ use Rattle.header.specs.declared.offset.Field.{Field}
 use Rattle.header.specs.declared.offset.Field.the-variants.{Byte}
 use Rattle.header.specs.declared.offset.Fields.{Fields}
 use Rattle.header.specs.declared.offset.Parsed.{Parsed}
-use Rattle.header.specs.declared.offset.Parsed.the-variants.{Offset, NoOffset}
+use Rattle.header.specs.declared.offset.Parsed.the-variants.{Offset, Nothing as NoOffset}
 use Rattle.header.specs.declared.walk.First.{First}
 use Rattle.header.specs.declared.walk.Walked.the-variants.{Words}
 use Rattle.header.proofs.FirstWord.{number64-nil}
 use Rattle.header.proofs.Unsigned.{fieldsOf-some, no-colon-of-fieldsOf}
 
 -- ---- from the first word and the only other
-secondsOf-nil : secondsOf [] ≡ NotOne
+secondsOf-nil : secondsOf [] ≡ NoInteger
 unfolding secondsOf run signedOf fitSigned
 secondsOf-nil = refl
 
@@ -72,7 +72,7 @@ no-colon-of-raw s z f n p = not-has-of-words 58 isSpace refl s (lacking (words i
 rawTime-NoOffset : (l : Limits) (i : Integer) (p : Parsed) → ((z : ℤ) (f : Fields) → i ≡ Is z → p ≡ Offset f → ⊥) → rawTime l i p ≡ rawTime l i NoOffset
 rawTime-NoOffset l (Is z) (Offset f) never = absurd (never z f refl refl)
 rawTime-NoOffset l (Is z) NoOffset never = refl
-rawTime-NoOffset l NotOne p never = refl
+rawTime-NoOffset l NoInteger p never = refl
 
 rawTime-of-colon : (l : Limits) (s : List ℕ) (colon : Bool) → colon ≡ has 58 s
     → rawTime l (number64 (firstWord s)) (fieldsOf Byte (secondWord s)) ≡ rawTime l (number64 (firstWord s)) (fieldsOf Byte (cond colon [] (secondWord s)))
@@ -89,6 +89,6 @@ module _ (s : List ℕ) (f : First) (w : WordsRead s (Words f)) where
   unfolding headerOf
   headerOf-of-words e = rw (w .0, sym (w .1 .colon-is) ∙ e, w .1 .number-is, w .1 .offset-is, e) (headerOfWords-is (words isSpace s))
 
-  pub rawOf-of-words : (l : Limits) → rawOf l s ≡ rawTime l (cond (f .whole) (f .number) NotOne) (fieldsOf Byte (part s (f .«offset_word»)))
+  pub rawOf-of-words : (l : Limits) → rawOf l s ≡ rawTime l (cond (f .whole) (f .number) NoInteger) (fieldsOf Byte (part s (f .«offset_word»)))
   unfolding rawOf
   rawOf-of-words l = rw (w .0, w .1 .whole-is, w .1 .offset-is) (rawOfWords-is l (words isSpace s) ∙ rawTime-of-colon l s (f .colon) (w .1 .colon-is))

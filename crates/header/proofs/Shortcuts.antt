@@ -23,7 +23,7 @@ use Rattle.header.specs.Raw.{Limits, rawTime, rawOf}
 use Rattle.header.specs.Held.{Small, LeadsWithNumber, usualOf, endsAt, spanOf, WordsRead}
 use Rattle.header.specs.declared.offset.Field.the-variants.{Byte}
 use Rattle.header.specs.declared.offset.Fields.{Fields}
-use Rattle.header.specs.declared.offset.Parsed.the-variants.{Offset, NoOffset}
+use Rattle.header.specs.declared.offset.Parsed.the-variants.{Offset, Nothing}
 use Rattle.header.specs.declared.walk.First.{First}
 use Rattle.header.specs.declared.walk.Walked.the-variants.{Words}
 use Rattle.header.proofs.FirstWord.{endsAt-of-lt, endsAt-of-le}
@@ -118,8 +118,8 @@ module _ (s : List ℕ) (r : LeadingInteger) (l : LeadsWithNumber s r) where
     no-second : part s word-bounds ≡ []
     no-second = rw (drop-of-length-le s {i = second s (r .end)} second-le) (take-nil (secondEnd s (r .end) - second s (r .end)))
 
-    pub headerOf-of-alone : headerOf s ≡ headerTime (r .number) NoOffset
+    pub headerOf-of-alone : headerOf s ≡ headerTime (r .number) Nothing
     headerOf-of-alone = headerOf-of-words s _ alone-read refl ∙ rw (no-second, headerOffset-nil)
 
-    pub rawOf-of-alone : (limits : Limits) → rawOf limits s ≡ rawTime limits (r .number) NoOffset
+    pub rawOf-of-alone : (limits : Limits) → rawOf limits s ≡ rawTime limits (r .number) Nothing
     rawOf-of-alone limits = rawOf-of-words s _ alone-read limits ∙ rw (no-second, fieldsOf-nil)

@@ -15,16 +15,16 @@ use Rattle.text.specs.Bytes.{isSign}
 use Rattle.text.specs.Places.{has}
 use Rattle.text.specs.Number.{unsignedOf, plus}
 use Rattle.text.specs.declared.number.Number.{Number}
-use Rattle.text.specs.declared.number.Number.the-variants.{Value, Not}
+use Rattle.text.specs.declared.number.Number.the-variants.{Value, Nothing as NoNumber}
 use Rattle.text.specs.declared.number.Integer.{Integer}
-use Rattle.text.specs.declared.number.Integer.the-variants.{Is, NotOne}
+use Rattle.text.specs.declared.number.Integer.the-variants.{Is, Nothing as NoInteger}
 use Rattle.text.proofs.Lists.{by-test}
 use Rattle.text.proofs.Runs.{has-nil}
 use Rattle.text.proofs.Numbers.{fit-take}
 use Rattle.header.specs.Offset.{fiveOrSeven, fieldOf, lastField, together, fieldsOf}
 use Rattle.header.specs.declared.offset.Field.the-variants.{Signed, Byte}
 use Rattle.header.specs.declared.offset.Fields.{Fields}
-use Rattle.header.specs.declared.offset.Parsed.the-variants.{Offset, NoOffset}
+use Rattle.header.specs.declared.offset.Parsed.the-variants.{Offset, Nothing as NoOffset}
 use Rattle.text.proofs.Texts.{not-has-cons, not-has-cut, no-colon-of-between, between-of-unsignedOf, signedOf-of-unsignedOf}
 use Rattle.header.proofs.Offsets.{fieldsOf-of-tests, fieldsOf-of-length, fieldsOf-of-sign}
 
@@ -43,7 +43,7 @@ field-same w at z e = go (unsignedOf (bytesAt w at)) refl (rw (fit-take 255 (dro
   where
     go : (x : Number) → unsignedOf (bytesAt w at) ≡ x → plus x ≡ Is z → Same w at z
     go (Value n) u k = record { signed = signedOf-of-unsignedOf (bytesAt w at) n u ∙ k; plain = no-colon-of-between 43 (bytesAt w at) (between-of-unsignedOf n (bytesAt w at) u) }
-    go Not u k = let q : _≡_ {A = ℕ} 0 1 = cc in absurd (omega arith)
+    go NoNumber u k = let q : _≡_ {A = ℕ} 0 1 = cc in absurd (omega arith)
 
 last-same : (w : List ℕ) (z : ℤ) → lastField Byte w ≡ Is z → lastField Signed w ≡ Is z
 unfolding lastField
@@ -53,9 +53,9 @@ together-same : (minus : Bool) (h m x : Integer) {h′ m′ x′ : Integer} (f :
     → together minus h m x ≡ Offset f → ((z : ℤ) → h ≡ Is z → h′ ≡ Is z) → ((z : ℤ) → m ≡ Is z → m′ ≡ Is z) → ((z : ℤ) → x ≡ Is z → x′ ≡ Is z)
     → together minus h′ m′ x′ ≡ Offset f
 together-same minus (Is h) (Is m) (Is x) f e p q r = rw (p h refl, q m refl, r x refl) e
-together-same minus NotOne m x f e p q r = let z : _≡_ {A = ℕ} 0 1 = cc in absurd (omega arith)
-together-same minus (Is h) NotOne x f e p q r = let z : _≡_ {A = ℕ} 0 1 = cc in absurd (omega arith)
-together-same minus (Is h) (Is m) NotOne f e p q r = let z : _≡_ {A = ℕ} 0 1 = cc in absurd (omega arith)
+together-same minus NoInteger m x f e p q r = let z : _≡_ {A = ℕ} 0 1 = cc in absurd (omega arith)
+together-same minus (Is h) NoInteger x f e p q r = let z : _≡_ {A = ℕ} 0 1 = cc in absurd (omega arith)
+together-same minus (Is h) (Is m) NoInteger f e p q r = let z : _≡_ {A = ℕ} 0 1 = cc in absurd (omega arith)
 
 -- all three are numbers
 record Numbers (h m x : Integer) : Type 0 where
@@ -68,9 +68,9 @@ record Numbers (h m x : Integer) : Type 0 where
 
 together-numbers : (minus : Bool) (h m x : Integer) (f : Fields) → together minus h m x ≡ Offset f → Numbers h m x
 together-numbers minus (Is h) (Is m) (Is x) f e = record { hours = h; hours-is = refl; minutes = m; minutes-is = refl; seconds = x; seconds-is = refl }
-together-numbers minus NotOne m x f e = let z : _≡_ {A = ℕ} 0 1 = cc in absurd (omega arith)
-together-numbers minus (Is h) NotOne x f e = let z : _≡_ {A = ℕ} 0 1 = cc in absurd (omega arith)
-together-numbers minus (Is h) (Is m) NotOne f e = let z : _≡_ {A = ℕ} 0 1 = cc in absurd (omega arith)
+together-numbers minus NoInteger m x f e = let z : _≡_ {A = ℕ} 0 1 = cc in absurd (omega arith)
+together-numbers minus (Is h) NoInteger x f e = let z : _≡_ {A = ℕ} 0 1 = cc in absurd (omega arith)
+together-numbers minus (Is h) (Is m) NoInteger f e = let z : _≡_ {A = ℕ} 0 1 = cc in absurd (omega arith)
 
 -- ---- an offset that raw accepts
 module _ (w : List ℕ) (f : Fields) (e : fieldsOf Byte w ≡ Offset f) where

@@ -19,7 +19,7 @@ use Rattle.header.specs.Held.{twoDigits, isUsual, usualOf}
 use Rattle.header.specs.declared.offset.Field.{Field}
 use Rattle.header.specs.declared.offset.Field.the-variants.{Signed, Byte}
 use Rattle.header.specs.declared.offset.Fields.{Fields}
-use Rattle.header.specs.declared.offset.Parsed.the-variants.{Offset, NoOffset}
+use Rattle.header.specs.declared.offset.Parsed.the-variants.{Offset, Nothing}
 use Rattle.header.proofs.Offsets.{fieldOf-of-digits, fieldsOf-of-tests}
 
 -- ---- its bytes
@@ -51,11 +51,11 @@ module _ (s : List ℕ) (at : ℕ) where
   unfolding usualOf isUsual
   usualOf-of-tests n e = rw (eq-eqb (length s) (at + 6) n, e)
 
-  pub usualOf-of-no-test : tests ≡ false → usualOf s at ≡ NoOffset
+  pub usualOf-of-no-test : tests ≡ false → usualOf s at ≡ Nothing
   unfolding usualOf isUsual
   usualOf-of-no-test e = by-test (eqb (length s) (at + 6)) (λ n. rw (n, e)) (λ n. rw n)
 
-  pub usualOf-of-length : (length s ≡ at + 6 → ⊥) → usualOf s at ≡ NoOffset
+  pub usualOf-of-length : (length s ≡ at + 6 → ⊥) → usualOf s at ≡ Nothing
   unfolding usualOf isUsual
   usualOf-of-length n = rw (ne-eqb (length s) (at + 6) n)
 

@@ -12,7 +12,7 @@ use Rattle.text.specs.Places.{has, leading}
 use Rattle.text.specs.Words.{words}
 use Rattle.text.specs.Number.{signedOf, fitSigned}
 use Rattle.text.specs.declared.number.Integer.{Integer}
-use Rattle.text.specs.declared.number.Integer.the-variants.{Is, NotOne}
+use Rattle.text.specs.declared.number.Integer.the-variants.{Is, Nothing as NoInteger}
 use Rattle.time.specs.Answers.{timeAt}
 use Rattle.time.specs.declared.Answer.{Answer}
 use Rattle.time.specs.declared.Answer.the-variants.{Time, Refused}
@@ -20,7 +20,7 @@ use Rattle.time.specs.declared.Refusal.the-variants.{NotAscii, Form}
 use Rattle.header.specs.Offset.{onlyWord, fieldsOf, readTime}
 use Rattle.header.specs.declared.offset.Field.the-variants.{Signed}
 use Rattle.header.specs.declared.offset.Parsed.{Parsed}
-use Rattle.header.specs.declared.offset.Parsed.the-variants.{Offset, NoOffset}
+use Rattle.header.specs.declared.offset.Parsed.the-variants.{Offset, Nothing as NoOffset}
 
 -- a 64-bit number (RULES 4.2)
 abbrev pub number64 : List ℕ → Integer
@@ -29,7 +29,7 @@ number64 w = fitSigned (2 ^ 63) (signedOf w)
 -- the first if it is a number, else the other
 abbrev pub orElse : Integer → Integer → Integer
 orElse (Is z) other = Is z
-orElse NotOne other = other
+orElse NoInteger other = other
 
 -- RULES 5.2: the first word is a 64-bit number, or else its leading digits are one
 unfoldable pub secondsOf : List ℕ → Integer
@@ -44,7 +44,7 @@ headerOffset w = cond (isDigit (getD w 1 0)) (fieldsOf Signed w) NoOffset
 abbrev pub headerTime : Integer → Parsed → Answer
 headerTime (Is s) (Offset f) = Time (readTime s f)
 headerTime (Is s) NoOffset = Time (timeAt s (pos 0))
-headerTime NotOne p = Refused Form
+headerTime NoInteger p = Refused Form
 
 -- RULES 5.3: without a second word, or with a third, the offset is 0. Without any word the answer is 2
 unfoldable pub headerOfWords : List (List ℕ) → Answer

@@ -14,7 +14,7 @@ use Rattle.text.specs.Bytes.{isSpace, isDigit, isSign, ascii}
 use Rattle.text.specs.Places.{run, no, past, has, part}
 use Rattle.text.specs.Words.{words}
 use Rattle.text.specs.Number.{LeadsWith}
-use Rattle.text.specs.declared.number.Integer.the-variants.{NotOne}
+use Rattle.text.specs.declared.number.Integer.the-variants.{Nothing as NoInteger}
 use Rattle.text.specs.declared.number.LeadingInteger.{LeadingInteger}
 use Rattle.text.specs.declared.words.Span.{Span}
 use Rattle.header.specs.Offset.{secondWord, fieldsOf}
@@ -22,7 +22,7 @@ use Rattle.header.specs.Header.{number64, secondsOf}
 use Rattle.header.specs.declared.offset.Field.the-variants.{Byte}
 use Rattle.header.specs.declared.offset.Fields.{Fields}
 use Rattle.header.specs.declared.offset.Parsed.{Parsed}
-use Rattle.header.specs.declared.offset.Parsed.the-variants.{Offset, NoOffset}
+use Rattle.header.specs.declared.offset.Parsed.the-variants.{Offset, Nothing as NoOffset}
 use Rattle.header.specs.declared.walk.First.{First}
 use Rattle.header.specs.declared.walk.Walked.{Walked}
 use Rattle.header.specs.declared.walk.Walked.the-variants.{Words, NotAscii}
@@ -76,7 +76,7 @@ hasColon s = has (code ":") s
 -- what one pass finds. A `:` ends every scan, so if there is one the bounds of the second word are empty
 pub record FirstWords (s : List ℕ) (f : First) : Type 0 where
   pub number-is : f .number ≡ secondsOf (firstWord s)
-  pub whole-is : cond (f .whole) (f .number) NotOne ≡ number64 (firstWord s)
+  pub whole-is : cond (f .whole) (f .number) NoInteger ≡ number64 (firstWord s)
   pub colon-is : f .colon ≡ hasColon s
   pub offset-is : part s (f .«offset_word») ≡ cond (f .colon) [] (secondWord s)
 

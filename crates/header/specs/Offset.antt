@@ -13,14 +13,14 @@ use Rattle.text.specs.Bytes.{isSpace, isSign}
 use Rattle.text.specs.Words.{words}
 use Rattle.text.specs.Number.{signedOf, unsignedOf, fit, plus}
 use Rattle.text.specs.declared.number.Integer.{Integer}
-use Rattle.text.specs.declared.number.Integer.the-variants.{Is, NotOne}
+use Rattle.text.specs.declared.number.Integer.the-variants.{Is, Nothing as NoInteger}
 use Rattle.time.specs.Answers.{timeAt}
 use Rattle.time.specs.declared.Time.{Time}
 use Rattle.header.specs.declared.offset.Field.{Field}
 use Rattle.header.specs.declared.offset.Field.the-variants.{Signed, Byte}
 use Rattle.header.specs.declared.offset.Fields.{Fields}
 use Rattle.header.specs.declared.offset.Parsed.{Parsed}
-use Rattle.header.specs.declared.offset.Parsed.the-variants.{Offset, NoOffset}
+use Rattle.header.specs.declared.offset.Parsed.the-variants.{Offset, Nothing as NoOffset}
 
 -- of the words past the first: the second word, if there is no third. Otherwise it is the empty text, which is no offset
 abbrev pub onlyWord : List (List ℕ) → List ℕ
@@ -48,9 +48,9 @@ lastField by w = cond (eqb (length w) 7) (fieldOf by w 5) (Is (pos 0))
 -- hours, minutes and seconds after a sign, if all are numbers
 abbrev pub together : Bool → Integer → Integer → Integer → Parsed
 together minus (Is h) (Is m) (Is x) = Offset (record { minus = minus; hours = h; minutes = m; seconds = x })
-together minus NotOne m x = NoOffset
-together minus (Is h) NotOne x = NoOffset
-together minus (Is h) (Is m) NotOne = NoOffset
+together minus NoInteger m x = NoOffset
+together minus (Is h) NoInteger x = NoOffset
+together minus (Is h) (Is m) NoInteger = NoOffset
 
 -- 5 or 7 bytes, a sign, and the fields
 unfoldable pub fieldsOf : Field → List ℕ → Parsed

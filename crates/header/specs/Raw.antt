@@ -10,7 +10,7 @@ use Rattle.ints.specs.Equal.{eqZ}
 use Rattle.text.specs.Bytes.{isSpace, ascii}
 use Rattle.text.specs.Words.{words}
 use Rattle.text.specs.declared.number.Integer.{Integer}
-use Rattle.text.specs.declared.number.Integer.the-variants.{Is, NotOne}
+use Rattle.text.specs.declared.number.Integer.the-variants.{Is, Nothing as NoInteger}
 use Rattle.time.specs.declared.Answer.{Answer}
 use Rattle.time.specs.declared.Answer.the-variants.{Time, Refused}
 use Rattle.time.specs.declared.Refusal.the-variants.{NotAscii, Form}
@@ -19,7 +19,7 @@ use Rattle.header.specs.Header.{number64}
 use Rattle.header.specs.declared.offset.Field.the-variants.{Byte}
 use Rattle.header.specs.declared.offset.Fields.{Fields}
 use Rattle.header.specs.declared.offset.Parsed.{Parsed}
-use Rattle.header.specs.declared.offset.Parsed.the-variants.{Offset, NoOffset}
+use Rattle.header.specs.declared.offset.Parsed.the-variants.{Offset, Nothing as NoOffset}
 use Rattle.header.specs.declared.raw.Rule.{Rule}
 use Rattle.header.specs.declared.raw.Rule.the-variants.{One}
 
@@ -48,7 +48,7 @@ allows l f = l .hours (f .hours) && l .minutes (f .minutes) && eqZ (f .seconds) 
 abbrev pub rawTime : Limits → Integer → Parsed → Answer
 rawTime l (Is s) (Offset f) = cond (allows l f) (Time (readTime s f)) (Refused Form)
 rawTime l (Is s) NoOffset = Refused Form
-rawTime l NotOne p = Refused Form
+rawTime l NoInteger p = Refused Form
 
 -- RULES 5.6: exactly two words, of which the first is a 64-bit number and the second an offset; RULES 5.7: its fields are
 -- unsigned 8-bit numbers

@@ -33,7 +33,7 @@ pub fn parse_header(s: &[u8]) -> Answer
     let number = opening.number;
     let end = opening.end;
     if end == s.len() {
-        return header_time(number, Parsed::NoOffset);
+        return header_time(number, Parsed::Nothing);
     }
     let usual = offset::usual_fields(s, end);
     let Parsed::Offset(f) = usual else {
@@ -69,7 +69,7 @@ fn header_time(n: Integer, p: Parsed) -> Answer
     };
     match p {
         Parsed::Offset(f) => Answer::Time(offset::read_time(z, f)),
-        Parsed::NoOffset => without_offset(Time::new(z, 0)),
+        Parsed::Nothing => without_offset(Time::new(z, 0)),
     }
 }
 
@@ -85,10 +85,10 @@ fn parse_offset(w: &[u8]) -> Parsed
     ensures { λ r. ⌜ r ≡ headerOffset (now (w .entry)) ⌝ }
 {
     if w.len() < 2 {
-        return Parsed::NoOffset;
+        return Parsed::Nothing;
     }
     if bytes::is_digit(w[1]) {
         return offset::parse_fields(w, Field::Signed);
     }
-    Parsed::NoOffset
+    Parsed::Nothing
 }

@@ -38,7 +38,7 @@ pub struct Fields {
 // The fields of an offset, or no offset.
 pub enum Parsed {
     Offset(Fields),
-    NoOffset,
+    Nothing,
 }
 
 // The fields of the usual tail, which follows the number of nearly every date: a space, a sign,
@@ -66,9 +66,9 @@ pub fn usual_fields(s: &[u8], at: usize) -> Parsed
                 seconds: 0,
             });
         }
-        return Parsed::NoOffset;
+        return Parsed::Nothing;
     }
-    Parsed::NoOffset
+    Parsed::Nothing
 }
 
 // The fields of the word w, if it is an offset.
@@ -79,15 +79,15 @@ pub fn parse_fields(w: &[u8], by: Field) -> Parsed
         if bytes::is_sign(w[0]) {
             let hours = parse_field(w, 1, by);
             let Integer::Is(h) = hours else {
-                return Parsed::NoOffset;
+                return Parsed::Nothing;
             };
             let minutes = parse_field(w, 3, by);
             let Integer::Is(m) = minutes else {
-                return Parsed::NoOffset;
+                return Parsed::Nothing;
             };
             let seconds = last_field(w, by);
             let Integer::Is(x) = seconds else {
-                return Parsed::NoOffset;
+                return Parsed::Nothing;
             };
             return Parsed::Offset(Fields {
                 minus: w[0] == b'-',
@@ -96,9 +96,9 @@ pub fn parse_fields(w: &[u8], by: Field) -> Parsed
                 seconds: x,
             });
         }
-        return Parsed::NoOffset;
+        return Parsed::Nothing;
     }
-    Parsed::NoOffset
+    Parsed::Nothing
 }
 
 fn five_or_seven(n: usize) -> bool
@@ -154,7 +154,7 @@ fn as_integer(n: Number) -> Integer
 {
     match n {
         Number::Value(v) => Integer::Is(v as i64),
-        Number::Not => Integer::NotOne,
+        Number::Nothing => Integer::Nothing,
     }
 }
 

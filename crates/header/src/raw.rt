@@ -37,7 +37,7 @@ fn parse_raw_by(s: &[u8], rule: Rule) -> Answer
     let number = opening.number;
     let end = opening.end;
     if end == s.len() {
-        return raw_time(rule, number, Parsed::NoOffset);
+        return raw_time(rule, number, Parsed::Nothing);
     }
     let usual = offset::usual_fields(s, end);
     let Parsed::Offset(f) = usual else {

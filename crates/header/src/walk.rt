@@ -8,7 +8,7 @@ ghost use mathlib.Core.Bool.{cond, not, _||_};
 ghost use lib.ListN.{drop};
 ghost use Rattle.text.specs.Bytes.{isSpace, ascii as asciiOf};
 ghost use Rattle.text.specs.Places.{past};
-ghost use Rattle.text.specs.declared.number.Integer.the-variants.{NotOne};
+ghost use Rattle.text.specs.declared.number.Integer.the-variants.{Nothing};
 ghost use Rattle.header.specs.Held.{endsAt, hasColon, nowhere, spanOf, LeadsWithNumber, WordsRead};
 use text::bytes;
 use text::number;
@@ -96,16 +96,16 @@ fn ends_at(s: &[u8], at: usize) -> bool
 // The number as a header reads it (RULES 5.2): a number with a sign counts only if it is the whole
 // word, and digits count whatever follows them.
 fn number_in(n: Integer, whole: bool, signed: bool) -> Integer
-    ensures { λ r. ⌜ r ≡ cond (whole || not signed) n NotOne ⌝ }
+    ensures { λ r. ⌜ r ≡ cond (whole || not signed) n Nothing ⌝ }
 {
     match n {
         Integer::Is(z) => {
             if whole | !signed {
                 return Integer::Is(z);
             }
-            Integer::NotOne
+            Integer::Nothing
         }
-        Integer::NotOne => Integer::NotOne,
+        Integer::Nothing => Integer::Nothing,
     }
 }
 

@@ -13,9 +13,9 @@ use Rattle.text.specs.Number.{signedOf, fitSigned}
 use Rattle.text.specs.Places.{firstPlace, before}
 use Rattle.text.specs.Trim.{trim}
 use Rattle.text.specs.declared.number.Number.{Number}
-use Rattle.text.specs.declared.number.Number.the-variants.{Value, Not}
+use Rattle.text.specs.declared.number.Number.the-variants.{Value, Nothing as NoNumber}
 use Rattle.text.specs.declared.number.Integer.{Integer}
-use Rattle.text.specs.declared.number.Integer.the-variants.{Is, NotOne}
+use Rattle.text.specs.declared.number.Integer.the-variants.{Is, Nothing as NoInteger}
 use Rattle.text.proofs.Lists.{by-test, both, take-length-sub-drop, getD-of-length-le}
 use Rattle.iso.specs.Parts.{two, int32}
 use Rattle.iso.specs.Cut.{cut, timeText, offsetText}
@@ -25,32 +25,32 @@ use Rattle.iso.specs.Forms.{allFields, fieldsOf, isSeparator, flexible, 
 use Rattle.iso.specs.Held.{FieldsIn}
 use Rattle.iso.specs.declared.forms.Local.{Local}
 use Rattle.iso.specs.declared.forms.Fields.{Fields}
-use Rattle.iso.specs.declared.forms.Fields.the-variants.{Are, Missing}
+use Rattle.iso.specs.declared.forms.Fields.the-variants.{Are, Nothing as NoFields}
 use Rattle.text.proofs.FirstPlaces.{getD-firstPlace, firstPlace-is, firstPlace-is-not}
 
 -- ---- all five, or none
 module _ (y m d : Integer) (t : Number) (o : Integer) where
-  pub allFields-not-year : y ≡ NotOne → Missing ≡ allFields y m d t o
+  pub allFields-not-year : y ≡ NoInteger → NoFields ≡ allFields y m d t o
   unfolding allFields
   allFields-not-year a = rw a
 
   module _ {y′ : ℤ} (a : y ≡ Is y′) where
-    pub allFields-not-month : m ≡ NotOne → Missing ≡ allFields y m d t o
+    pub allFields-not-month : m ≡ NoInteger → NoFields ≡ allFields y m d t o
     unfolding allFields
     allFields-not-month b = rw (a, b)
 
     module _ {m′ : ℤ} (b : m ≡ Is m′) where
-      pub allFields-not-day : d ≡ NotOne → Missing ≡ allFields y m d t o
+      pub allFields-not-day : d ≡ NoInteger → NoFields ≡ allFields y m d t o
       unfolding allFields
       allFields-not-day e = rw (a, b, e)
 
       module _ {d′ : ℤ} (e : d ≡ Is d′) where
-        pub allFields-not-time : t ≡ Not → Missing ≡ allFields y m d t o
+        pub allFields-not-time : t ≡ NoNumber → NoFields ≡ allFields y m d t o
         unfolding allFields
         allFields-not-time f = rw (a, b, e, f)
 
         module _ {t′ : ℕ} (f : t ≡ Value t′) where
-          pub allFields-not-offset : o ≡ NotOne → Missing ≡ allFields y m d t o
+          pub allFields-not-offset : o ≡ NoInteger → NoFields ≡ allFields y m d t o
           unfolding allFields
           allFields-not-offset g = rw (a, b, e, f, g)
 
@@ -59,16 +59,16 @@ module _ (y m d : Integer) (t : Number) (o : Integer) where
           allFields-value g = rw (a, b, e, f, g)
 
 -- a field that is no number leaves none
-pub allFields-of-month : (y d : Integer) (t : Number) (o : Integer) → allFields y NotOne d t o ≡ Missing
+pub allFields-of-month : (y d : Integer) (t : Number) (o : Integer) → allFields y NoInteger d t o ≡ NoFields
 unfolding allFields
 allFields-of-month (Is y) d t o = refl
-allFields-of-month NotOne d t o = refl
+allFields-of-month NoInteger d t o = refl
 
-pub allFields-of-day : (y m : Integer) (t : Number) (o : Integer) → allFields y m NotOne t o ≡ Missing
+pub allFields-of-day : (y m : Integer) (t : Number) (o : Integer) → allFields y m NoInteger t o ≡ NoFields
 unfolding allFields
 allFields-of-day (Is y) (Is m) t o = refl
-allFields-of-day (Is y) NotOne t o = refl
-allFields-of-day NotOne m t o = refl
+allFields-of-day (Is y) NoInteger t o = refl
+allFields-of-day NoInteger m t o = refl
 
 -- ---- the fields of a text: r is what follows the date, trimmed, i its cut, b what is before the dot
 module _ (y m d s : List ℕ) (r : List ℕ) (i : ℕ) (b t o : List ℕ) (x : Number) (z y′ m′ d′ : Integer) where
@@ -78,13 +78,13 @@ module _ (y m d s : List ℕ) (r : List ℕ) (i : ℕ) (b t o : List ℕ) (x : N
   fieldsOf-parts er ei eb et ex eo ez ey em ed = rw (ey, em, ed, ez, eo, take-length-sub-drop r i, ex, et, eb, ei, er)
 
 -- ---- compact
-pub compact-short : (s : List ℕ) → length s < 9 → Missing ≡ compact s
+pub compact-short : (s : List ℕ) → length s < 9 → NoFields ≡ compact s
 unfolding compact firstAt
 compact-short s h =
     let k : length s ≤ 8 = omega arith in
     by-test (eqb (firstPlace 84 s) 8) (λ e. rw (e, le-ltb 8 (length s) k)) (λ e. rw e)
 
-pub compact-no : (s : List ℕ) (r : ℕ) → r ≡ firstPlace 84 (take 9 s) → (r ≡ 8 → ⊥) → Missing ≡ compact s
+pub compact-no : (s : List ℕ) (r : ℕ) → r ≡ firstPlace 84 (take 9 s) → (r ≡ 8 → ⊥) → NoFields ≡ compact s
 unfolding compact firstAt
 compact-no s r q h = rw (ne-eqb (firstPlace 84 s) 8 (firstPlace-is-not 84 9 8 s r q (omega arith) h))
 
@@ -94,7 +94,7 @@ unfolding compact firstAt
 compact-yes s r a b q e h p w = rw (p, w, take-length-sub-drop s 9, eq-eqb (firstPlace 84 s) 8 (firstPlace-is 84 9 8 s r q (omega arith) h e), lt-ltb 8 (length s) h)
 
 -- ---- flexible
-pub flexible-short : (s : List ℕ) → length s < 11 → Missing ≡ flexible s
+pub flexible-short : (s : List ℕ) → length s < 11 → NoFields ≡ flexible s
 unfolding flexible isSeparator
 flexible-short s h =
     let k : length s ≤ 10 = omega arith in
@@ -102,17 +102,17 @@ flexible-short s h =
     (λ e. by-test (eqb (getD s 7 0) 45) (λ f. rw (e, f, getD-of-length-le s 10 k)) (λ f. rw (e, f)))
     (λ e. rw e)
 
-pub flexible-four : (s : List ℕ) → (getD s 4 0 ≡ 45 → ⊥) → Missing ≡ flexible s
+pub flexible-four : (s : List ℕ) → (getD s 4 0 ≡ 45 → ⊥) → NoFields ≡ flexible s
 unfolding flexible
 flexible-four s h = rw (ne-eqb (getD s 4 0) 45 h)
 
 module _ (s : List ℕ) (p : getD s 4 0 ≡ 45) where
-  pub flexible-seven : (getD s 7 0 ≡ 45 → ⊥) → Missing ≡ flexible s
+  pub flexible-seven : (getD s 7 0 ≡ 45 → ⊥) → NoFields ≡ flexible s
   unfolding flexible
   flexible-seven h = rw (eq-eqb (getD s 4 0) 45 p, ne-eqb (getD s 7 0) 45 h)
 
   module _ (q : getD s 7 0 ≡ 45) where
-    pub flexible-ten : isSeparator (getD s 10 0) ≡ false → Missing ≡ flexible s
+    pub flexible-ten : isSeparator (getD s 10 0) ≡ false → NoFields ≡ flexible s
     unfolding flexible
     flexible-ten e = rw (eq-eqb (getD s 4 0) 45 p, eq-eqb (getD s 7 0) 45 q, e)
 
@@ -122,21 +122,21 @@ module _ (s : List ℕ) (p : getD s 4 0 ≡ 45) where
     flexible-yes a b e u v = rw (u, v, take-length-sub-drop s 11, eq-eqb (getD s 4 0) 45 p, eq-eqb (getD s 7 0) 45 q, e)
 
 -- ---- dotted
-pub dotted-short : (s : List ℕ) → length s < 11 → Missing ≡ dotted s
+pub dotted-short : (s : List ℕ) → length s < 11 → NoFields ≡ dotted s
 unfolding dotted isDotted firstAt
 dotted-short s h =
     let k : length s ≤ 10 = omega arith in
     by-test (eqb (firstPlace 32 s) 10) (λ e. rw (e, le-ltb 10 (length s) k)) (λ e. rw e)
 
-pub dotted-no : (s : List ℕ) (r : ℕ) → r ≡ firstPlace 32 (take 11 s) → (r ≡ 10 → ⊥) → Missing ≡ dotted s
+pub dotted-no : (s : List ℕ) (r : ℕ) → r ≡ firstPlace 32 (take 11 s) → (r ≡ 10 → ⊥) → NoFields ≡ dotted s
 unfolding dotted isDotted firstAt
 dotted-no s r q h = rw (ne-eqb (firstPlace 32 s) 10 (firstPlace-is-not 32 11 10 s r q (omega arith) h))
 
-pub dotted-four : (s : List ℕ) → (getD s 4 0 ≡ 46 → ⊥) → Missing ≡ dotted s
+pub dotted-four : (s : List ℕ) → (getD s 4 0 ≡ 46 → ⊥) → NoFields ≡ dotted s
 unfolding dotted isDotted
 dotted-four s h = by-test (firstAt 32 10 s) (λ e. rw (e, ne-eqb (getD s 4 0) 46 h)) (λ e. rw e)
 
-pub dotted-seven : (s : List ℕ) → getD s 4 0 ≡ 46 → (getD s 7 0 ≡ 46 → ⊥) → Missing ≡ dotted s
+pub dotted-seven : (s : List ℕ) → getD s 4 0 ≡ 46 → (getD s 7 0 ≡ 46 → ⊥) → NoFields ≡ dotted s
 unfolding dotted isDotted
 dotted-seven s f h = by-test (firstAt 32 10 s) (λ e. rw (e, eq-eqb (getD s 4 0) 46 f, ne-eqb (getD s 7 0) 46 h)) (λ e. rw e)
 
@@ -184,11 +184,11 @@ pub formOf-dotted : (s : List ℕ) {f : Local} → dotted s ≡ Are f → Are f 
 unfolding formOf orElse
 formOf-dotted s e = rw e
 
-pub formOf-compact : (s : List ℕ) {f : Local} → dotted s ≡ Missing → compact s ≡ Are f → Are f ≡ formOf s
+pub formOf-compact : (s : List ℕ) {f : Local} → dotted s ≡ NoFields → compact s ≡ Are f → Are f ≡ formOf s
 unfolding formOf orElse
 formOf-compact s e g = rw (e, g)
 
-pub formOf-flexible : (s : List ℕ) → dotted s ≡ Missing → compact s ≡ Missing → flexible s ≡ formOf s
+pub formOf-flexible : (s : List ℕ) → dotted s ≡ NoFields → compact s ≡ NoFields → flexible s ≡ formOf s
 unfolding formOf orElse
 formOf-flexible s e g = rw (e, g)
 

@@ -24,7 +24,7 @@ use Rattle.time.specs.declared.Answer.the-variants.{Time, Refused}
 use Rattle.iso.specs.Forms.{formOf}
 use Rattle.iso.specs.Iso.{dayOf, momentOf, zoned, isoOf}
 use Rattle.iso.specs.declared.forms.Local.{Local}
-use Rattle.iso.specs.declared.forms.Fields.the-variants.{Are, Missing}
+use Rattle.iso.specs.declared.forms.Fields.the-variants.{Are, Nothing as NoFields}
 
 -- ---- the day
 pub dayOf-month : (y m d : ℤ) → m <ℤ pos 0 → Nothing ≡ dayOf y m d
@@ -75,7 +75,7 @@ unfolding isoOf
 isoOf-not-ascii s e = rw e
 
 module _ (s t : List ℕ) (a : ascii s ≡ true) (q : t ≡ trim s) where
-  pub isoOf-missing : formOf t ≡ Missing → Refused Form ≡ isoOf s
+  pub isoOf-missing : formOf t ≡ NoFields → Refused Form ≡ isoOf s
   unfolding isoOf zoned
   isoOf-missing e = rw (a, ← q, e)
 

@@ -12,7 +12,7 @@ use Rattle.ints.specs.Range.{In}
 use Rattle.ints.proofs.Machine.{In-of-natAbs, leZ-true, leZ-false}
 use Rattle.text.specs.Number.{signedOf, fitSigned}
 use Rattle.text.specs.declared.number.Integer.{Integer}
-use Rattle.text.specs.declared.number.Integer.the-variants.{Is, NotOne}
+use Rattle.text.specs.declared.number.Integer.the-variants.{Is, Nothing}
 use Rattle.text.proofs.Lists.{take-length-sub-drop}
 use Rattle.text.proofs.Numbers.{Short, signedOf-short, fitSigned-of-length}
 use Rattle.iso.specs.Parts.{without, int32}
@@ -22,7 +22,7 @@ use Rattle.iso.specs.Held.{Within}
 -- ---- a field of two bytes is from -99 to 99
 Within-of-Short : (x : Integer) → Short 100 x → Within 99 x
 Within-of-Short (Is z) h = In-of-natAbs 99 z (omega (arith, h))
-Within-of-Short NotOne h = tt
+Within-of-Short Nothing h = tt
 
 pub int32-two-within : (x y : ℕ) → Within 99 (int32 (x ∷ y ∷ []))
 unfolding int32
@@ -44,7 +44,7 @@ hoursMinutes-four (a ∷ b ∷ []) h = absurd (omega arith)
 hoursMinutes-four (a ∷ b ∷ c ∷ []) h = absurd (omega arith)
 hoursMinutes-four (a ∷ b ∷ c ∷ d ∷ f) h = refl
 
-pub hoursMinutes-not : (l : List ℕ) → (length l ≡ 2 → ⊥) → (length l ≡ 4 → ⊥) → NotOne ≡ hoursMinutes l
+pub hoursMinutes-not : (l : List ℕ) → (length l ≡ 2 → ⊥) → (length l ≡ 4 → ⊥) → Nothing ≡ hoursMinutes l
 unfolding hoursMinutes
 hoursMinutes-not l a b = rw (ne-eqb (length l) 2 a, ne-eqb (length l) 4 b)
 
@@ -69,12 +69,12 @@ unfolding offsetOf
 offsetOf-zed [] e h = absurd (omega arith)
 offsetOf-zed (b ∷ s) e h = let z : length s ≡ 0 = omega arith in rw (e, z)
 
-pub offsetOf-zed-not : (s : List ℕ) → getD s 0 0 ≡ 90 → (length s ≡ 1 → ⊥) → NotOne ≡ offsetOf s
+pub offsetOf-zed-not : (s : List ℕ) → getD s 0 0 ≡ 90 → (length s ≡ 1 → ⊥) → Nothing ≡ offsetOf s
 unfolding offsetOf
 offsetOf-zed-not [] e h = absurd (omega arith)
 offsetOf-zed-not (b ∷ s) e h = rw (e, ne-eqb (length s) 0 (λ z. h (omega (arith, z))))
 
-pub offsetOf-not : (s : List ℕ) → (length s ≡ 0 → ⊥) → (getD s 0 0 ≡ 43 → ⊥) → (getD s 0 0 ≡ 45 → ⊥) → (getD s 0 0 ≡ 90 → ⊥) → NotOne ≡ offsetOf s
+pub offsetOf-not : (s : List ℕ) → (length s ≡ 0 → ⊥) → (getD s 0 0 ≡ 43 → ⊥) → (getD s 0 0 ≡ 45 → ⊥) → (getD s 0 0 ≡ 90 → ⊥) → Nothing ≡ offsetOf s
 unfolding offsetOf
 offsetOf-not [] h p m z = absurd (h refl)
 offsetOf-not (b ∷ s) h p m z = rw (ne-eqb b 90 z, ne-eqb b 43 p, ne-eqb b 45 m)
@@ -85,7 +85,7 @@ pub In-of-Within : {k : ℕ} {x : Integer} {z : ℤ} → x ≡ Is z → Within k
 In-of-Within {k} e w = subst (Within k) e w
 
 module _ (limit : ℤ) (s : List ℕ) where
-  pub upTo-not : fitSigned (2 ^ 31) (signedOf s) ≡ NotOne → NotOne ≡ upTo limit (int32 s)
+  pub upTo-not : fitSigned (2 ^ 31) (signedOf s) ≡ Nothing → Nothing ≡ upTo limit (int32 s)
   unfolding upTo int32
   upTo-not e = rw e
 
@@ -93,15 +93,15 @@ module _ (limit : ℤ) (s : List ℕ) where
   unfolding upTo int32
   upTo-value e h = rw (e, leZ-true h)
 
-  pub upTo-over : {z : ℤ} → fitSigned (2 ^ 31) (signedOf s) ≡ Is z → limit <ℤ z → NotOne ≡ upTo limit (int32 s)
+  pub upTo-over : {z : ℤ} → fitSigned (2 ^ 31) (signedOf s) ≡ Is z → limit <ℤ z → Nothing ≡ upTo limit (int32 s)
   unfolding upTo int32
   upTo-over e h = rw (e, leZ-false h)
 
-pub secondsOf-not-hours : {h : Integer} (m : Integer) → h ≡ NotOne → NotOne ≡ secondsOf h m
+pub secondsOf-not-hours : {h : Integer} (m : Integer) → h ≡ Nothing → Nothing ≡ secondsOf h m
 unfolding secondsOf
 secondsOf-not-hours m e = rw e
 
-pub secondsOf-not-minutes : {h m : Integer} {x : ℤ} → h ≡ Is x → m ≡ NotOne → NotOne ≡ secondsOf h m
+pub secondsOf-not-minutes : {h m : Integer} {x : ℤ} → h ≡ Is x → m ≡ Nothing → Nothing ≡ secondsOf h m
 unfolding secondsOf
 secondsOf-not-minutes e f = rw (e, f)
 
@@ -109,7 +109,7 @@ pub secondsOf-value : {h m : Integer} {x y : ℤ} → h ≡ Is x → m ≡ Is y 
 unfolding secondsOf
 secondsOf-value e f = rw (e, f)
 
-pub negated-not : {o : Integer} → o ≡ NotOne → NotOne ≡ negated o
+pub negated-not : {o : Integer} → o ≡ Nothing → Nothing ≡ negated o
 unfolding negated
 negated-not e = rw e
 

@@ -14,7 +14,7 @@ use Rattle.text.specs.Bytes.{isDigit, ascii}
 use Rattle.text.specs.Number.{readFrom, digitsOf, unsignedOf, signedOf, fitSigned}
 use Rattle.text.specs.Places.{firstPlace}
 use Rattle.text.specs.Trim.{trim}
-use Rattle.text.specs.declared.number.Integer.the-variants.{NotOne}
+use Rattle.text.specs.declared.number.Integer.the-variants.{Nothing as NoInteger}
 use Rattle.text.proofs.Lists.{by-test, both, take-two-drop}
 use Rattle.time.specs.Answers.{answerNumber}
 use Rattle.time.specs.declared.Time.{Time}
@@ -24,35 +24,35 @@ use Rattle.iso.specs.Forms.{fieldsOf, isSeparator, flexible, firstAt, co
 use Rattle.iso.specs.Iso.{zoned, isoOf}
 use Rattle.iso.specs.Theorems.{isThere, accepts}
 use Rattle.iso.specs.declared.forms.Fields.{Fields}
-use Rattle.iso.specs.declared.forms.Fields.the-variants.{Are, Missing}
+use Rattle.iso.specs.declared.forms.Fields.the-variants.{Are, Nothing as NoFields}
 use Rattle.text.proofs.FirstPlaces.{getD-firstPlace}
 use Rattle.iso.proofs.FormFields.{allFields-of-month, allFields-of-day, flexible-short, flexible-four, dotted-four}
 
 -- ---- at most one form
 -- a field that opens with a dot or a `T` is no number
-int32-dot : (x : ℕ) → int32 (46 ∷ x ∷ []) ≡ NotOne
+int32-dot : (x : ℕ) → int32 (46 ∷ x ∷ []) ≡ NoInteger
 unfolding int32 signedOf unsignedOf digitsOf readFrom isDigit fitSigned
 int32-dot x = refl
 
-int32-T : (x : ℕ) → int32 (84 ∷ x ∷ []) ≡ NotOne
+int32-T : (x : ℕ) → int32 (84 ∷ x ∷ []) ≡ NoInteger
 unfolding int32 signedOf unsignedOf digitsOf readFrom isDigit fitSigned
 int32-T x = refl
 
 -- so a text with a dot at place 4 is not compact: it would open the month
-compact-of-dot : (s : List ℕ) → getD s 4 0 ≡ 46 → compact s ≡ Missing
+compact-of-dot : (s : List ℕ) → getD s 4 0 ≡ 46 → compact s ≡ NoFields
 unfolding compact firstAt fieldsOf
 compact-of-dot s p =
     by-test (eqb (firstPlace 84 s) 8)
     (λ e. by-test (ltb 8 (length s))
     (λ f.
     let h : 4 + 2 ≤ length s = omega (arith, ltb-true 8 (length s) f) in
-    let m : int32 (two 4 s) ≡ NotOne = ap int32 (take-two-drop s 4 h) ∙ ap (λ (b : ℕ). int32 (b ∷ getD s 5 0 ∷ [])) p ∙ int32-dot (getD s 5 0) in
+    let m : int32 (two 4 s) ≡ NoInteger = ap int32 (take-two-drop s 4 h) ∙ ap (λ (b : ℕ). int32 (b ∷ getD s 5 0 ∷ [])) p ∙ int32-dot (getD s 5 0) in
     rw (e, f, m) (allFields-of-month _ _ _ _))
     (λ f. rw (e, f)))
     (λ e. rw e)
 
 -- and one with its first `T` at place 8 is not flexible: it would open the day
-flexible-of-T : (s : List ℕ) → firstAt 84 8 s ≡ true → flexible s ≡ Missing
+flexible-of-T : (s : List ℕ) → firstAt 84 8 s ≡ true → flexible s ≡ NoFields
 unfolding firstAt flexible fieldsOf
 flexible-of-T s e =
     let q = both (eqb (firstPlace 84 s) 8) (ltb 8 (length s)) e in
@@ -62,10 +62,10 @@ flexible-of-T s e =
     by-test (ltb (length s) 11) (λ f. sym (flexible-short s (ltb-true _ _ f)))
     (λ f.
     let h : 8 + 2 ≤ length s = omega (arith, ltb-false (length s) 11 f) in
-    let d : int32 (two 8 s) ≡ NotOne = ap int32 (take-two-drop s 8 h) ∙ ap (λ (x : ℕ). int32 (x ∷ getD s 9 0 ∷ [])) b ∙ int32-T (getD s 9 0) in
+    let d : int32 (two 8 s) ≡ NoInteger = ap int32 (take-two-drop s 8 h) ∙ ap (λ (x : ℕ). int32 (x ∷ getD s 9 0 ∷ [])) b ∙ int32-T (getD s 9 0) in
     rw (d, allFields-of-day) (same (eqb (getD s 4 0) 45 && (eqb (getD s 7 0) 45 && isSeparator (getD s 10 0)))))
   where
-    same : (t : Bool) → cond t Missing Missing ≡ Missing
+    same : (t : Bool) → cond t NoFields NoFields ≡ NoFields
     same true = refl
     same false = refl
 
@@ -74,17 +74,17 @@ ne-of-eqb a b h e = false≢true (sym h ∙ eq-eqb a b e)
 
 -- of any two forms one is missing
 module _ (s : List ℕ) {A : Type 0} where
-  dotted-or-compact : (dotted s ≡ Missing → A) → (compact s ≡ Missing → A) → A
+  dotted-or-compact : (dotted s ≡ NoFields → A) → (compact s ≡ NoFields → A) → A
   dotted-or-compact f g =
       by-test (eqb (getD s 4 0) 46) (λ e. g (compact-of-dot s (eqb-true (getD s 4 0) 46 e)))
       (λ e. f (sym (dotted-four s (ne-of-eqb (getD s 4 0) 46 e))))
 
-  dotted-or-flexible : (dotted s ≡ Missing → A) → (flexible s ≡ Missing → A) → A
+  dotted-or-flexible : (dotted s ≡ NoFields → A) → (flexible s ≡ NoFields → A) → A
   dotted-or-flexible f g =
       by-test (eqb (getD s 4 0) 46) (λ e. g (sym (flexible-four s (λ x. absurd (omega (arith, x, eqb-true (getD s 4 0) 46 e))))))
       (λ e. f (sym (dotted-four s (ne-of-eqb (getD s 4 0) 46 e))))
 
-  compact-or-flexible : (compact s ≡ Missing → A) → (flexible s ≡ Missing → A) → A
+  compact-or-flexible : (compact s ≡ NoFields → A) → (flexible s ≡ NoFields → A) → A
   unfolding compact
   compact-or-flexible f g = by-test (firstAt 84 8 s) (λ e. g (flexible-of-T s e)) (λ e. f (rw e))
 
@@ -95,7 +95,7 @@ first-false x y e = rw e
 second-false : (x y : Bool) → y ≡ false → (x && y) ≡ false
 second-false x y e = rw e (and-false x)
 
-there-missing : {f : Fields} → f ≡ Missing → isThere f ≡ false
+there-missing : {f : Fields} → f ≡ NoFields → isThere f ≡ false
 there-missing e = rw e
 
 -- no text has the fields of two of the three forms
@@ -114,7 +114,7 @@ one-form-has-fields s =
       ),
     )
 
-zoned-missing : {f : Fields} → f ≡ Missing → accepts (zoned f) ≡ false
+zoned-missing : {f : Fields} → f ≡ NoFields → accepts (zoned f) ≡ false
 unfolding zoned
 zoned-missing e = rw e
 
@@ -135,7 +135,7 @@ one-iso-form s =
     )
 
 -- ---- the form that accepts gives the answer
-not-missing : {f : Fields} {t : Time} → zoned f ≡ At t → f ≡ Missing → ⊥
+not-missing : {f : Fields} {t : Time} → zoned f ≡ At t → f ≡ NoFields → ⊥
 unfolding zoned
 not-missing e m = omega (arith, ap answerNumber (rw m at e))
 
@@ -146,7 +146,7 @@ module _ (s : List ℕ) (a : ascii s ≡ true) {t : Time} where
     where
       go : (f : Fields) → zoned f ≡ At t → zoned (orElse f (orElse (compact (trim s)) (flexible (trim s)))) ≡ At t
       go (Are f) e = e
-      go Missing e = absurd (not-missing e refl)
+      go NoFields e = absurd (not-missing e refl)
 
   pub iso-of-compact : zoned (compact (trim s)) ≡ At t → isoOf s ≡ At t
   unfolding isoOf formOf orElse
@@ -155,7 +155,7 @@ module _ (s : List ℕ) (a : ascii s ≡ true) {t : Time} where
     where
       go : (f : Fields) → zoned f ≡ At t → zoned (orElse f (flexible (trim s))) ≡ At t
       go (Are f) e = e
-      go Missing e = absurd (not-missing e refl)
+      go NoFields e = absurd (not-missing e refl)
 
   pub iso-of-flexible : zoned (flexible (trim s)) ≡ At t → isoOf s ≡ At t
   unfolding isoOf formOf orElse

@@ -14,7 +14,7 @@ use Rattle.text.specs.Places.{firstPlace, before, has}
 use Rattle.text.specs.Quote.{bytes}
 use Rattle.text.specs.Words.{pieces}
 use Rattle.text.specs.declared.number.Number.{Number}
-use Rattle.text.specs.declared.number.Number.the-variants.{Value, Not}
+use Rattle.text.specs.declared.number.Number.the-variants.{Value, Nothing}
 use Rattle.text.proofs.Lists.{by-test, take-length-sub-drop}
 use Rattle.iso.specs.Clock.{timePart, secondOf, clock, isColon, colonTime, plainTime, timeOf}
 use Rattle.text.proofs.FirstPlaces.{pieces-of-lt, pieces-of-le}
@@ -26,7 +26,7 @@ unfolding fit
 fit-fit a b (Value n) h =
     by-test (leb n b) (λ e. rw e)
     (λ e. let k : a < n = omega (arith, leb-false n b e) in rw (e, lt-leb n a k))
-fit-fit a b Not h = refl
+fit-fit a b Nothing h = refl
 
 -- so no part is lost by reading it up to its limit at once
 timePart-fit : (limit : ℕ) (s : List ℕ) → limit ≤ 2 ^ 32 - 1 → timePart limit s ≡ fit limit (unsignedOf s)
@@ -37,7 +37,7 @@ timePart-fit limit s h = fit-fit limit (2 ^ 32 - 1) (unsignedOf s) h
 AtMost-fit : (limit : ℕ) (x : Number) → AtMost limit (fit limit x)
 unfolding fit
 AtMost-fit limit (Value n) = by-test (leb n limit) (λ e. rw e (leb-true n limit e)) (λ e. rw e tt)
-AtMost-fit limit Not = tt
+AtMost-fit limit Nothing = tt
 
 pub fit-value-le : (limit : ℕ) (x : Number) {n : ℕ} → fit limit x ≡ Value n → n ≤ limit
 fit-value-le limit x e = subst (AtMost limit) e (AtMost-fit limit x)
@@ -52,15 +52,15 @@ module _ (h m s : List ℕ) where
   unfolding secondOf
   clock-value a b c = rw (clock-fit, a, b, c)
 
-  pub clock-not-hour : fit 23 (unsignedOf h) ≡ Not → Not ≡ clock h m s
+  pub clock-not-hour : fit 23 (unsignedOf h) ≡ Nothing → Nothing ≡ clock h m s
   unfolding secondOf
   clock-not-hour a = rw (clock-fit, a)
 
-  pub clock-not-minute : {x : ℕ} → fit 23 (unsignedOf h) ≡ Value x → fit 59 (unsignedOf m) ≡ Not → Not ≡ clock h m s
+  pub clock-not-minute : {x : ℕ} → fit 23 (unsignedOf h) ≡ Value x → fit 59 (unsignedOf m) ≡ Nothing → Nothing ≡ clock h m s
   unfolding secondOf
   clock-not-minute a b = rw (clock-fit, a, b)
 
-  pub clock-not-second : {x y : ℕ} → fit 23 (unsignedOf h) ≡ Value x → fit 59 (unsignedOf m) ≡ Value y → fit 59 (unsignedOf s) ≡ Not → Not ≡ clock h m s
+  pub clock-not-second : {x y : ℕ} → fit 23 (unsignedOf h) ≡ Value x → fit 59 (unsignedOf m) ≡ Value y → fit 59 (unsignedOf s) ≡ Nothing → Nothing ≡ clock h m s
   unfolding secondOf
   clock-not-second a b c = rw (clock-fit, a, b, c)
 

@@ -10,24 +10,24 @@ use lib.ListN.{length, getD, take, drop}
 use Rattle.text.specs.Places.{firstPlace}
 use Rattle.text.specs.Trim.{trim}
 use Rattle.text.specs.declared.number.Number.{Number}
-use Rattle.text.specs.declared.number.Number.the-variants.{Value, Not}
+use Rattle.text.specs.declared.number.Number.the-variants.{Value, Nothing as NoNumber}
 use Rattle.text.specs.declared.number.Integer.{Integer}
-use Rattle.text.specs.declared.number.Integer.the-variants.{Is, NotOne}
+use Rattle.text.specs.declared.number.Integer.the-variants.{Is, Nothing as NoInteger}
 use Rattle.iso.specs.Parts.{two, int32}
 use Rattle.iso.specs.Cut.{timeText, offsetText}
 use Rattle.iso.specs.Clock.{timeOf}
 use Rattle.iso.specs.Offset.{offsetOf}
 use Rattle.iso.specs.declared.forms.Fields.{Fields}
-use Rattle.iso.specs.declared.forms.Fields.the-variants.{Are, Missing}
+use Rattle.iso.specs.declared.forms.Fields.the-variants.{Are, Nothing as NoFields}
 
 -- all five fields, or none
 unfoldable pub allFields : Integer → Integer → Integer → Number → Integer → Fields
 allFields (Is y) (Is m) (Is d) (Value c) (Is o) = Are (record { year = y; month = m; day = d; second = c; offset = o })
-allFields (Is y) (Is m) (Is d) (Value c) NotOne = Missing
-allFields (Is y) (Is m) (Is d) Not o = Missing
-allFields (Is y) (Is m) NotOne c o = Missing
-allFields (Is y) NotOne d c o = Missing
-allFields NotOne m d c o = Missing
+allFields (Is y) (Is m) (Is d) (Value c) NoInteger = NoFields
+allFields (Is y) (Is m) (Is d) NoNumber o = NoFields
+allFields (Is y) (Is m) NoInteger c o = NoFields
+allFields (Is y) NoInteger d c o = NoFields
+allFields NoInteger m d c o = NoFields
 
 -- year, month and day are signed 32-bit fields; s is what follows the `T` or space
 unfoldable pub fieldsOf : List ℕ → List ℕ → List ℕ → List ℕ → Fields
@@ -41,7 +41,7 @@ isSeparator b = eqb b (code "T") || eqb b (code " ")
 unfoldable pub flexible : List ℕ → Fields
 flexible s =
     cond (eqb (getD s 4 0) (code "-") && (eqb (getD s 7 0) (code "-") && isSeparator (getD s 10 0)))
-    (fieldsOf (take 4 s) (two 5 s) (two 8 s) (drop 11 s)) Missing
+    (fieldsOf (take 4 s) (two 5 s) (two 8 s) (drop 11 s)) NoFields
 
 -- the first b is at place i
 unfoldable pub firstAt : ℕ → ℕ → List ℕ → Bool
@@ -49,7 +49,7 @@ firstAt b i s = eqb (firstPlace b s) i && ltb i (length s)
 
 -- compact: the first `T` is at place 8
 unfoldable pub compact : List ℕ → Fields
-compact s = cond (firstAt (code "T") 8 s) (fieldsOf (take 4 s) (two 4 s) (two 6 s) (drop 9 s)) Missing
+compact s = cond (firstAt (code "T") 8 s) (fieldsOf (take 4 s) (two 4 s) (two 6 s) (drop 9 s)) NoFields
 
 -- dots read as dashes
 unfoldable pub dashOf : ℕ → ℕ
@@ -65,12 +65,12 @@ isDotted s = firstAt (code " ") 10 s && (eqb (getD s 4 0) (code ".") && eqb (get
 
 -- dotted: all dots among those ten are read as dashes, and the text is then read as flexible
 unfoldable pub dotted : List ℕ → Fields
-dotted s = cond (isDotted s) (flexible (dashes (take 10 s) ++ drop 10 s)) Missing
+dotted s = cond (isDotted s) (flexible (dashes (take 10 s) ++ drop 10 s)) NoFields
 
 -- the first form whose fields are there; any order gives the same, since at most one has them: `one-form-has-fields`
 unfoldable pub orElse : Fields → Fields → Fields
 orElse (Are f) g = Are f
-orElse Missing g = g
+orElse NoFields g = g
 
 unfoldable pub formOf : List ℕ → Fields
 formOf s = orElse (dotted s) (orElse (compact s) (flexible s))

@@ -19,7 +19,7 @@ use Rattle.time.specs.declared.Answer.{Answer}
 use Rattle.time.specs.declared.Answer.the-variants.{Time, Refused}
 use Rattle.iso.specs.Forms.{formOf}
 use Rattle.iso.specs.declared.forms.Fields.{Fields}
-use Rattle.iso.specs.declared.forms.Fields.the-variants.{Are, Missing}
+use Rattle.iso.specs.declared.forms.Fields.the-variants.{Are, Nothing as NoFields}
 
 -- the day of a date, which must exist and be in the years -9999 to 9999; no month or day is negative
 unfoldable pub dayOf : ℤ → ℤ → ℤ → Found
@@ -36,7 +36,7 @@ momentOf Nothing c o = Refused Form
 
 unfoldable pub zoned : Fields → Answer
 zoned (Are f) = momentOf (dayOf (f .year) (f .month) (f .day)) (f .second) (f .offset)
-zoned Missing = Refused Form
+zoned NoFields = Refused Form
 
 -- a byte of 128 or more is refused by 1 first; then the trimmed text is read by the forms
 unfoldable pub isoOf : List ℕ → Answer

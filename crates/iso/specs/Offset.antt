@@ -9,30 +9,30 @@ use lib.IntN.{ℤ, pos, negℤ, _+ℤ_, _*ℤ_}
 use lib.ListN.{length}
 use lib.Signed.{leZ}
 use Rattle.text.specs.declared.number.Integer.{Integer}
-use Rattle.text.specs.declared.number.Integer.the-variants.{Is, NotOne}
+use Rattle.text.specs.declared.number.Integer.the-variants.{Is, Nothing}
 use Rattle.iso.specs.Parts.{two, without, int32}
 
 -- up to the limit; two bytes are never below -9, so there is no lower limit
 unfoldable pub upTo : ℤ → Integer → Integer
-upTo limit (Is z) = cond (leZ z limit) (Is z) NotOne
-upTo limit NotOne = NotOne
+upTo limit (Is z) = cond (leZ z limit) (Is z) Nothing
+upTo limit Nothing = Nothing
 
 -- the seconds of hours and minutes
 unfoldable pub secondsOf : Integer → Integer → Integer
 secondsOf (Is h) (Is m) = Is (h *ℤ pos 3600 +ℤ m *ℤ pos 60)
-secondsOf (Is h) NotOne = NotOne
-secondsOf NotOne m = NotOne
+secondsOf (Is h) Nothing = Nothing
+secondsOf Nothing m = Nothing
 
 -- 2 or 4 bytes in two-byte signed fields; hours go to 23, minutes to 59
 unfoldable pub hoursMinutes : List ℕ → Integer
 hoursMinutes s =
     cond (eqb (length s) 2) (secondsOf (upTo (pos 23) (int32 (two 0 s))) (Is (pos 0)))
-    (cond (eqb (length s) 4) (secondsOf (upTo (pos 23) (int32 (two 0 s))) (upTo (pos 59) (int32 (two 2 s)))) NotOne)
+    (cond (eqb (length s) 4) (secondsOf (upTo (pos 23) (int32 (two 0 s))) (upTo (pos 59) (int32 (two 2 s)))) Nothing)
 
 -- a `-` in front of the fields negates their whole sum
 unfoldable pub negated : Integer → Integer
 negated (Is z) = Is (negℤ z)
-negated NotOne = NotOne
+negated Nothing = Nothing
 
 -- nothing or `Z` is 0; otherwise a sign and then, once all colons are removed, the fields
 unfoldable pub offsetOf : List ℕ → Integer
@@ -40,4 +40,4 @@ offsetOf [] = Is (pos 0)
 offsetOf (b ∷ s) =
     cond (eqb b (code "Z") && eqb (length s) 0) (Is (pos 0))
     (cond (eqb b (code "+")) (hoursMinutes (without (code ":") s))
-    (cond (eqb b (code "-")) (negated (hoursMinutes (without (code ":") s))) NotOne))
+    (cond (eqb b (code "-")) (negated (hoursMinutes (without (code ":") s))) Nothing))

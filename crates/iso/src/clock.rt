@@ -47,7 +47,7 @@ fn plain_time(t: &[u8]) -> Number
     if t.len() == 6 {
         return clock(parts::two(t, 0), parts::two(t, 2), parts::two(t, 4));
     }
-    Number::Not
+    Number::Nothing
 }
 
 // The second of the day of an hour up to 23, a minute and a second up to 59.
@@ -56,13 +56,13 @@ fn clock(h: &[u8], m: &[u8], s: &[u8]) -> Number
     ensures range { λ r. ⌜ AtMost 86399 r ⌝ }
 {
     let Number::Value(hour) = number::unsigned_number(h, 23) else {
-        return Number::Not;
+        return Number::Nothing;
     };
     let Number::Value(minute) = number::unsigned_number(m, 59) else {
-        return Number::Not;
+        return Number::Nothing;
     };
     let Number::Value(second) = number::unsigned_number(s, 59) else {
-        return Number::Not;
+        return Number::Nothing;
     };
     Number::Value(hour * 3600 + minute * 60 + second)
 }

@@ -30,7 +30,7 @@ pub struct Local {
 // What a form reads in a text.
 pub enum Fields {
     Are(Local),
-    Missing,
+    Nothing,
 }
 
 // The fields of the form that the text has: at most one of the three.
@@ -40,9 +40,9 @@ pub fn parse(s: &[u8]) -> Fields
 {
     match parse_iso8601_dots(s) {
         Fields::Are(f) => Fields::Are(f),
-        Fields::Missing => match parse_compact_iso8601(s) {
+        Fields::Nothing => match parse_compact_iso8601(s) {
             Fields::Are(f) => Fields::Are(f),
-            Fields::Missing => parse_flexible_iso8601(s),
+            Fields::Nothing => parse_flexible_iso8601(s),
         },
     }
 }
@@ -53,16 +53,16 @@ fn parse_iso8601_dots(s: &[u8]) -> Fields
     ensures range { λ r. ⌜ FieldsIn r ⌝ }
 {
     if s.len() < 11 {
-        return Fields::Missing;
+        return Fields::Nothing;
     }
     if places::first_place(&s[..11], b' ') != 10 {
-        return Fields::Missing;
+        return Fields::Nothing;
     }
     if s[4] != b'.' {
-        return Fields::Missing;
+        return Fields::Nothing;
     }
     if s[7] != b'.' {
-        return Fields::Missing;
+        return Fields::Nothing;
     }
     dashed(s)
 }
@@ -95,10 +95,10 @@ fn parse_compact_iso8601(s: &[u8]) -> Fields
     ensures range { λ r. ⌜ FieldsIn r ⌝ }
 {
     if s.len() < 9 {
-        return Fields::Missing;
+        return Fields::Nothing;
     }
     if places::first_place(&s[..9], b'T') != 8 {
-        return Fields::Missing;
+        return Fields::Nothing;
     }
     read_fields(&s[..4], parts::two(s, 4), parts::two(s, 6), &s[9..])
 }
@@ -109,18 +109,18 @@ fn parse_flexible_iso8601(s: &[u8]) -> Fields
     ensures range { λ r. ⌜ FieldsIn r ⌝ }
 {
     if s.len() < 11 {
-        return Fields::Missing;
+        return Fields::Nothing;
     }
     if s[4] != b'-' {
-        return Fields::Missing;
+        return Fields::Nothing;
     }
     if s[7] != b'-' {
-        return Fields::Missing;
+        return Fields::Nothing;
     }
     if is_separator(s[10]) {
         return read_fields(&s[..4], parts::two(s, 5), parts::two(s, 8), &s[11..]);
     }
-    Fields::Missing
+    Fields::Nothing
 }
 
 fn is_separator(b: u8) -> bool
@@ -151,19 +151,19 @@ fn all_fields(y: Integer, m: Integer, d: Integer, t: Number, o: Integer) -> Fiel
     ensures range { λ r. ⌜ FieldsIn r ⌝ }
 {
     let Integer::Is(year) = y else {
-        return Fields::Missing;
+        return Fields::Nothing;
     };
     let Integer::Is(month) = m else {
-        return Fields::Missing;
+        return Fields::Nothing;
     };
     let Integer::Is(day) = d else {
-        return Fields::Missing;
+        return Fields::Nothing;
     };
     let Number::Value(second) = t else {
-        return Fields::Missing;
+        return Fields::Nothing;
     };
     let Integer::Is(offset) = o else {
-        return Fields::Missing;
+        return Fields::Nothing;
     };
     Fields::Are(Local {
         year,

@@ -27,9 +27,9 @@ pub fn parse_flexible_offset(o: &[u8]) -> Integer
         if o.len() == 1 {
             return Integer::Is(0);
         }
-        return Integer::NotOne;
+        return Integer::Nothing;
     }
-    Integer::NotOne
+    Integer::Nothing
 }
 
 // What follows the sign: two or four bytes besides colons. The scan ends at a fifth.
@@ -46,7 +46,7 @@ fn hours_minutes(s: &[u8]) -> Integer
             continue;
         }
         if n == 4 {
-            return Integer::NotOne;
+            return Integer::Nothing;
         }
         f[n] = s[i];
         n += 1;
@@ -58,7 +58,7 @@ fn hours_minutes(s: &[u8]) -> Integer
     if n == 4 {
         return seconds(field(f[0], f[1], 23), field(f[2], f[3], 59));
     }
-    Integer::NotOne
+    Integer::Nothing
 }
 
 // Two bytes as a signed number up to the limit. It may be negative, as in `+-5`.
@@ -68,12 +68,12 @@ fn field(x: u8, y: u8, limit: i64) -> Integer
 {
     let f = [x, y];
     let Integer::Is(z) = number::signed_number(&f, Width::Bits32) else {
-        return Integer::NotOne;
+        return Integer::Nothing;
     };
     if z <= limit {
         return Integer::Is(z);
     }
-    Integer::NotOne
+    Integer::Nothing
 }
 
 fn seconds(h: Integer, m: Integer) -> Integer
@@ -82,10 +82,10 @@ fn seconds(h: Integer, m: Integer) -> Integer
     ensures range { λ r. ⌜ Within 362340 r ⌝ }
 {
     let Integer::Is(hours) = h else {
-        return Integer::NotOne;
+        return Integer::Nothing;
     };
     let Integer::Is(minutes) = m else {
-        return Integer::NotOne;
+        return Integer::Nothing;
     };
     Integer::Is(hours * 3600 + minutes * 60)
 }
@@ -96,7 +96,7 @@ fn negated(o: Integer) -> Integer
     ensures range { λ r. ⌜ Within 362340 r ⌝ }
 {
     let Integer::Is(z) = o else {
-        return Integer::NotOne;
+        return Integer::Nothing;
     };
     Integer::Is(0 - z)
 }

@@ -16,7 +16,7 @@ use Rattle.ints.proofs.Machine.{lit, le-yes, lt-yes, lt-pred}
 use Rattle.text.specs.Number.{fitSigned}
 use Rattle.text.specs.Places.{firstPlace, has}
 use Rattle.text.specs.declared.number.Integer.{Integer}
-use Rattle.text.specs.declared.number.Integer.the-variants.{Is, NotOne}
+use Rattle.text.specs.declared.number.Integer.the-variants.{Is, Nothing as NoInteger}
 use Rattle.text.specs.Lines.{tab, field, rest}
 use Rattle.text.proofs.Lists.{by-test, both}
 use Rattle.text.proofs.Lines.{cut-rest}
@@ -25,9 +25,9 @@ use Rattle.lines.specs.Layout.{maxLine, textOf, textPlace, asks, lineOf,
 use Rattle.lines.specs.Held.{Fits32}
 use Rattle.lines.specs.declared.layout.Form.{Form}
 use Rattle.lines.specs.declared.layout.Named.{Named}
-use Rattle.lines.specs.declared.layout.Named.the-variants.{As, Unknown}
+use Rattle.lines.specs.declared.layout.Named.the-variants.{As, Nothing as NoForm}
 use Rattle.lines.specs.declared.layout.Current.{Current}
-use Rattle.lines.specs.declared.layout.Current.the-variants.{Is as Known, Neither}
+use Rattle.lines.specs.declared.layout.Current.the-variants.{Is as Known, Nothing as NoCurrent}
 use Rattle.lines.specs.declared.layout.Line.{Line}
 use Rattle.lines.specs.declared.layout.Line.the-variants.{Asks, Wrong}
 
@@ -41,7 +41,7 @@ Fits32-of-fitSigned (Is z) r e =
     (by-test (leZ lo z && ltZ z hi)
     (λ y. let p = both (leZ lo z) (ltZ z hi) y in rw y (record { low = le-yes (lit lo) (lit z) (p .0); high = lt-pred (lt-yes (lit z) (lit hi) (p .1)) }))
     (λ y. rw y tt))
-Fits32-of-fitSigned NotOne r e = rw e tt
+Fits32-of-fitSigned NoInteger r e = rw e tt
 
 -- ---- a line by its length and its tabs
 pub lineOf-of-length : (s : List ℕ) → maxLine < length s → Wrong ≡ lineOf s
@@ -91,8 +91,8 @@ module _ (s r : List ℕ) (a b : ℕ) (ea : a ≡ firstPlace tab s) (er : r ≡ 
 -- ---- the text of a line that asks
 asks-place : (n : Named) (k : Current) (at : ℕ) (f : Form) (m : Now) (p : ℕ) → asks n k at ≡ Asks f m p → at ≡ p
 asks-place (As g) (Known x) at f m p e = cc
-asks-place (As g) Neither at f m p e = let z : _≡_ {A = ℕ} 0 1 = cc in absurd (omega arith)
-asks-place Unknown k at f m p e = let z : _≡_ {A = ℕ} 0 1 = cc in absurd (omega arith)
+asks-place (As g) NoCurrent at f m p e = let z : _≡_ {A = ℕ} 0 1 = cc in absurd (omega arith)
+asks-place NoForm k at f m p e = let z : _≡_ {A = ℕ} 0 1 = cc in absurd (omega arith)
 
 drop-textPlace : (s : List ℕ) → drop (textPlace s) s ≡ textOf s
 drop-textPlace s =

@@ -4,7 +4,7 @@ use Prim.Native.Nat.{_-_, _^_}
 use lib.IntN.{ℤ, pos, negsuc}
 use Rattle.ints.specs.Range.{In}
 use Rattle.text.specs.declared.number.Integer.{Integer}
-use Rattle.text.specs.declared.number.Integer.the-variants.{Is, NotOne}
+use Rattle.text.specs.declared.number.Integer.the-variants.{Is, Nothing}
 
 -- 32 signed bits hold z
 abbrev pub In32 : ℤ → Type 0
@@ -13,4 +13,4 @@ In32 z = In (negsuc (2 ^ 31 - 1)) (pos (2 ^ 31 - 1)) z
 -- 32 signed bits hold it, if it is a number
 abbrev pub Fits32 : Integer → Type 0
 Fits32 (Is z) = In32 z
-Fits32 NotOne = Unit {0}
+Fits32 Nothing = Unit {0}

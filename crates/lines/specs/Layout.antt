@@ -12,14 +12,14 @@ use Rattle.text.specs.Places.{firstPlace, has}
 use Rattle.text.specs.Lines.{tab, field, rest}
 use Rattle.text.specs.Number.{signedOf, fitSigned}
 use Rattle.text.specs.declared.number.Integer.{Integer}
-use Rattle.text.specs.declared.number.Integer.the-variants.{Is, NotOne}
+use Rattle.text.specs.declared.number.Integer.the-variants.{Is, Nothing as NoInteger}
 use Rattle.time.specs.Answers.{timeAt}
 use Rattle.time.specs.declared.Now.the-variants.{Missing, At}
 use Rattle.lines.specs.declared.layout.Form.the-variants.{Header, Raw, Iso, Relative, Any}
 use Rattle.lines.specs.declared.layout.Named.{Named}
-use Rattle.lines.specs.declared.layout.Named.the-variants.{As, Unknown}
+use Rattle.lines.specs.declared.layout.Named.the-variants.{As, Nothing as NoForm}
 use Rattle.lines.specs.declared.layout.Current.{Current}
-use Rattle.lines.specs.declared.layout.Current.the-variants.{Is as Known, Neither}
+use Rattle.lines.specs.declared.layout.Current.the-variants.{Is as Known, Nothing as NoCurrent}
 use Rattle.lines.specs.declared.layout.Line.{Line}
 use Rattle.lines.specs.declared.layout.Line.the-variants.{Asks, Wrong}
 
@@ -34,13 +34,13 @@ formOf s =
     (cond (same s (bytes "raw")) (As Raw)
     (cond (same s (bytes "iso")) (As Iso)
     (cond (same s (bytes "relative")) (As Relative)
-    (cond (same s (bytes "any")) (As Any) Unknown))))
+    (cond (same s (bytes "any")) (As Any) NoForm))))
 
 -- RULES 10.3: the current seconds and offset, if both fields are numbers
 abbrev pub currentAt : Integer → Integer → Current
 currentAt (Is z) (Is o) = Known (At (timeAt z o))
-currentAt (Is z) NotOne = Neither
-currentAt NotOne o = Neither
+currentAt (Is z) NoInteger = NoCurrent
+currentAt NoInteger o = NoCurrent
 
 -- signed numbers of 64 and 32 bits; or both fields are `-`, and the current time is missing
 unfoldable pub currentOf : List ℕ → List ℕ → Current
@@ -58,8 +58,8 @@ textPlace s = firstPlace tab s + 1 + (firstPlace tab (rest s) + 1) + (firstPlace
 -- what a line of these fields asks for
 abbrev pub asks : Named → Current → ℕ → Line
 asks (As f) (Known n) at = Asks f n at
-asks (As f) Neither at = Wrong
-asks Unknown c at = Wrong
+asks (As f) NoCurrent at = Wrong
+asks NoForm c at = Wrong
 
 -- a line that is not too long, has at least three tabs, and whose first three fields are as the rules say
 unfoldable pub lineOf : List ℕ → Line

@@ -62,13 +62,13 @@ pub fn parse_line(line: &[u8]) -> Line
 // The form that a field names.
 pub(crate) enum Named {
     As(Form),
-    Unknown,
+    Nothing,
 }
 
 // The current time that two fields give.
 pub(crate) enum Current {
     Is(Now),
-    Neither,
+    Nothing,
 }
 
 // The line with these fields, whose text begins at `at`.
@@ -78,9 +78,9 @@ fn asks(form: Named, current: Current, at: usize) -> Line
     match form {
         Named::As(f) => match current {
             Current::Is(n) => Line::Asks(f, n, at),
-            Current::Neither => Line::Wrong,
+            Current::Nothing => Line::Wrong,
         },
-        Named::Unknown => Line::Wrong,
+        Named::Nothing => Line::Wrong,
     }
 }
 
@@ -88,7 +88,7 @@ fn asks(form: Named, current: Current, at: usize) -> Line
 fn form_of(s: &[u8]) -> Named
     ensures { λ r. ⌜ r ≡ formOf (now (s .entry)) ⌝ }
 {
-    let n = Named::Unknown;
+    let n = Named::Nothing;
     let n = form_named(s, b"any", Form::Any, n);
     let n = form_named(s, b"relative", Form::Relative, n);
     let n = form_named(s, b"iso", Form::Iso, n);
@@ -127,8 +127,8 @@ fn current_at(seconds: Integer, offset: Integer) -> Current
     match seconds {
         Integer::Is(z) => match offset {
             Integer::Is(o) => Current::Is(Now::At(Time::new(z, o as i32))),
-            Integer::NotOne => Current::Neither,
+            Integer::Nothing => Current::Nothing,
         },
-        Integer::NotOne => Current::Neither,
+        Integer::Nothing => Current::Nothing,
     }
 }

@@ -11,7 +11,7 @@ use lib.Dec.{leb, ltb}
 use lib.ListN.{length}
 use Rattle.text.specs.Bytes.{ascii}
 use Rattle.text.specs.declared.number.Number.{Number}
-use Rattle.text.specs.declared.number.Number.the-variants.{Value, Not}
+use Rattle.text.specs.declared.number.Number.the-variants.{Value, Nothing}
 use Rattle.text.proofs.Lists.{by-test}
 use Rattle.time.specs.declared.Now.{Now}
 use Rattle.time.specs.declared.Refusal.the-variants.{Pairs}
@@ -30,7 +30,7 @@ byPairs-bounds a b s current h =
 
 byName-bounds : (x : Number) (a b : ℕ) (s : List ℕ) (current : Now) → a ≤ b → (byName x b s current ≡ byName x a s current) ⊎ (byName x a s current ≡ Refused Pairs)
 byName-bounds (Value k) a b s current h = inl refl
-byName-bounds Not a b s current h = byPairs-bounds a b s current h
+byName-bounds Nothing a b s current h = byPairs-bounds a b s current h
 
 pub larger-bound-answers-alike : (a b : ℕ) (s : List ℕ) (current : Now) → a ≤ b → (relativeOf b s current ≡ relativeOf a s current) ⊎ (relativeOf a s current ≡ Refused Pairs)
 unfolding relativeOf

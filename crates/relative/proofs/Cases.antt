@@ -13,7 +13,7 @@ use Rattle.text.proofs.Lists.{by-test}
 use Rattle.time.specs.Range.{timeInRange, timeOf, movedOf}
 use Rattle.time.specs.declared.Time.{Time as Moment}
 use Rattle.time.specs.declared.range.Moved.{Moved}
-use Rattle.time.specs.declared.range.Moved.the-variants.{In, Out}
+use Rattle.time.specs.declared.range.Moved.the-variants.{In, Nothing as Out}
 use Rattle.time.specs.declared.Now.{Now}
 use Rattle.time.specs.declared.Now.the-variants.{Missing, At}
 use Rattle.time.specs.declared.Refusal.the-variants.{Form, Current, Pairs as TooMany}
@@ -28,7 +28,7 @@ use Rattle.relative.specs.declared.pair.Pair.{Pair}
 use Rattle.relative.specs.declared.pairs.Counted.{Counted}
 use Rattle.relative.specs.declared.pairs.Counted.the-variants.{Pairs, Nothing}
 use Rattle.relative.specs.declared.steps.Start.{Start}
-use Rattle.relative.specs.declared.steps.Start.the-variants.{From, No}
+use Rattle.relative.specs.declared.steps.Start.the-variants.{From, Refused as NoStart}
 
 -- ---- the count of pairs
 nothing-of-counted : (n : ℕ) (allowed : Bool) → countedOf n allowed ≡ Nothing → (ltb 0 n && allowed) ≡ false
@@ -63,7 +63,7 @@ module _ (bound : ℕ) (s : List ℕ) (current : Now) (t : Counted) (e : t ≡ c
 -- ---- the start
 abbrev byStart : List Pair → Start → Answer
 byStart ps (From i) = steps ps (Time (timeOf i))
-byStart ps (No r) = Refused r
+byStart ps (NoStart r) = Refused r
 
 from-startOf : (current : Now) (ps : List Pair) → from current ps ≡ byStart ps (startOf current)
 unfolding from startOf
@@ -73,7 +73,7 @@ from-startOf (At x) ps = by-test (timeInRange x) (λ e. rw (e, timeOf-instantOf 
 -- the same start, by the time as numbers from 0
 abbrev byMoved : Moved → Start
 byMoved (In i) = From i
-byMoved Out = No Current
+byMoved Out = NoStart Current
 
 pub startOf-movedOf : (x : Moment) → startOf (At x) ≡ byMoved (movedOf x)
 unfolding startOf movedOf

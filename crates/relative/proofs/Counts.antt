@@ -12,7 +12,7 @@ use Rattle.text.specs.Bytes.{isDigit, lowerOf, sameLetters}
 use Rattle.text.specs.Quote.{bytes}
 use Rattle.text.specs.Number.{digitsOf, fit}
 use Rattle.text.specs.declared.number.Number.{Number}
-use Rattle.text.specs.declared.number.Number.the-variants.{Value, Not}
+use Rattle.text.specs.declared.number.Number.the-variants.{Value, Nothing}
 use Rattle.text.proofs.LowerCase.{lowerOf-digit}
 use Rattle.text.proofs.Numbers.{digit-range, readFrom-digit, fit-value}
 use Rattle.relative.specs.Words.{spelled}
@@ -43,5 +43,5 @@ module _ (b : ℕ) (w : List ℕ) (d : isDigit b ≡ true) where
 -- so a text of digits is not looked up among the names
 pub spelled-of-digits : (limit n : ℕ) (w : List ℕ) (x : Number) → fit limit (digitsOf w) ≡ Value n → spelled w x ≡ x
 unfolding digitsOf
-spelled-of-digits limit n [] x h = let z : _≡_ {A = ℕ} 0 1 = cc (fit-value limit n Not h) in absurd (omega arith)
+spelled-of-digits limit n [] x h = let z : _≡_ {A = ℕ} 0 1 = cc (fit-value limit n Nothing h) in absurd (omega arith)
 spelled-of-digits limit n (b ∷ w) x h = spelled-digit b w (readFrom-digit 0 b w n (fit-value limit n _ h)) x

@@ -12,7 +12,7 @@ use lib.ListN.{length, length-append}
 use Rattle.text.specs.Bytes.{isAlphanumeric, ascii}
 use Rattle.text.specs.Words.{separator}
 use Rattle.text.specs.declared.words.Separator.the-variants.{Mark}
-use Rattle.text.specs.declared.number.Number.the-variants.{Not}
+use Rattle.text.specs.declared.number.Number.the-variants.{Nothing}
 use Rattle.text.proofs.Plain.{ascii-append}
 use Rattle.text.proofs.Taking.{words-append}
 use Rattle.time.specs.Range.{timeInRange}
@@ -42,7 +42,7 @@ answer-of-whole bound s current w h = relativeOf-of-pairs bound s current (w .pl
 -- the joined text is whole, and has the pairs of both
 pub joined-pairs : (a b : List ℕ) → Whole a → pairsOf (spaced a b) ≡ pairsOf a ++ pairsOf b
 unfolding wordsOf isAlphanumeric
-joined-pairs a b w = rw (words-append (separator Mark) a b (code " ") refl, pairsFrom-append Not (wordsOf a) (wordsOf b), w .ended)
+joined-pairs a b w = rw (words-append (separator Mark) a b (code " ") refl, pairsFrom-append Nothing (wordsOf a) (wordsOf b), w .ended)
 
 pub joined-whole : (a b : List ℕ) → Whole a → Whole b → Whole (spaced a b)
 unfolding ascii wordsOf isAlphanumeric
@@ -51,7 +51,7 @@ joined-whole a b v w =
       plain = rw (ascii-append, v .plain) (w .plain);
       some = rw (joined-pairs a b v) (omega (arith, length-append (pairsOf a) (pairsOf b), v .some));
       units-known = rw (joined-pairs a b v, known-append, v .units-known) (w .units-known);
-      ended = rw (words-append (separator Mark) a b (code " ") refl, waitsFrom-append Not (wordsOf a) (wordsOf b), v .ended) (w .ended);
+      ended = rw (words-append (separator Mark) a b (code " ") refl, waitsFrom-append Nothing (wordsOf a) (wordsOf b), v .ended) (w .ended);
     }
 
 -- pairs in a row: the later ones start where the earlier ones landed, which is a current time in range

@@ -11,7 +11,7 @@ use lib.ListN.{length, getD}
 use Rattle.text.specs.Bytes.{lowerOf, sameLetters}
 use Rattle.text.specs.Quote.{bytes}
 use Rattle.text.specs.declared.number.Number.{Number}
-use Rattle.text.specs.declared.number.Number.the-variants.{Value, Not}
+use Rattle.text.specs.declared.number.Number.the-variants.{Value, Nothing}
 use Rattle.text.proofs.Lists.{by-test}
 use Rattle.text.proofs.LowerCase.{lowerOf-lowerOf, lowers, ascii-lowers, sameLetters-lowers, lowers-of-same, trim-lowers, length-lowers, getD-lowers, take-lowers, allLowers, words-lowers, digitsOf-lowers}
 use Rattle.time.specs.declared.Now.{Now}
@@ -47,23 +47,23 @@ unitOf-lowers w = rw (singular-lowers w) (simp sameLetters-lowers)
 pairsFrom-lowers : (c : Number) (ws : List (List ℕ)) → pairsFrom c (allLowers ws) ≡ pairsFrom c ws
 unfolding pairsFrom
 pairsFrom-lowers c [] = refl
-pairsFrom-lowers (Value n) (w ∷ ws) = rw (unitOf-lowers w, pairsFrom-lowers Not ws)
-pairsFrom-lowers Not (w ∷ ws) = rw (sameLetters-lowers w (bytes "ago"), countOf-lowers w) (pairsFrom-lowers (next Not w) ws)
+pairsFrom-lowers (Value n) (w ∷ ws) = rw (unitOf-lowers w, pairsFrom-lowers Nothing ws)
+pairsFrom-lowers Nothing (w ∷ ws) = rw (sameLetters-lowers w (bytes "ago"), countOf-lowers w) (pairsFrom-lowers (next Nothing w) ws)
 
 agoFrom-lowers : (c : Number) (ws : List (List ℕ)) → agoFrom c (allLowers ws) ≡ agoFrom c ws
 unfolding agoFrom
 agoFrom-lowers c [] = refl
-agoFrom-lowers (Value n) (w ∷ ws) = agoFrom-lowers Not ws
-agoFrom-lowers Not (w ∷ ws) = rw (sameLetters-lowers w (bytes "ago"), countOf-lowers w, agoFrom-lowers (next Not w) ws)
+agoFrom-lowers (Value n) (w ∷ ws) = agoFrom-lowers Nothing ws
+agoFrom-lowers Nothing (w ∷ ws) = rw (sameLetters-lowers w (bytes "ago"), countOf-lowers w, agoFrom-lowers (next Nothing w) ws)
 
 -- ---- the reader
 byPairs-lowers : (bound : ℕ) (s : List ℕ) (current : Now) → byPairs bound (lowers s) current ≡ byPairs bound s current
 unfolding byPairs
-byPairs-lowers bound s current = rw (wordsOf-lowers s, pairsFrom-lowers Not (wordsOf s), agoFrom-lowers Not (wordsOf s))
+byPairs-lowers bound s current = rw (wordsOf-lowers s, pairsFrom-lowers Nothing (wordsOf s), agoFrom-lowers Nothing (wordsOf s))
 
 byName-lowers : (x : Number) (bound : ℕ) (s : List ℕ) (current : Now) → byName x bound (lowers s) current ≡ byName x bound s current
 byName-lowers (Value k) bound s current = refl
-byName-lowers Not bound s current = byPairs-lowers bound s current
+byName-lowers Nothing bound s current = byPairs-lowers bound s current
 
 relativeOf-lowers : (bound : ℕ) (s : List ℕ) (current : Now) → relativeOf bound (lowers s) current ≡ relativeOf bound s current
 unfolding relativeOf

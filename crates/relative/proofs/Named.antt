@@ -14,7 +14,7 @@ use Rattle.text.specs.Quote.{bytes}
 use Rattle.text.specs.Trim.{trim}
 use Rattle.text.specs.Words.{separator, pieces, full, words}
 use Rattle.text.specs.declared.words.Separator.the-variants.{Mark}
-use Rattle.text.specs.declared.number.Number.the-variants.{Not}
+use Rattle.text.specs.declared.number.Number.the-variants.{Nothing}
 use Rattle.text.proofs.Lists.{by-test, both}
 use Rattle.text.proofs.LowerCase.{isAlphanumeric-lowerOf}
 use Rattle.text.proofs.Trimming.{words-trim}
@@ -33,7 +33,7 @@ unfolding pieces
 one-piece [] h = refl
 one-piece (b ∷ s) h = let k = both (isAlphanumeric b) (one s) h in rw (k .0, one-piece s (k .1))
 
-no-pair : (s : List ℕ) → one s ≡ true → pairsFrom Not (words (separator Mark) s) ≡ []
+no-pair : (s : List ℕ) → one s ≡ true → pairsFrom Nothing (words (separator Mark) s) ≡ []
 unfolding words full pairsFrom
 no-pair [] h = rw (one-piece [] h)
 no-pair (b ∷ s) h = rw (one-piece (b ∷ s) h)
@@ -56,7 +56,7 @@ not-same-of-pair s t o h =
     (λ e. absurd (not-suc-le-zero (rw (← words-trim Mark s, no-pair (trim s) (same-one (trim s) t e o)) at h)))
     (λ e. e)
 
-namedOf-of-pair : (s : List ℕ) → 0 < length (pairsOf s) → namedOf s ≡ Not
+namedOf-of-pair : (s : List ℕ) → 0 < length (pairsOf s) → namedOf s ≡ Nothing
 unfolding namedOf isAlphanumeric
 namedOf-of-pair s h =
     rw (not-same-of-pair s (bytes "now") refl h, not-same-of-pair s (bytes "today") refl h, not-same-of-pair s (bytes "yesterday") refl h)

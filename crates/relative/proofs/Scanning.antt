@@ -18,7 +18,7 @@ use Rattle.text.specs.declared.words.Words.{Words}
 use Rattle.text.specs.declared.words.Taken.{Taken}
 use Rattle.text.specs.declared.words.Taken.the-variants.{Word, Nothing}
 use Rattle.text.proofs.Taking.{words-takeWord, takeWord-moves}
-use Rattle.text.specs.declared.number.Number.the-variants.{Value, Not}
+use Rattle.text.specs.declared.number.Number.the-variants.{Value, Nothing as NoNumber}
 use Rattle.relative.specs.Words.{wordsOf, is, countOf, unitOf}
 use Rattle.relative.specs.Pairs.{pairsFrom, agoFrom, known, isKnown, pairsOf, agoIn}
 use Rattle.relative.specs.declared.pair.Unit.{Unit}
@@ -31,10 +31,10 @@ left s at = words (separator Mark) (drop at s)
 -- n pairs have been read, of which those up to the bound are held; k says whether all their units are known, a whether the mark
 -- was set; the words `rest` are left
 pub record Scanned (bound : ℕ) (s : List ℕ) (held : List Pair) (n : ℕ) (k a : Bool) (rest : List (List ℕ)) : Type 0 where
-  pub number : length (pairsOf s) ≡ n + length (pairsFrom Not rest)
-  pub units : known (pairsOf s) ≡ (k && known (pairsFrom Not rest))
-  pub mark : agoIn s ≡ (a || agoFrom Not rest)
-  pub store : n ≤ bound → pairsOf s ≡ take n held ++ pairsFrom Not rest
+  pub number : length (pairsOf s) ≡ n + length (pairsFrom NoNumber rest)
+  pub units : known (pairsOf s) ≡ (k && known (pairsFrom NoNumber rest))
+  pub mark : agoIn s ≡ (a || agoFrom NoNumber rest)
+  pub store : n ≤ bound → pairsOf s ≡ take n held ++ pairsFrom NoNumber rest
 
 pub scanned-start : (bound : ℕ) (s : List ℕ) (held : List Pair) → Scanned bound s held 0 true false (left s 0)
 unfolding wordsOf
@@ -71,7 +71,7 @@ module _ {bound : ℕ} {s : List ℕ} {held : List Pair} {n : ℕ} {k a : Bool} 
         }
 
     -- a word that is no count
-    pub passed : Scanned bound s held n k a (w ∷ ws) → is w "ago" ≡ false → countOf w ≡ Not → Scanned bound s held n k a ws
+    pub passed : Scanned bound s held n k a (w ∷ ws) → is w "ago" ≡ false → countOf w ≡ NoNumber → Scanned bound s held n k a ws
     unfolding pairsFrom agoFrom
     passed h e f =
         record {

@@ -6,7 +6,7 @@ use mathlib.Core.List.{List, [], _∷_, _++_}
 use Prim.Native.Nat.{ℕ}
 use lib.IntN.{ℤ}
 use Rattle.text.specs.declared.number.Number.{Number}
-use Rattle.text.specs.declared.number.Number.the-variants.{Value, Not}
+use Rattle.text.specs.declared.number.Number.the-variants.{Value, Nothing}
 use Rattle.text.proofs.Lists.{by-test, both}
 use Rattle.time.specs.Range.{secondsInRange, offsetInRange, timeInRange}
 use Rattle.time.specs.declared.Answer.{Answer}
@@ -20,8 +20,8 @@ use Rattle.relative.specs.declared.pair.Pair.{Pair}
 pub pairsFrom-append : (c : Number) (a b : List (List ℕ)) → pairsFrom c (a ++ b) ≡ pairsFrom c a ++ pairsFrom (waitsFrom c a) b
 unfolding pairsFrom waitsFrom
 pairsFrom-append c [] b = refl
-pairsFrom-append (Value n) (w ∷ a) b = rw (pairsFrom-append Not a b)
-pairsFrom-append Not (w ∷ a) b = pairsFrom-append (next Not w) a b
+pairsFrom-append (Value n) (w ∷ a) b = rw (pairsFrom-append Nothing a b)
+pairsFrom-append Nothing (w ∷ a) b = pairsFrom-append (next Nothing w) a b
 
 pub waitsFrom-append : (c : Number) (a b : List (List ℕ)) → waitsFrom c (a ++ b) ≡ waitsFrom (waitsFrom c a) b
 unfolding waitsFrom

@@ -10,7 +10,7 @@ use lib.Dec.{leb, eqb}
 use lib.ListN.{take}
 use Rattle.time.specs.Range.{timeInRange, timeOf, instantOf, InRange}
 use Rattle.time.specs.declared.range.Moved.{Moved}
-use Rattle.time.specs.declared.range.Moved.the-variants.{In, Out}
+use Rattle.time.specs.declared.range.Moved.the-variants.{In, Nothing as Out}
 use Rattle.time.specs.declared.Now.{Now}
 use Rattle.time.specs.declared.Now.the-variants.{Missing, At}
 use Rattle.time.specs.declared.Refusal.the-variants.{Missing as NoCurrent, Current, Range}
@@ -22,7 +22,7 @@ use Rattle.relative.specs.declared.pair.Pair.{Pair}
 use Rattle.relative.specs.declared.pairs.Counted.{Counted}
 use Rattle.relative.specs.declared.pairs.Counted.the-variants.{Pairs, Nothing}
 use Rattle.relative.specs.declared.steps.Start.{Start}
-use Rattle.relative.specs.declared.steps.Start.the-variants.{From, No}
+use Rattle.relative.specs.declared.steps.Start.the-variants.{From, Refused as NoStart}
 
 -- the length of the two lists
 abbrev pub places : ℕ
@@ -66,12 +66,12 @@ Holds Nothing held ps = Unit {0}
 
 -- where the steps start, or why they cannot
 unfoldable pub startOf : Now → Start
-startOf Missing = No NoCurrent
-startOf (At x) = cond (timeInRange x) (From (instantOf x)) (No Current)
+startOf Missing = NoStart NoCurrent
+startOf (At x) = cond (timeInRange x) (From (instantOf x)) (NoStart Current)
 
 abbrev pub StartInRange : Start → Type 0
 StartInRange (From i) = InRange i
-StartInRange (No r) = Unit {0}
+StartInRange (NoStart r) = Unit {0}
 
 -- a landing as an answer
 abbrev pub answerOf : Moved → Answer

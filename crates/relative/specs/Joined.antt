@@ -9,7 +9,7 @@ use mathlib.Core.List.{List, [], _∷_, _++_}
 use lib.ListN.{length}
 use Rattle.text.specs.Bytes.{ascii}
 use Rattle.text.specs.declared.number.Number.{Number}
-use Rattle.text.specs.declared.number.Number.the-variants.{Not}
+use Rattle.text.specs.declared.number.Number.the-variants.{Nothing}
 use Rattle.time.specs.declared.Now.the-variants.{At}
 use Rattle.time.specs.declared.Answer.{Answer}
 use Rattle.time.specs.declared.Answer.the-variants.{Time, Refused}
@@ -30,7 +30,7 @@ pub record Whole (s : List ℕ) : Type 0 where
   pub plain : ascii s ≡ true
   pub some : 0 < length (pairsOf s)
   pub units-known : known (pairsOf s) ≡ true
-  pub ended : waitsFrom Not (wordsOf s) ≡ Not
+  pub ended : waitsFrom Nothing (wordsOf s) ≡ Nothing
 
 -- a and b with a space between
 abbrev pub spaced : List ℕ → List ℕ → List ℕ

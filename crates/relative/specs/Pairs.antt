@@ -5,7 +5,7 @@ use Prim.Native.Nat.{ℕ}
 use mathlib.Core.Bool.{Bool, true, false, cond, _&&_, _||_}
 use mathlib.Core.List.{List, [], _∷_}
 use Rattle.text.specs.declared.number.Number.{Number}
-use Rattle.text.specs.declared.number.Number.the-variants.{Value, Not}
+use Rattle.text.specs.declared.number.Number.the-variants.{Value, Nothing}
 use Rattle.relative.specs.Words.{wordsOf, is, countOf, unitOf}
 use Rattle.relative.specs.declared.pair.Unit.{Unit}
 use Rattle.relative.specs.declared.pair.Unit.the-variants.{Seconds, Months, Unknown}
@@ -13,18 +13,18 @@ use Rattle.relative.specs.declared.pair.Pair.{Pair}
 
 -- the count that waits once the word w is read: w itself if it is a count. Other words are passed over
 abbrev pub next : Number → List ℕ → Number
-next (Value n) w = Not
-next Not w = cond (is w "ago") Not (countOf w)
+next (Value n) w = Nothing
+next Nothing w = cond (is w "ago") Nothing (countOf w)
 
 -- w is the unit of the count that waits: the pair, before the pairs that follow
 abbrev pub put : Number → List ℕ → List Pair → List Pair
 put (Value n) w ps = record { count = n; unit = unitOf w } ∷ ps
-put Not w ps = ps
+put Nothing w ps = ps
 
 -- `ago`, where a count is awaited, sets a mark
 abbrev pub marks : Number → List ℕ → Bool
 marks (Value n) w = false
-marks Not w = is w "ago"
+marks Nothing w = is w "ago"
 
 -- the pairs of the words; a count at the end is dropped
 unfoldable pub pairsFrom : Number → List (List ℕ) → List Pair
@@ -48,7 +48,7 @@ known (p ∷ ps) = isKnown (p .unit) && known ps
 
 -- the pairs of a text, and its mark
 abbrev pub pairsOf : List ℕ → List Pair
-pairsOf s = pairsFrom Not (wordsOf s)
+pairsOf s = pairsFrom Nothing (wordsOf s)
 
 abbrev pub agoIn : List ℕ → Bool
-agoIn s = agoFrom Not (wordsOf s)
+agoIn s = agoFrom Nothing (wordsOf s)

@@ -9,7 +9,7 @@ use lib.ListN.{length}
 use Rattle.text.specs.Bytes.{ascii}
 use Rattle.text.specs.Trim.{trim}
 use Rattle.text.specs.declared.number.Number.{Number}
-use Rattle.text.specs.declared.number.Number.the-variants.{Value, Not}
+use Rattle.text.specs.declared.number.Number.the-variants.{Value, Nothing}
 use Rattle.time.specs.Range.{timeInRange}
 use Rattle.time.specs.declared.Now.{Now}
 use Rattle.time.specs.declared.Now.the-variants.{Missing, At}
@@ -35,7 +35,7 @@ from (At x) ps = cond (timeInRange x) (steps ps (Time x)) (Refused Current)
 unfoldable pub namedOf : List ℕ → Number
 namedOf s =
     let t = trim s in
-    cond (is t "now" || is t "today") (Value 0) (cond (is t "yesterday") (Value 86400) Not)
+    cond (is t "now" || is t "today") (Value 0) (cond (is t "yesterday") (Value 86400) Nothing)
 
 -- any other text goes by its pairs: 2 without a pair, 2 for an unknown unit without the mark, then 5 for too many pairs
 unfoldable pub byPairs : ℕ → List ℕ → Now → Answer
@@ -46,7 +46,7 @@ byPairs bound s current =
 
 abbrev pub byName : Number → ℕ → List ℕ → Now → Answer
 byName (Value k) bound s current = from current (record { count = k; unit = Seconds 1 } ∷ [])
-byName Not bound s current = byPairs bound s current
+byName Nothing bound s current = byPairs bound s current
 
 unfoldable pub relativeOf : ℕ → List ℕ → Now → Answer
 relativeOf bound s current = cond (ascii s) (byName (namedOf s) bound s current) (Refused NotAscii)

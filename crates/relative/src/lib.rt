@@ -55,7 +55,7 @@ pub fn parse_with(months: &[u32], s: &[u8], current: Now) -> Answer
     Answer::Refused(Refusal::NotAscii)
 }
 
-// How many seconds before the current time `now`, `today` or `yesterday` is. Any other text is Not,
+// How many seconds before the current time `now`, `today` or `yesterday` is. Any other text is Nothing,
 // also `yesterday 1 day`.
 fn parse_named(s: &[u8]) -> Number
     ensures { λ r. ⌜ r ≡ namedOf (now (s .entry)) ⌝ }
@@ -70,7 +70,7 @@ fn parse_named(s: &[u8]) -> Number
     if text::bytes::same_ignoring_case(t, b"yesterday") {
         return Number::Value(SECONDS_PER_DAY);
     }
-    Number::Not
+    Number::Nothing
 }
 
 // The time k seconds before the current time.
@@ -80,7 +80,7 @@ fn seconds_before(current: Now, k: u64) -> Answer
     let start = steps::start_of(current);
     match start {
         Start::From(i) => steps::answer(steps::seconds_back(i, k, 1)),
-        Start::No(r) => Answer::Refused(r),
+        Start::Refused(r) => Answer::Refused(r),
     }
 }
 
@@ -103,6 +103,6 @@ fn parse_pairs(months: &[u32], s: &[u8], current: Now) -> Answer
     let start = steps::start_of(current);
     match start {
         Start::From(i) => steps::answer(steps::subtract_pairs(months, &counts, &units, n, i)),
-        Start::No(r) => Answer::Refused(r),
+        Start::Refused(r) => Answer::Refused(r),
     }
 }

@@ -27,7 +27,7 @@ const OFFSET_ZERO: u64 = 93600;
 // Where the steps start; or why they cannot: there is no current time, or it is out of range.
 pub enum Start {
     From(Instant),
-    No(Refusal),
+    Refused(Refusal),
 }
 
 pub fn start_of(current: Now) -> Start
@@ -35,11 +35,11 @@ pub fn start_of(current: Now) -> Start
     ensures range { λ r. ⌜ StartInRange r ⌝ }
 {
     let Now::At(x) = current else {
-        return Start::No(Refusal::Missing);
+        return Start::Refused(Refusal::Missing);
     };
     let moved = time::range::instant_of(x);
     let Moved::In(i) = moved else {
-        return Start::No(Refusal::Current);
+        return Start::Refused(Refusal::Current);
     };
     Start::From(i)
 }
@@ -51,7 +51,7 @@ pub fn answer(m: Moved) -> Answer
 {
     match m {
         Moved::In(i) => time::range::time_of(i),
-        Moved::Out => Answer::Refused(Refusal::Range),
+        Moved::Nothing => Answer::Refused(Refusal::Range),
     }
 }
 
@@ -78,7 +78,7 @@ pub fn subtract_pairs(
         };
         let moved = subtract_pair(months, pair, at);
         let Moved::In(landed) = moved else {
-            return Moved::Out;
+            return Moved::Nothing;
         };
         at = landed;
         k += 1;
@@ -109,7 +109,7 @@ pub fn seconds_back(i: Instant, n: u64, k: u64) -> Moved
 {
     let t = i.seconds;
     if t / k < n {
-        return Moved::Out;
+        return Moved::Nothing;
     }
     if_in_range(t - n * k, i.offset)
 }
@@ -124,14 +124,14 @@ fn months_earlier(months: &[u32], i: Instant, n: u64, k: u64) -> Moved
     let t = i.seconds;
     let o = i.offset;
     if MONTHS_COUNTED / k < n {
-        return Moved::Out;
+        return Moved::Nothing;
     }
     let back = calendar::months_back(months, t + o - OFFSET_ZERO, n * k);
     let Found::At(l) = back else {
-        return Moved::Out;
+        return Moved::Nothing;
     };
     if l + OFFSET_ZERO < o {
-        return Moved::Out;
+        return Moved::Nothing;
     }
     if_in_range(l + OFFSET_ZERO - o, o)
 }
@@ -145,5 +145,5 @@ fn if_in_range(seconds: u64, offset: u64) -> Moved
     if time::range::in_range(seconds) {
         return Moved::In(Instant { seconds, offset });
     }
-    Moved::Out
+    Moved::Nothing
 }

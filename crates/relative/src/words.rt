@@ -2,7 +2,7 @@
 ghost use mathlib.Core.Path.{_≡_};
 ghost use mathlib.Core.Bool.{cond};
 ghost use Rattle.text.specs.Bytes.{sameLetters};
-ghost use Rattle.text.specs.declared.number.Number.the-variants.{Value, Not};
+ghost use Rattle.text.specs.declared.number.Number.the-variants.{Value, Nothing};
 ghost use Rattle.relative.specs.Words.{spelled as spelledOf, countOf, singular as singularOf, unitNamed, unitOf};
 use crate::pair::Unit;
 use calendar::SECONDS_PER_DAY;
@@ -35,9 +35,9 @@ pub fn count(w: &[u8]) -> Number
 // `one` to `ten`, or `last`; there is no `zero`. The first name decides, so they are tried from the
 // last.
 fn spelled(w: &[u8]) -> Number
-    ensures { λ r. ⌜ r ≡ spelledOf (now (w .entry)) Not ⌝ }
+    ensures { λ r. ⌜ r ≡ spelledOf (now (w .entry)) Nothing ⌝ }
 {
-    let n = Number::Not;
+    let n = Number::Nothing;
     let n = named(w, b"last", 1, n);
     let n = named(w, b"ten", 10, n);
     let n = named(w, b"nine", 9, n);

@@ -15,8 +15,8 @@ use Rattle.text.specs.Lines.{linesOf, endedLines}
 use Rattle.text.specs.Decimal.{digitsUpTo, decimal, signed}
 use Rattle.text.specs.Room.{fits, fitBoth, roomAfter}
 use Rattle.text.specs.declared.words.Separator.the-variants.{Space, Mark}
-use Rattle.text.specs.declared.number.Number.the-variants.{Value, Not}
-use Rattle.text.specs.declared.number.Integer.the-variants.{Is, NotOne}
+use Rattle.text.specs.declared.number.Number.the-variants.{Value, Nothing as NoNumber}
+use Rattle.text.specs.declared.number.Integer.the-variants.{Is, Nothing as NoInteger}
 
 -- RULES 4.1, "the bytes 9 to 13 and 32": 11 is white space; 8, 14 and 31 are not
 byte-11-is-space : isSpace 11 ≡ true
@@ -61,12 +61,12 @@ unfolding sameLetters lowerOf
 no-letters = refl
 
 -- RULES 4.2, "digits only, at least one"
-no-digit : unsignedOf (bytes "+") ≡ Not × unsignedOf [] ≡ Not × unsignedOf (bytes "1 ") ≡ Not
+no-digit : unsignedOf (bytes "+") ≡ NoNumber × unsignedOf [] ≡ NoNumber × unsignedOf (bytes "1 ") ≡ NoNumber
 unfolding unsignedOf digitsOf readFrom isDigit
 no-digit = (refl, refl, refl)
 
 -- RULES 4.3, "so `-0` is not one", though it is a signed number
-minus-zero : unsignedOf (bytes "-0") ≡ Not × signedOf (bytes "-0") ≡ Is (pos 0)
+minus-zero : unsignedOf (bytes "-0") ≡ NoNumber × signedOf (bytes "-0") ≡ Is (pos 0)
 unfolding signedOf unsignedOf digitsOf readFrom isDigit
 minus-zero = (refl, refl)
 
@@ -76,7 +76,7 @@ unfolding unsignedOf digitsOf readFrom isDigit
 leading-zeros = refl
 
 -- RULES 4.2, "whose value fits the width": 255 is an unsigned number of 8 bits, 256 is none
-eight-bits : fit 255 (unsignedOf (bytes "255")) ≡ Value 255 × fit 255 (unsignedOf (bytes "256")) ≡ Not
+eight-bits : fit 255 (unsignedOf (bytes "255")) ≡ Value 255 × fit 255 (unsignedOf (bytes "256")) ≡ NoNumber
 unfolding fit unsignedOf digitsOf readFrom isDigit
 eight-bits = (refl, refl)
 
@@ -85,7 +85,7 @@ least : fitSigned (2 ^ 63) (signedOf (bytes "-9223372036854775808")) ≡ Is (neg
 unfolding fitSigned signedOf digitsOf readFrom isDigit
 least = refl
 
-below-least : fitSigned (2 ^ 63) (signedOf (bytes "-9223372036854775809")) ≡ NotOne
+below-least : fitSigned (2 ^ 63) (signedOf (bytes "-9223372036854775809")) ≡ NoInteger
 unfolding fitSigned signedOf digitsOf readFrom isDigit
 below-least = refl
 
@@ -93,7 +93,7 @@ most : fitSigned (2 ^ 63) (signedOf (bytes "9223372036854775807")) ≡ Is (pos (
 unfolding fitSigned signedOf unsignedOf digitsOf readFrom isDigit
 most = refl
 
-above-most : fitSigned (2 ^ 63) (signedOf (bytes "9223372036854775808")) ≡ NotOne
+above-most : fitSigned (2 ^ 63) (signedOf (bytes "9223372036854775808")) ≡ NoInteger
 unfolding fitSigned signedOf unsignedOf digitsOf readFrom isDigit
 above-most = refl
 

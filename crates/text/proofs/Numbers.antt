@@ -18,9 +18,9 @@ use Rattle.text.specs.Places.{run, leading}
 use Rattle.text.specs.Number.{readFrom, digitsOf, unsignedOf, signedOf, fit, fitSigned, plus, minus, numeral, AtMost}
 use Rattle.text.specs.Held.{signedBy}
 use Rattle.text.specs.declared.number.Number.{Number}
-use Rattle.text.specs.declared.number.Number.the-variants.{Value, Not}
+use Rattle.text.specs.declared.number.Number.the-variants.{Value, Nothing as NoNumber}
 use Rattle.text.specs.declared.number.Integer.{Integer}
-use Rattle.text.specs.declared.number.Integer.the-variants.{Is, NotOne}
+use Rattle.text.specs.declared.number.Integer.the-variants.{Is, Nothing as NoInteger}
 use Rattle.text.proofs.Lists.{by-test, both}
 use Rattle.text.proofs.Runs.{run-le-run, run-leading}
 
@@ -34,7 +34,7 @@ isDigit-of-le b h k = rw (le-leb 48 b h, le-leb b 57 k)
 
 pub readFrom-digit : (v b : ℕ) (w : List ℕ) (n : ℕ) → readFrom v (b ∷ w) ≡ Value n → isDigit b ≡ true
 unfolding readFrom
-readFrom-digit v b w n = by-test (isDigit b) (λ e h. e) (λ e h. let k : Not ≡ Value n = rw e at h in let z : _≡_ {A = ℕ} 0 1 = cc in absurd (omega arith))
+readFrom-digit v b w n = by-test (isDigit b) (λ e h. e) (λ e h. let k : NoNumber ≡ Value n = rw e at h in let z : _≡_ {A = ℕ} 0 1 = cc in absurd (omega arith))
 
 -- one digit more
 pub readFrom-cons : (s : List ℕ) (v b d : ℕ) → isDigit b ≡ true → d ≡ b - 48 → readFrom v (b ∷ s) ≡ readFrom (10 * v + d) s
@@ -43,31 +43,31 @@ readFrom-cons s v b d h e = rw (h, e)
 
 -- ---- digits at the front of a text
 -- a byte after them that is no digit
-readFrom-of-run-lt : (s : List ℕ) (v : ℕ) → run isDigit s < length s → readFrom v s ≡ Not
+readFrom-of-run-lt : (s : List ℕ) (v : ℕ) → run isDigit s < length s → readFrom v s ≡ NoNumber
 unfolding run readFrom
 readFrom-of-run-lt [] v h = absurd (not-suc-le-zero h)
 readFrom-of-run-lt (b ∷ s) v h = by-test (isDigit b) (λ e. rw e (readFrom-of-run-lt s _ (omega (arith, rw e at h)))) (λ e. rw e)
 
-pub digitsOf-of-run-lt : (s : List ℕ) → run isDigit s < length s → digitsOf s ≡ Not
+pub digitsOf-of-run-lt : (s : List ℕ) → run isDigit s < length s → digitsOf s ≡ NoNumber
 unfolding digitsOf
 digitsOf-of-run-lt [] h = refl
 digitsOf-of-run-lt (b ∷ s) h = readFrom-of-run-lt (b ∷ s) 0 h
 
 -- ---- values that fit
 -- a value above the limit stays above it
-pub fit-readFrom-of-lt : (s : List ℕ) (limit v : ℕ) → limit < v → fit limit (readFrom v s) ≡ Not
+pub fit-readFrom-of-lt : (s : List ℕ) (limit v : ℕ) → limit < v → fit limit (readFrom v s) ≡ NoNumber
 unfolding fit readFrom
 fit-readFrom-of-lt [] limit v h = rw (lt-leb v limit h)
 fit-readFrom-of-lt (b ∷ s) limit v h = by-test (isDigit b) (λ e. rw e (fit-readFrom-of-lt s limit (10 * v + (b - 48)) (omega arith))) (λ e. rw e)
 
-pub fit-digitsOf-of-Not : (s : List ℕ) (limit : ℕ) → fit limit (readFrom 0 s) ≡ Not → fit limit (digitsOf s) ≡ Not
+pub fit-digitsOf-of-Not : (s : List ℕ) (limit : ℕ) → fit limit (readFrom 0 s) ≡ NoNumber → fit limit (digitsOf s) ≡ NoNumber
 unfolding fit digitsOf
 fit-digitsOf-of-Not [] limit h = refl
 fit-digitsOf-of-Not (b ∷ s) limit h = h
 
 -- digits from one place up to another, with the value v: no number if the two places are the same
 pub fit-digitsOf-of-length : (s : List ℕ) (limit v from end : ℕ) → v ≤ limit → from + length s ≡ end → fit limit (readFrom 0 s) ≡ fit limit (Value v)
-    → fit limit (digitsOf s) ≡ cond (ltb from end) (Value v) Not
+    → fit limit (digitsOf s) ≡ cond (ltb from end) (Value v) NoNumber
 unfolding fit digitsOf
 fit-digitsOf-of-length [] limit v from end f l e = rw (le-ltb from end (omega arith))
 fit-digitsOf-of-length (b ∷ s) limit v from end f l e = rw (lt-ltb from end (omega arith)) (rw (le-leb v limit f) at e)
@@ -76,13 +76,13 @@ fit-digitsOf-of-length (b ∷ s) limit v from end f l e = rw (lt-ltb from end (o
 pub AtMost-of-fit : (limit k : ℕ) (x r : Number) → r ≡ fit limit x → limit ≤ k → AtMost k r
 unfolding fit
 AtMost-of-fit limit k (Value n) r e h = rw e (by-test (leb n limit) (λ y. rw y (omega (arith, leb-true n limit y))) (λ y. rw y tt))
-AtMost-of-fit limit k Not r e h = rw e tt
+AtMost-of-fit limit k NoNumber r e h = rw e tt
 
 -- the argument of `fit`, if its result is a number
 pub fit-value : (limit n : ℕ) (x : Number) → fit limit x ≡ Value n → x ≡ Value n
 unfolding fit
-fit-value limit n (Value m) = by-test (leb m limit) (λ e h. rw e at h) (λ e h. let k : Not ≡ Value n = rw e at h in let z : _≡_ {A = ℕ} 0 1 = cc in absurd (omega arith))
-fit-value limit n Not = λ h. h
+fit-value limit n (Value m) = by-test (leb m limit) (λ e h. rw e at h) (λ e h. let k : NoNumber ≡ Value n = rw e at h in let z : _≡_ {A = ℕ} 0 1 = cc in absurd (omega arith))
+fit-value limit n NoNumber = λ h. h
 
 pub fit-value-le : (limit : ℕ) (x : Number) {n : ℕ} → fit limit x ≡ Value n → n ≤ limit
 fit-value-le limit x {n} e = AtMost-of-fit limit limit x (Value n) (sym e) (omega arith)
@@ -92,14 +92,14 @@ unfolding fitSigned
 fitSigned-value half (Is y) z k =
     by-test (leZ (negℤ (pos half)) y && ltZ y (pos half)) (λ t. rw t at k)
     (λ t. let m = rw t at k in let q : _≡_ {A = ℕ} 0 1 = cc in absurd (omega arith))
-fitSigned-value half NotOne z k = k
+fitSigned-value half NoInteger z k = k
 
 -- what fits the smaller limit fits the larger one too
 pub fit-fit : (k l : ℕ) (x : Number) → k ≤ l → fit k (fit l x) ≡ fit k x
 unfolding fit
 fit-fit k l (Value n) h =
     by-test (leb n l) (λ e. rw e) (λ e. rw (e, lt-leb n k (omega (arith, leb-false n l e))))
-fit-fit k l Not h = refl
+fit-fit k l NoNumber h = refl
 
 -- ---- the sign
 -- at most half - 1 is below half
@@ -115,23 +115,23 @@ least-le-pos (suc h) n = refl
 fitSigned-plus : (half : ℕ) (x : Number) → 0 < half → fitSigned half (plus x) ≡ plus (fit (half - 1) x)
 unfolding fit fitSigned
 fitSigned-plus half (Value n) h = rw (least-le-pos half n, leb-pred n half h) (by-test (ltb n half) (λ e. rw e) (λ e. rw e))
-fitSigned-plus half Not h = refl
+fitSigned-plus half NoNumber h = refl
 
 fitSigned-minus : (half : ℕ) (x : Number) → 0 < half → fitSigned half (minus x) ≡ minus (fit half x)
 unfolding fit fitSigned
 fitSigned-minus zero x h = absurd (not-suc-le-zero h)
 fitSigned-minus (suc h) (Value zero) p = rw (lt-ltb 0 (suc h) p, le-leb 0 (suc h) (omega arith))
 fitSigned-minus (suc h) (Value (suc n)) p = rw (leb·suc-suc) (by-test (leb n h) (λ e. rw e) (λ e. rw e))
-fitSigned-minus (suc h) Not p = refl
+fitSigned-minus (suc h) NoNumber p = refl
 
 -- ---- the number of a short text: with k bytes it is below 10 to the k, with or without a sign
 abbrev pub Below : ℕ → Number → Type 0
 Below k (Value n) = n < k
-Below k Not = Unit {0}
+Below k NoNumber = Unit {0}
 
 Below-le : {k l : ℕ} (x : Number) → k ≤ l → Below k x → Below l x
 Below-le (Value n) h b = omega arith
-Below-le Not h b = tt
+Below-le NoNumber h b = tt
 
 readFrom-below : (s : List ℕ) (v : ℕ) → Below ((v + 1) * 10 ^ length s) (readFrom v s)
 unfolding readFrom
@@ -165,20 +165,20 @@ fit-of-length limit s h = go (unsignedOf s) (unsignedOf-below s)
   where
     go : (x : Number) → Below (10 ^ length s) x → fit limit x ≡ x
     go (Value n) b = rw (le-leb n limit (omega arith))
-    go Not b = refl
+    go NoNumber b = refl
 
 abbrev pub Short : ℕ → Integer → Type 0
 Short k (Is z) = natAbs z < k
-Short k NotOne = Unit {0}
+Short k NoInteger = Unit {0}
 
 plus-short : (k : ℕ) (x : Number) → Below k x → Short k (plus x)
 plus-short k (Value n) b = b
-plus-short k Not b = tt
+plus-short k NoNumber b = tt
 
 minus-short : (k : ℕ) (x : Number) → Below k x → Short k (minus x)
 minus-short k (Value zero) b = b
 minus-short k (Value (suc n)) b = b
-minus-short k Not b = tt
+minus-short k NoNumber b = tt
 
 pub signedOf-short : (s : List ℕ) → Short (10 ^ length s) (signedOf s)
 unfolding signedOf
@@ -196,7 +196,7 @@ fitSigned-of-length half s h = go half (signedOf s) h (signedOf-short s)
     go zero (Is z) k b = absurd (omega arith)
     go (suc m) (Is (pos n)) k b = rw (lt-ltb n (suc m) (omega arith))
     go (suc m) (Is (negsuc n)) k b = rw (le-leb n m (omega arith))
-    go half NotOne k b = refl
+    go half NoInteger k b = refl
 
 -- the number of two bytes is below 100 in size, so it fits any width that holds 100
 pub pow-length-take : (s : List ℕ) → 10 ^ length (take 2 s) ≤ 100
@@ -241,7 +241,7 @@ module _ (half : ℕ) (h : 0 < half) (n : Number) where
       (λ j. rw (k, j) (fitSigned-plus-of (leading isDigit (b ∷ s)) (rw (j, k) at e) ∙ sym (ap (fitSigned half) (signedOf-leading (b ∷ s))))))
 
 -- ---- a text with other bytes after the sign and the digits is no number
-pub signedOf-of-numeral-lt : (s : List ℕ) → numeral s < length s → signedOf s ≡ NotOne
+pub signedOf-of-numeral-lt : (s : List ℕ) → numeral s < length s → signedOf s ≡ NoInteger
 unfolding numeral signedOf unsignedOf isSign
 signedOf-of-numeral-lt [] h = refl
 signedOf-of-numeral-lt (b ∷ s) h =

@@ -17,9 +17,9 @@ use Rattle.text.specs.Words.{onto, pieces, full, words}
 use Rattle.text.specs.Decimal.{twoBefore}
 use Rattle.text.specs.Number.{readFrom, digitsOf, unsignedOf, signedOf, plus, minus}
 use Rattle.text.specs.declared.number.Number.{Number}
-use Rattle.text.specs.declared.number.Number.the-variants.{Value, Not}
+use Rattle.text.specs.declared.number.Number.the-variants.{Value, Nothing as NoNumber}
 use Rattle.text.specs.declared.number.Integer.{Integer}
-use Rattle.text.specs.declared.number.Integer.the-variants.{Is, NotOne}
+use Rattle.text.specs.declared.number.Integer.the-variants.{Is, Nothing as NoInteger}
 use Rattle.text.proofs.Lists.{by-test}
 use Rattle.text.proofs.Runs.{has-cons, has-nil}
 use Rattle.text.proofs.Numbers.{digit-range}
@@ -129,26 +129,26 @@ between-of-signedOf (b ∷ s) z h =
   where
     minused : (x : Number) → digitsOf s ≡ x → minus x ≡ Is z → Between 43 57 s
     minused (Value n) e k = between-of-digitsOf n s e
-    minused Not e k = let q : _≡_ {A = ℕ} 0 1 = cc in absurd (omega arith)
+    minused NoNumber e k = let q : _≡_ {A = ℕ} 0 1 = cc in absurd (omega arith)
 
     plussed : (x : Number) → unsignedOf (b ∷ s) ≡ x → plus x ≡ Is z → Between 43 57 (b ∷ s)
     plussed (Value n) e k = between-of-unsignedOf n (b ∷ s) e
-    plussed Not e k = let q : _≡_ {A = ℕ} 0 1 = cc in absurd (omega arith)
+    plussed NoNumber e k = let q : _≡_ {A = ℕ} 0 1 = cc in absurd (omega arith)
 
 -- so a text that holds a byte of 128 or more is no number
-pub signedOf-not-ascii : (s : List ℕ) → ascii s ≡ false → signedOf s ≡ NotOne
+pub signedOf-not-ascii : (s : List ℕ) → ascii s ≡ false → signedOf s ≡ NoInteger
 signedOf-not-ascii s h = told (signedOf s) refl
   where
-    told : (x : Integer) → signedOf s ≡ x → x ≡ NotOne
+    told : (x : Integer) → signedOf s ≡ x → x ≡ NoInteger
     told (Is z) e = absurd (false≢true (sym h ∙ ascii-of-between 43 57 (omega arith) s (between-of-signedOf s z e)))
-    told NotOne e = refl
+    told NoInteger e = refl
 
 -- an unsigned number is the same number as a signed one, since it does not begin with `-`
-unsignedOf-minus : (s : List ℕ) → unsignedOf (45 ∷ s) ≡ Not
+unsignedOf-minus : (s : List ℕ) → unsignedOf (45 ∷ s) ≡ NoNumber
 unfolding unsignedOf digitsOf readFrom isDigit
 unsignedOf-minus s = refl
 
-unsignedOf-nil : unsignedOf [] ≡ Not
+unsignedOf-nil : unsignedOf [] ≡ NoNumber
 unfolding unsignedOf
 unsignedOf-nil = refl
 

@@ -15,43 +15,43 @@ use Rattle.text.specs.Places.{run}
 use Rattle.text.specs.declared.number.Width.{Width}
 use Rattle.text.specs.declared.number.Width.the-variants.{Bits32, Bits64}
 use Rattle.text.specs.declared.number.Number.{Number}
-use Rattle.text.specs.declared.number.Number.the-variants.{Value, Not}
+use Rattle.text.specs.declared.number.Number.the-variants.{Value, Nothing as NoNumber}
 use Rattle.text.specs.declared.number.Integer.{Integer}
-use Rattle.text.specs.declared.number.Integer.the-variants.{Is, NotOne}
+use Rattle.text.specs.declared.number.Integer.the-variants.{Is, Nothing as NoInteger}
 use Rattle.text.specs.declared.number.LeadingInteger.{LeadingInteger}
 
 -- digits only: their value, where the digits before them have the value v
 unfoldable pub readFrom : ℕ → List ℕ → Number
 readFrom v [] = Value v
-readFrom v (b ∷ s) = cond (isDigit b) (readFrom (10 * v + (b - code "0")) s) Not
+readFrom v (b ∷ s) = cond (isDigit b) (readFrom (10 * v + (b - code "0")) s) NoNumber
 
 -- at least one
 unfoldable pub digitsOf : List ℕ → Number
-digitsOf [] = Not
+digitsOf [] = NoNumber
 digitsOf (b ∷ s) = readFrom 0 (b ∷ s)
 
 -- unsigned: an optional `+` before them, so `-0` is not one
 unfoldable pub unsignedOf : List ℕ → Number
-unsignedOf [] = Not
+unsignedOf [] = NoNumber
 unsignedOf (b ∷ s) = cond (eqb b (code "+")) (digitsOf s) (digitsOf (b ∷ s))
 
 abbrev pub plus : Number → Integer
 plus (Value n) = Is (pos n)
-plus Not = NotOne
+plus NoNumber = NoInteger
 
 abbrev pub minus : Number → Integer
 minus (Value n) = Is (negℤ (pos n))
-minus Not = NotOne
+minus NoNumber = NoInteger
 
 -- signed: an optional `+` or `-` before them
 unfoldable pub signedOf : List ℕ → Integer
-signedOf [] = NotOne
+signedOf [] = NoInteger
 signedOf (b ∷ s) = cond (eqb b (code "-")) (minus (digitsOf s)) (plus (unsignedOf (b ∷ s)))
 
 -- the value fits the width: it is at most the limit
 unfoldable pub fit : ℕ → Number → Number
-fit limit (Value n) = cond (leb n limit) (Value n) Not
-fit limit Not = Not
+fit limit (Value n) = cond (leb n limit) (Value n) NoNumber
+fit limit NoNumber = NoNumber
 
 -- half of a width of w bits is 2 to the w - 1
 abbrev pub halfOf : Width → ℕ
@@ -60,8 +60,8 @@ halfOf Bits64 = 2 ^ 63
 
 -- signed bits hold the numbers from -half to half - 1
 unfoldable pub fitSigned : ℕ → Integer → Integer
-fitSigned half (Is z) = cond (leZ (negℤ (pos half)) z && ltZ z (pos half)) (Is z) NotOne
-fitSigned half NotOne = NotOne
+fitSigned half (Is z) = cond (leZ (negℤ (pos half)) z && ltZ z (pos half)) (Is z) NoInteger
+fitSigned half NoInteger = NoInteger
 
 -- how many bytes at the front of s are a sign, if there is one, and digits
 unfoldable pub numeral : List ℕ → ℕ
@@ -77,4 +77,4 @@ pub record LeadsWith (half : ℕ) (s : List ℕ) (at : ℕ) (r : LeadingInteger)
 -- at most k, if it is a number
 abbrev pub AtMost : ℕ → Number → Type 0
 AtMost k (Value n) = n ≤ k
-AtMost k Not = Unit {0}
+AtMost k NoNumber = Unit {0}

@@ -12,7 +12,7 @@ ghost use Rattle.text.specs.Places.{leading, past};
 ghost use Rattle.text.specs.Number.{digitsOf, unsignedOf, signedOf, fit, fitSigned, halfOf};
 ghost use Rattle.text.specs.Number.{AtMost, LeadsWith};
 ghost use Rattle.text.specs.Held.{signedBy};
-ghost use Rattle.text.specs.declared.number.Number.the-variants.{Value, Not};
+ghost use Rattle.text.specs.declared.number.Number.the-variants.{Value, Nothing};
 use crate::bytes;
 use crate::scan;
 use crate::scan::Class;
@@ -41,13 +41,13 @@ fn half_of(width: Width) -> u64
 // An unsigned number, or no number.
 pub enum Number {
     Value(u64),
-    Not,
+    Nothing,
 }
 
 // A signed number, or no number.
 pub enum Integer {
     Is(i64),
-    NotOne,
+    Nothing,
 }
 
 // The whole text as an unsigned number: an optional `+`, then digits.
@@ -55,7 +55,7 @@ pub fn unsigned_number(s: &[u8], limit: u64) -> Number
     ensures { λ r. ⌜ r ≡ fit limit (unsignedOf (now (s .entry))) ⌝ }
 {
     if s.len() == 0 {
-        return Number::Not;
+        return Number::Nothing;
     }
     if s[0] == b'+' {
         return digits(s, 1, limit);
@@ -69,7 +69,7 @@ pub fn signed_number(s: &[u8], width: Width) -> Integer
 {
     let read = leading_integer(s, 0, width);
     if read.end < s.len() {
-        return Integer::NotOne;
+        return Integer::Nothing;
     }
     read.number
 }
@@ -80,7 +80,7 @@ pub fn digits(s: &[u8], from: usize, limit: u64) -> Number
 {
     let read = leading_number(s, from, limit);
     if read.end < s.len() {
-        return Number::Not;
+        return Number::Nothing;
     }
     read.number
 }
@@ -109,7 +109,7 @@ pub fn leading_number(s: &[u8], from: usize, limit: u64) -> Leading
             } else {
                 let end = scan::past(s, i, Class::Digit);
                 return Leading {
-                    number: Number::Not,
+                    number: Number::Nothing,
                     end,
                 };
             }
@@ -139,7 +139,7 @@ fn has_room(v: u64, d: u64, limit: u64) -> bool
 // The answer at `end`: v is the value of the digits from `from` up to there, and is no number if
 // there are none.
 fn read_up_to(from: usize, end: usize, v: u64) -> Leading
-    ensures { λ r. ⌜ r .number ≡ cond (ltb from end) (Value v) Not ⌝ }
+    ensures { λ r. ⌜ r .number ≡ cond (ltb from end) (Value v) Nothing ⌝ }
     ensures { λ r. ⌜ r .end ≡ end ⌝ }
 {
     if from < end {
@@ -149,7 +149,7 @@ fn read_up_to(from: usize, end: usize, v: u64) -> Leading
         };
     }
     Leading {
-        number: Number::Not,
+        number: Number::Nothing,
         end,
     }
 }
@@ -182,7 +182,7 @@ fn leading_between(s: &[u8], from: usize, half: u64) -> LeadingInteger
 {
     if s.len() <= from {
         return LeadingInteger {
-            number: Integer::NotOne,
+            number: Integer::Nothing,
             end: from,
             signed: false,
         };
@@ -223,9 +223,9 @@ fn with_sign(negative: bool, n: Number, half: u64) -> Integer
             if v < half {
                 return Integer::Is(v as i64);
             }
-            Integer::NotOne
+            Integer::Nothing
         }
-        Number::Not => Integer::NotOne,
+        Number::Nothing => Integer::Nothing,
     }
 }
 

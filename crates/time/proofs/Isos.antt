@@ -27,7 +27,7 @@ use Rattle.time.specs.declared.Written.{Written}
 use Rattle.time.specs.declared.Written.the-variants.{Length, Refused}
 use Rattle.time.specs.declared.range.Instant.{Instant}
 use Rattle.time.specs.declared.range.Moved.{Moved}
-use Rattle.time.specs.declared.range.Moved.the-variants.{In as Inside, Out}
+use Rattle.time.specs.declared.range.Moved.the-variants.{In as Inside, Nothing}
 use Rattle.time.specs.declared.clock.Clock.{Clock}
 use Rattle.time.specs.declared.format.Line.{Line}
 use Rattle.time.specs.declared.format.Line.the-variants.{At, Refused as NoLine}
@@ -45,7 +45,7 @@ offset-in (negsuc n) h = record { low = parts-le _ _ (omega arith); high = parts
 -- so that the move to numbers from 0 depends on the seconds alone
 abbrev pub lineFrom : Moved → Line
 lineFrom (Inside i) = At i
-lineFrom Out = NoLine Range
+lineFrom Nothing = NoLine Range
 
 pub lineOf-of-narrow : (t : Time) → natAbs (t .offset) < 86400 → lineFrom (movedOf t) ≡ lineOf t
 unfolding lineOf movedOf timeInRange offsetInRange

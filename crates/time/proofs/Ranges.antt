@@ -18,7 +18,7 @@ use Rattle.time.specs.declared.Time.{Time}
 use Rattle.time.specs.declared.Refusal.the-variants.{Range}
 use Rattle.time.specs.declared.Answer.the-variants.{Time as At, Refused}
 use Rattle.time.specs.declared.range.Instant.{Instant}
-use Rattle.time.specs.declared.range.Moved.the-variants.{In as Inside, Out}
+use Rattle.time.specs.declared.range.Moved.the-variants.{In as Inside, Nothing}
 
 -- seconds from 0 are in range from 31715999 to 631138946400
 pub secondsInRange-since1970 : (n : ℕ) → secondsInRange (since1970 n) ≡ (leb 31715999 n && leb n 631138946400)
@@ -96,7 +96,7 @@ module _ (t : Time) {p q : Bool} (e : p ≡ secondsInRange (t .seconds)) (f : q 
   unfolding movedOf timeInRange
   movedOf-in h = rw (← e, ← f, h)
 
-  pub movedOf-out : (p && q) ≡ false → movedOf t ≡ Out
+  pub movedOf-out : (p && q) ≡ false → movedOf t ≡ Nothing
   unfolding movedOf timeInRange
   movedOf-out h = rw (← e, ← f, h)
 

@@ -12,7 +12,7 @@ use Rattle.time.specs.declared.Answer.{Answer}
 use Rattle.time.specs.declared.Answer.the-variants.{Time as At, Refused}
 use Rattle.time.specs.declared.range.Instant.{Instant}
 use Rattle.time.specs.declared.range.Moved.{Moved}
-use Rattle.time.specs.declared.range.Moved.the-variants.{In, Out}
+use Rattle.time.specs.declared.range.Moved.the-variants.{In, Nothing}
 
 -- seconds -377705023201 to 253402207200
 abbrev pub leastSeconds : ℤ
@@ -49,7 +49,7 @@ abbrev pub instantOf : Time → Instant
 instantOf t = record { seconds = natAbs (t .seconds +ℤ pos 377736739200); offset = natAbs (t .offset +ℤ pos 93600) }
 
 unfoldable pub movedOf : Time → Moved
-movedOf t = cond (timeInRange t) (In (instantOf t)) Out
+movedOf t = cond (timeInRange t) (In (instantOf t)) Nothing
 
 -- an instant as an answer: refused by 6 if its time is out of range
 unfoldable pub answerAt : Instant → Answer
@@ -64,4 +64,4 @@ pub record InRange (i : Instant) : Type 0 where
 
 abbrev pub MovedInRange : Moved → Type 0
 MovedInRange (In i) = InRange i
-MovedInRange Out = Unit {0}
+MovedInRange Nothing = Unit {0}

@@ -38,7 +38,7 @@ pub struct Instant {
 
 pub enum Moved {
     In(Instant),
-    Out,
+    Nothing,
 }
 
 // A time as numbers from 0, if both its seconds and its offset are in range.
@@ -54,7 +54,7 @@ pub fn instant_of(t: Time) -> Moved
             offset: (o + OFFSET_ZERO_32) as u64,
         });
     }
-    Moved::Out
+    Moved::Nothing
 }
 
 // The time of an instant; refused by 6 if it would be out of range.

@@ -7,12 +7,12 @@ use native.Mathlib.Omega.{arith}
 use lib.ListN.{length}
 use Rattle.text.specs.Bytes.{isDigit}
 use Rattle.header.specs.Header.{headerOffset}
-use Rattle.header.specs.declared.offset.Parsed.the-variants.{NoOffset}
+use Rattle.header.specs.declared.offset.Parsed.the-variants.{Nothing}
 use borrow.Author.Needs.{needs}
 use Rattle.header.proofs.parse_offset.Statement.{statement}
 use Rattle.header.proofs.parse_offset.Tie as tie
 
-headerOffset-of-length : (w : List ℕ) → length w < 2 → headerOffset w ≡ NoOffset
+headerOffset-of-length : (w : List ℕ) → length w < 2 → headerOffset w ≡ Nothing
 unfolding headerOffset isDigit
 headerOffset-of-length [] h = refl
 headerOffset-of-length (a ∷ []) h = refl

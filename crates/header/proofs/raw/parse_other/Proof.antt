@@ -3,7 +3,7 @@
 use mathlib.Core.Path.{_≡_}
 use mathlib.Core.Bool.{cond}
 use Rattle.text.specs.Places.{part}
-use Rattle.text.specs.declared.number.Integer.the-variants.{NotOne}
+use Rattle.text.specs.declared.number.Integer.the-variants.{Nothing}
 use Rattle.header.specs.Offset.{fieldsOf}
 use Rattle.header.specs.Raw.{limitsOf, rawOf, rawTime}
 use Rattle.header.specs.declared.offset.Field.the-variants.{Byte}
@@ -19,7 +19,7 @@ unfolding rawOf
 returns c = rw (rw (c .enum-told .given .1) at (c .before .before .read-words .ensures))
 
 -- otherwise the words were read
-read : (c : tie.After-known-told) → let a = c .before .before .before .before .before .args in let f = c .before .walked .given .0 .0 in rawOf (limitsOf (a .rule)) (a .s .now) ≡ rawTime (limitsOf (a .rule)) (cond (f .whole) (f .number) NotOne) (fieldsOf Byte (part (a .s .now) (f .«offset_word»)))
+read : (c : tie.After-known-told) → let a = c .before .before .before .before .before .args in let f = c .before .walked .given .0 .0 in rawOf (limitsOf (a .rule)) (a .s .now) ≡ rawTime (limitsOf (a .rule)) (cond (f .whole) (f .number) Nothing) (fieldsOf Byte (part (a .s .now) (f .«offset_word»)))
 read c = rawOf-of-words _ _ (rw (c .before .walked .given .1) at (c .before .before .before .read-words .ensures)) _
 
 raw-time-requires : tie.Need-raw-time-requires

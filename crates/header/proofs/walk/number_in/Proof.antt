@@ -4,12 +4,12 @@ use mathlib.Core.Path.{_≡_, refl}
 use mathlib.Core.Bool.{Bool, true, false, cond, not, _||_}
 use mir.Syntax.{w64}
 use Rattle.ints.proofs.Machine.{back}
-use Rattle.text.specs.declared.number.Integer.the-variants.{NotOne}
+use Rattle.text.specs.declared.number.Integer.the-variants.{Nothing}
 use borrow.Author.Needs.{needs}
 use Rattle.header.proofs.walk.number_in.Statement.{statement}
 use Rattle.header.proofs.walk.number_in.Tie as tie
 
-cond-NotOne : (t : Bool) → NotOne ≡ cond t NotOne NotOne
+cond-NotOne : (t : Bool) → Nothing ≡ cond t Nothing Nothing
 cond-NotOne true = refl
 cond-NotOne false = refl
 

@@ -10,14 +10,14 @@ use lib.Seq.{take-all}
 use Rattle.text.specs.Bytes.{isDigit}
 use Rattle.text.specs.Places.{run, leading, past}
 use Rattle.text.specs.Number.{digitsOf, fit}
-use Rattle.text.specs.declared.number.Number.the-variants.{Not}
+use Rattle.text.specs.declared.number.Number.the-variants.{Nothing}
 use Rattle.text.proofs.Numbers.{digitsOf-of-run-lt}
 use borrow.Author.Needs.{needs}
 use Rattle.text.proofs.number.digits.Statement.{statement}
 use Rattle.text.proofs.number.digits.Tie as tie
 
 module _ (s : List ℕ) (from : ℕ) where
-  digitsOf-of-past-lt : past isDigit s from < length s → digitsOf (drop from s) ≡ Not
+  digitsOf-of-past-lt : past isDigit s from < length s → digitsOf (drop from s) ≡ Nothing
   unfolding past
   digitsOf-of-past-lt h = digitsOf-of-run-lt (drop from s) (omega (arith, length-drop from s))
 

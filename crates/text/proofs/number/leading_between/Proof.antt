@@ -14,7 +14,7 @@ use Rattle.text.specs.Number.{digitsOf, signedOf, fit, fitSigned, numera
 use Rattle.text.specs.Held.{signedBy}
 use Rattle.text.specs.declared.number.LeadingInteger.{LeadingInteger}
 use Rattle.text.specs.declared.number.Number.{Number}
-use Rattle.text.specs.declared.number.Integer.the-variants.{NotOne}
+use Rattle.text.specs.declared.number.Integer.the-variants.{Nothing}
 use Rattle.text.proofs.Lists.{by-test, drop-cons-add-one}
 use Rattle.text.proofs.Numbers.{AtMost-of-fit, signedBy-numeral}
 use borrow.Author.Needs.{needs}
@@ -22,7 +22,7 @@ use Rattle.text.proofs.number.leading_between.Statement.{statement}
 use Rattle.text.proofs.number.leading_between.Tie as tie
 
 -- nothing is left
-LeadsWith-nil : (half : ℕ) (s : List ℕ) (at : ℕ) → length s ≤ at → LeadsWith half (drop at s) at (record { number = NotOne; end = at; signed = false })
+LeadsWith-nil : (half : ℕ) (s : List ℕ) (at : ℕ) → length s ≤ at → LeadsWith half (drop at s) at (record { number = Nothing; end = at; signed = false })
 unfolding numeral signedOf fitSigned isSign
 LeadsWith-nil half s at h = rw (drop-of-length-le s h) (record { number-is = refl; end-is = omega arith; signed-is = refl })
 

@@ -13,7 +13,7 @@ use lib.ListN.{length, getD, drop}
 use Rattle.text.specs.Bytes.{isDigit}
 use Rattle.text.specs.Places.{leading, past}
 use Rattle.text.specs.Number.{digitsOf, readFrom, fit}
-use Rattle.text.specs.declared.number.Number.the-variants.{Value, Not}
+use Rattle.text.specs.declared.number.Number.the-variants.{Value, Nothing}
 use Rattle.text.proofs.Runs.{past-of-true, past-of-false, past-of-length-le, length-leading, leading-of-past, leading-of-true}
 use Rattle.text.proofs.Numbers.{digit-range, readFrom-cons, fit-readFrom-of-lt, fit-digitsOf-of-Not, fit-digitsOf-of-length}
 use Rattle.text.proofs.number.leading_number.Statement.{statement}
@@ -35,14 +35,14 @@ module _ (s : List ℕ) (from limit v i : ℕ) (on : On s from limit v i) where
   step d h e k = on ∙ ap (λ (t : List ℕ). fit limit (readFrom v t)) (leading-of-true isDigit s i h e) ∙ ap (fit limit) (readFrom-cons _ v _ d e k)
 
   -- if no digit is left, the value is the answer
-  done : v ≤ limit → past isDigit s from ≡ i → past isDigit s i ≡ i → fit limit (digitsOf (leading isDigit (drop from s))) ≡ cond (ltb from i) (Value v) Not
+  done : v ≤ limit → past isDigit s from ≡ i → past isDigit s i ≡ i → fit limit (digitsOf (leading isDigit (drop from s))) ≡ cond (ltb from i) (Value v) Nothing
   unfolding readFrom
   done f p q =
       fit-digitsOf-of-length _ limit v from i f (length-leading isDigit s from ∙ p)
       (on ∙ ap (λ (t : List ℕ). fit limit (readFrom v t)) (leading-of-past isDigit s i q))
 
   -- a digit that has no room
-  over : limit < v → fit limit (digitsOf (leading isDigit (drop from s))) ≡ Not
+  over : limit < v → fit limit (digitsOf (leading isDigit (drop from s))) ≡ Nothing
   over h = fit-digitsOf-of-Not _ limit (on ∙ fit-readFrom-of-lt _ limit v h)
 
 sub-as-u64 : tie.Need-sub-as-u64 Inv-loop μ-loop

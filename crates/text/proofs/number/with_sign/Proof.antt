@@ -9,14 +9,14 @@ use mir.Syntax.{w64}
 use mir.Facts.{toZ-pos, toZ-ofZ}
 use Rattle.text.specs.Number.{fit}
 use Rattle.text.specs.Held.{signedBy}
-use Rattle.text.specs.declared.number.Integer.the-variants.{Is, NotOne}
-use Rattle.text.specs.declared.number.Number.the-variants.{Not}
+use Rattle.text.specs.declared.number.Integer.the-variants.{Is, Nothing as NoInteger}
+use Rattle.text.specs.declared.number.Number.the-variants.{Nothing as NoNumber}
 use Rattle.text.proofs.Lists.{by-test}
 use borrow.Author.Needs.{needs, sfits-of}
 use Rattle.text.proofs.number.with_sign.Statement.{statement}
 use Rattle.text.proofs.number.with_sign.Tie as tie
 
-signedBy-Not : (half : ℕ) (negative : Bool) → signedBy half negative Not ≡ NotOne
+signedBy-Not : (half : ℕ) (negative : Bool) → signedBy half negative NoNumber ≡ NoInteger
 unfolding signedBy fit
 signedBy-Not half negative = by-test negative (λ e. rw e) (λ e. rw e)
 
