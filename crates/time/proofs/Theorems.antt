@@ -1,6 +1,7 @@
--- What a caller of the writers may rely on, over their definitions. In order: `size` is the bytes that a header takes, wherever one is
--- written; it is at most 26, which `Time::MIN` takes; a buffer of 26 bytes has room for every header; an ISO line is 25 bytes of
--- one shape.
+-- What a caller of the writers may rely on, proved of their definitions. In order: the length of a header that is written is `size` and
+-- that of its bytes; `size` is at most 26, which `Time::MIN` takes; a header is written wherever it fits, so always to a buffer of
+-- 26 bytes; the front of the room then holds its bytes; `Time::MIN` and `Time::MAX` are the smallest and the largest time that a header
+-- can carry; an ISO line is 25 bytes of one shape, and the front of the room holds them once it is written.
 -- Assumes nothing.
 use mathlib.Core.Path.{_≡_, refl, sym, _∙_}
 use mathlib.Core.Bool.{true}
