@@ -15,6 +15,8 @@ use Rattle.dates.specs.Contracts.{OneAnswer, OneAnswerAnd}
 use Rattle.dates.proofs.Contracts.{one-answer}
 use Rattle.chowderbell.specs.Entries.{HandedOut, HandedLength}
 use Rattle.time.proofs.Time.new.Reads as time-new
+use Rattle.time.proofs.Time.smallest.Reads as smallest
+use Rattle.time.proofs.Time.largest.Reads as largest
 use Rattle.time.proofs.Time.size.Reads as time-size
 use Rattle.time.proofs.Time.count_positive_digits.Reads as count-positive-digits
 use Rattle.time.proofs.number_of.Reads as number-of
@@ -23,6 +25,7 @@ use Rattle.time.proofs.buf.to_str.Reads as to-str
 use Rattle.time.proofs.range.instant_of.Reads as instant-of
 use Rattle.time.proofs.range.time_of.Reads as time-of
 use Rattle.time.proofs.range.in_range.Reads as in-range
+use Rattle.time.proofs.range.seconds_in_range.Reads as seconds-in-range
 use Rattle.time.proofs.Time.write_to.Reads as write-to
 use Rattle.time.proofs.Time.write_iso.Reads as write-iso
 use Rattle.time.proofs.Time.write_iso_with.Reads as write-iso-with
@@ -55,6 +58,12 @@ use Rattle.text.proofs.number.leading_integer.Reads as leading-integer
 pub time-new-unique : OneAnswer time-new.Post
 time-new-unique κ a r s e f = one-answer
 
+pub smallest-unique : OneAnswer smallest.Post
+smallest-unique κ a r s e f = one-answer
+
+pub largest-unique : OneAnswer largest.Post
+largest-unique κ a r s e f = one-answer
+
 pub time-size-unique : OneAnswer time-size.Post
 time-size-unique κ a r s e f p q = one-answer (p .0) (q .0)
 
@@ -78,6 +87,9 @@ time-of-unique κ a r s e f = one-answer
 
 pub in-range-unique : OneAnswer in-range.Post
 in-range-unique κ a r s e f = one-answer
+
+pub seconds-in-range-unique : OneAnswer seconds-in-range.Post
+seconds-in-range-unique κ a r s e f = one-answer
 
 -- ---- the writers: what they return, and every byte of the room
 pub write-to-unique : OneAnswerAnd write-to.Post (List ℕ) (λ κ e. now (e .1 .0))

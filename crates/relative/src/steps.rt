@@ -20,9 +20,7 @@ use time::Now;
 use time::Refusal;
 use time::range::Instant;
 use time::range::Moved;
-
-// The offset 0, as `time::range` counts offsets from 0.
-const OFFSET_ZERO: u64 = 93600;
+use time::range::OFFSET_ZERO;
 
 // Where the steps start; or why they cannot: there is no current time, or it is out of range.
 pub enum Start {
