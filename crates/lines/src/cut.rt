@@ -16,7 +16,7 @@ use text::places;
 
 // How many bytes of a line that has no end yet are kept: one more than a line may have, which is
 // enough to show that the line is too long.
-pub const MAX_KEPT: usize = MAX_LINE + 1;
+const MAX_KEPT: usize = MAX_LINE + 1;
 
 // How many bytes of a buffer were answered, and how many bytes the answers took.
 pub struct Step {
