@@ -23,16 +23,16 @@ use Rattle.text.proofs.Taking.{getD-words-zero}
 use Rattle.text.proofs.Numbers.{signedOf-of-numeral-lt, numeral-of-digits, numeral-le-run, numeral-leading, isSign-leading}
 use Rattle.text.proofs.Digits.{leading-of-isSign}
 use Rattle.text.proofs.Plain.{no-space-of-isSign, no-space-of-isDigit}
-use Rattle.header.specs.Header.{number64, orElse, secondsOf}
+use Rattle.header.specs.Header.{number64, numberOr, secondsOf}
 use Rattle.header.specs.Held.{endsAt, firstWord, LeadsWithNumber}
 
-orElse-NotOne : (i : Integer) → orElse i Nothing ≡ i
-orElse-NotOne (Is z) = refl
-orElse-NotOne Nothing = refl
+numberOr-Nothing : (i : Integer) → numberOr i Nothing ≡ i
+numberOr-Nothing (Is z) = refl
+numberOr-Nothing Nothing = refl
 
-orElse-self : (i : Integer) → orElse i i ≡ i
-orElse-self (Is z) = refl
-orElse-self Nothing = refl
+numberOr-self : (i : Integer) → numberOr i i ≡ i
+numberOr-self (Is z) = refl
+numberOr-self Nothing = refl
 
 pub number64-nil : number64 [] ≡ Nothing
 unfolding signedOf fitSigned
@@ -66,15 +66,15 @@ module _ (w : List ℕ) where
   unfolding secondsOf
   secondsOf-by whole h =
       by-test (isSign (getD w 0 0))
-      (λ e. rw (leading-of-isSign w e, number64-nil, orElse-NotOne (number64 w), e) (signed whole h))
+      (λ e. rw (leading-of-isSign w e, number64-nil, numberOr-Nothing (number64 w), e) (signed whole h))
       (λ e. rw (← numeral-of-digits w e, number64-by whole h, e) (unsigned whole))
     where
       signed : (whole : Bool) → Wholly whole → number64 w ≡ cond (whole || false) opening Nothing
       signed true k = number64-by true k
       signed false k = number64-by false k
 
-      unsigned : (whole : Bool) → orElse (cond whole opening Nothing) opening ≡ cond (whole || true) opening Nothing
-      unsigned true = orElse-self opening
+      unsigned : (whole : Bool) → numberOr (cond whole opening Nothing) opening ≡ cond (whole || true) opening Nothing
+      unsigned true = numberOr-self opening
       unsigned false = refl
 
 -- ---- of the first word

@@ -23,7 +23,7 @@ use Rattle.text.proofs.Taking.{ltb-zero-length-words, getD-words-zero, drop-one
 use Rattle.text.proofs.Numbers.{numeral-le-run}
 use Rattle.text.proofs.Plain.{plain, isPlain-of-isSign, isPlain-of-isDigit, ascii-cons, ascii-space, has-cons-of-ne, has-space, past-isPlain}
 use Rattle.header.specs.Offset.{onlyWord, secondWord}
-use Rattle.header.specs.Held.{endsAt, spanOf, nowhere, LeadsWithNumber, FirstWords}
+use Rattle.header.specs.Held.{endsAt, boundsOf, nowhere, LeadsWithNumber, FirstWords}
 use Rattle.header.proofs.FirstWord.{number64-firstWord, secondsOf-firstWord}
 
 -- ---- the places, from the end of the number on
@@ -77,7 +77,7 @@ module _ (s : List ℕ) (r : LeadingInteger) (l : LeadsWithNumber s r) where
 
   -- ---- the second word
   abbrev bounds : Bool → List ℕ
-  bounds more = part s (cond more nowhere (spanOf (second s (r .end)) (secondEnd s (r .end))))
+  bounds more = part s (cond more nowhere (boundsOf (second s (r .end)) (secondEnd s (r .end))))
 
   module _ (a : ascii s ≡ true) where
     secondWord-is : has 58 s ≡ false → secondWord s ≡ bounds (ltb (third s (r .end)) (length s))
@@ -92,7 +92,7 @@ module _ (s : List ℕ) (r : LeadingInteger) (l : LeadsWithNumber s r) where
         rest : drop 1 (words isSpace s) ≡ words isSpace (drop (firstEnd s (r .end)) s)
         rest = rw firstEnd-past (drop-one-words isSpace s 0)
 
-        second-word : getD (words isSpace (drop (firstEnd s (r .end)) s)) 0 [] ≡ part s (spanOf (second s (r .end)) (secondEnd s (r .end)))
+        second-word : getD (words isSpace (drop (firstEnd s (r .end)) s)) 0 [] ≡ part s (boundsOf (second s (r .end)) (secondEnd s (r .end)))
         second-word = rw (past-isPlain s a h (second s (r .end))) (getD-words-zero isSpace s (firstEnd s (r .end)))
 
         third-words : drop 1 (words isSpace (drop (firstEnd s (r .end)) s)) ≡ words isSpace (drop (secondEnd s (r .end)) s)
@@ -112,7 +112,7 @@ module _ (s : List ℕ) (r : LeadingInteger) (l : LeadsWithNumber s r) where
         (record {
           number = cond (endsAt s (r .end) || not (r .signed)) (r .number) Nothing;
           whole = endsAt s (r .end);
-          «offset_word» = cond (ltb (third s (r .end)) (length s)) nowhere (spanOf (second s (r .end)) (secondEnd s (r .end)));
+          «offset_word» = cond (ltb (third s (r .end)) (length s)) nowhere (boundsOf (second s (r .end)) (secondEnd s (r .end)));
           colon = has 58 s;
         })
     FirstWords-of-pass =

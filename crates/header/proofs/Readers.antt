@@ -69,14 +69,14 @@ unfolding isSpace
 no-colon-of-raw s z f n p = not-has-of-words 58 isSpace refl s (lacking (words isSpace s) z f n p)
 
 -- so if there is one, raw has no number or no offset
-rawTime-NoOffset : (l : Limits) (i : Integer) (p : Parsed) → ((z : ℤ) (f : Fields) → i ≡ Is z → p ≡ Offset f → ⊥) → rawTime l i p ≡ rawTime l i NoOffset
-rawTime-NoOffset l (Is z) (Offset f) never = absurd (never z f refl refl)
-rawTime-NoOffset l (Is z) NoOffset never = refl
-rawTime-NoOffset l NoInteger p never = refl
+rawTime-Nothing : (l : Limits) (i : Integer) (p : Parsed) → ((z : ℤ) (f : Fields) → i ≡ Is z → p ≡ Offset f → ⊥) → rawTime l i p ≡ rawTime l i NoOffset
+rawTime-Nothing l (Is z) (Offset f) never = absurd (never z f refl refl)
+rawTime-Nothing l (Is z) NoOffset never = refl
+rawTime-Nothing l NoInteger p never = refl
 
 rawTime-of-colon : (l : Limits) (s : List ℕ) (colon : Bool) → colon ≡ has 58 s
     → rawTime l (number64 (firstWord s)) (fieldsOf Byte (secondWord s)) ≡ rawTime l (number64 (firstWord s)) (fieldsOf Byte (cond colon [] (secondWord s)))
-rawTime-of-colon l s true h = rw (fieldsOf-nil Byte) (rawTime-NoOffset l _ _ (λ z f n p. false≢true (sym (no-colon-of-raw s z f n p) ∙ sym h)))
+rawTime-of-colon l s true h = rw (fieldsOf-nil Byte) (rawTime-Nothing l _ _ (λ z f n p. false≢true (sym (no-colon-of-raw s z f n p) ∙ sym h)))
 rawTime-of-colon l s false h = refl
 
 -- ---- from what one pass finds

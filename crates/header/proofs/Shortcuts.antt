@@ -20,7 +20,7 @@ use Rattle.text.proofs.Plain.{isPlain-of-isSign, isPlain-of-isDigit, no-space-o
 use Rattle.header.specs.Offset.{fieldsOf}
 use Rattle.header.specs.Header.{headerTime, headerOf}
 use Rattle.header.specs.Raw.{Limits, rawTime, rawOf}
-use Rattle.header.specs.Held.{Small, LeadsWithNumber, usualOf, endsAt, spanOf, WordsRead}
+use Rattle.header.specs.Held.{Small, LeadsWithNumber, usualOf, endsAt, boundsOf, WordsRead}
 use Rattle.header.specs.declared.offset.Field.the-variants.{Byte}
 use Rattle.header.specs.declared.offset.Fields.{Fields}
 use Rattle.header.specs.declared.offset.Parsed.the-variants.{Offset, Nothing}
@@ -58,7 +58,7 @@ module _ (s : List ℕ) (at : ℕ) (u : Usual s at) where
   third-is : third s at ≡ at + 6
   third-is = rw (firstEnd-is, second-is, secondEnd-is) (past-of-length-le isSpace s (at + 6) (omega (arith, u .length-is)))
 
-  word-is : part s (spanOf (second s at) (secondEnd s at)) ≡ word s at u
+  word-is : part s (boundsOf (second s at) (secondEnd s at)) ≡ word s at u
   word-is = rw (firstEnd-is, second-is, secondEnd-is) (take-all (at + 6 - (at + 1)) (word s at u) (omega (arith, length-word s at u)))
 
   ends : endsAt s at ≡ true
@@ -74,7 +74,7 @@ module _ (s : List ℕ) (r : LeadingInteger) (l : LeadsWithNumber s r) where
 
   -- ---- what a pass finds, if the number is the first word and there are at most two
   abbrev word-bounds : Span
-  word-bounds = spanOf (second s (r .end)) (secondEnd s (r .end))
+  word-bounds = boundsOf (second s (r .end)) (secondEnd s (r .end))
 
   abbrev found : First
   found = record { number = r .number; whole = true; «offset_word» = word-bounds; colon = false }

@@ -27,13 +27,13 @@ abbrev pub number64 : List ℕ → Integer
 number64 w = fitSigned (2 ^ 63) (signedOf w)
 
 -- the first if it is a number, else the other
-abbrev pub orElse : Integer → Integer → Integer
-orElse (Is z) other = Is z
-orElse NoInteger other = other
+abbrev pub numberOr : Integer → Integer → Integer
+numberOr (Is z) other = Is z
+numberOr NoInteger other = other
 
 -- RULES 5.2: the first word is a 64-bit number, or else its leading digits are one
 unfoldable pub secondsOf : List ℕ → Integer
-secondsOf w = orElse (number64 w) (number64 (leading isDigit w))
+secondsOf w = numberOr (number64 w) (number64 (leading isDigit w))
 
 -- RULES 5.4: a second word is an offset if it has 5 or 7 bytes, of which the first is a sign and the second a digit, and if its
 -- two-byte fields are signed numbers

@@ -60,11 +60,11 @@ usualOf s at = cond (isUsual s at) (fieldsOf Byte (drop (at + 1) s)) NoOffset
 unfoldable pub endsAt : List ℕ → ℕ → Bool
 endsAt s at = eqb (run (no isSpace) (drop at s)) 0
 
-abbrev pub spanOf : ℕ → ℕ → Span
-spanOf start end = record { start = start; end = end }
+abbrev pub boundsOf : ℕ → ℕ → Span
+boundsOf start end = record { start = start; end = end }
 
 abbrev pub nowhere : Span
-nowhere = spanOf 0 0
+nowhere = boundsOf 0 0
 
 -- the first word; the empty text if there is none, which is no number
 abbrev pub firstWord : List ℕ → List ℕ

@@ -9,7 +9,7 @@ ghost use lib.ListN.{drop};
 ghost use Rattle.text.specs.Bytes.{isSpace, ascii as asciiOf};
 ghost use Rattle.text.specs.Places.{past};
 ghost use Rattle.text.specs.declared.number.Integer.the-variants.{Nothing};
-ghost use Rattle.header.specs.Held.{endsAt, hasColon, nowhere, spanOf, LeadsWithNumber, WordsRead};
+ghost use Rattle.header.specs.Held.{endsAt, hasColon, nowhere, boundsOf, LeadsWithNumber, WordsRead};
 use text::bytes;
 use text::number;
 use text::number::Integer;
@@ -111,7 +111,7 @@ fn number_in(n: Integer, whole: bool, signed: bool) -> Integer
 
 // Empty bounds if there is a third word.
 fn only_bounds(start: usize, end: usize, third: bool) -> Span
-    ensures { λ r. ⌜ r ≡ cond third nowhere (spanOf start end) ⌝ }
+    ensures { λ r. ⌜ r ≡ cond third nowhere (boundsOf start end) ⌝ }
 {
     if third {
         return Span { start: 0, end: 0 };

@@ -11,7 +11,7 @@ use lib.ListN.{length, getD, drop}
 use Rattle.text.specs.Bytes.{isSign}
 use Rattle.text.specs.Places.{lastWhere, lastPlace}
 use Rattle.text.specs.Trim.{trim}
-use Rattle.iso.specs.Cut.{endsWithZ, isSigned, isOffset, spaced, signPlace, cut}
+use Rattle.iso.specs.Cut.{endsWithZ, isSigned, isOffset, splitsAtSpace, signPlace, cut}
 
 -- ---- the place of the sign
 pub signPlace-of-lt : (s : List ℕ) (i : ℕ) → i ≡ lastWhere isOffset s → i < 2 → length s ≡ signPlace s
@@ -24,7 +24,7 @@ signPlace-of-le s i e h = let k : 2 ≤ lastWhere isOffset s = omega arith in rw
 
 -- ---- the cut
 pub cut-nil : (s : List ℕ) → length s ≡ 0 → 0 ≡ cut s
-unfolding cut endsWithZ spaced signPlace lastPlace lastWhere
+unfolding cut endsWithZ splitsAtSpace signPlace lastPlace lastWhere
 cut-nil [] h = refl
 cut-nil (b ∷ s) h = absurd (omega arith)
 
@@ -34,23 +34,23 @@ cut-zed s e = rw e
 
 -- the last space at r
 module _ (s : List ℕ) (e : eqb (getD s (length s - 1) 0) 90 ≡ false) where
-  pub cut-space : (r : ℕ) → r ≡ lastPlace 32 s → spaced s ≡ true → r ≡ cut s
+  pub cut-space : (r : ℕ) → r ≡ lastPlace 32 s → splitsAtSpace s ≡ true → r ≡ cut s
   unfolding cut endsWithZ
   cut-space r q h = rw (e, h) q
 
-  pub cut-sign : spaced s ≡ false → signPlace s ≡ cut s
+  pub cut-sign : splitsAtSpace s ≡ false → signPlace s ≡ cut s
   unfolding cut endsWithZ
   cut-sign h = rw (e, h)
 
 -- ---- what follows the last space, at r
 module _ (s : List ℕ) (r : ℕ) (q : r ≡ lastPlace 32 s) where
-  pub spaced-of-le : r ≤ 5 → spaced s ≡ false
-  unfolding spaced
-  spaced-of-le h = rw (← q, le-ltb 5 r h)
+  pub splitsAtSpace-of-le : r ≤ 5 → splitsAtSpace s ≡ false
+  unfolding splitsAtSpace
+  splitsAtSpace-of-le h = rw (← q, le-ltb 5 r h)
 
-  pub spaced-of-lt : 5 < r → spaced s ≡ isSigned (trim (drop r s))
-  unfolding spaced
-  spaced-of-lt h = rw (← q, lt-ltb 5 r h)
+  pub splitsAtSpace-of-lt : 5 < r → splitsAtSpace s ≡ isSigned (trim (drop r s))
+  unfolding splitsAtSpace
+  splitsAtSpace-of-lt h = rw (← q, lt-ltb 5 r h)
 
 pub isSigned-of-lt : (s : List ℕ) → 0 < length s → isSigned s ≡ isSign (getD s 0 0)
 unfolding isSigned

@@ -21,15 +21,15 @@ use Rattle.time.specs.declared.Refusal.the-variants.{NotAscii, Form}
 use Rattle.time.specs.declared.Answer.{Answer}
 use Rattle.time.specs.declared.Answer.the-variants.{Time, Refused}
 use Rattle.iso.specs.Parts.{without, int32}
-use Rattle.iso.specs.Cut.{endsWithZ, isSigned, isOffset, spaced, signPlace, cut, timeText, offsetText}
-use Rattle.iso.specs.Clock.{timePart, secondOf, clock, colonTime, plainTime, timeOf}
-use Rattle.iso.specs.Offset.{upTo, secondsOf, hoursMinutes, negated, offsetOf}
-use Rattle.iso.specs.Forms.{allFields, fieldsOf, isSeparator, flexible, firstAt, compact, dashOf, dashes, isDotted, dotted, orElse, formOf}
+use Rattle.iso.specs.Cut.{endsWithZ, isSigned, isOffset, splitsAtSpace, signPlace, cut, timeText, offsetText}
+use Rattle.iso.specs.Clock.{timePart, secondOf, clock, colonTime, plainTime, isoTime}
+use Rattle.iso.specs.Offset.{upTo, offsetSeconds, hoursMinutes, negated, isoOffset}
+use Rattle.iso.specs.Forms.{allFields, readFields, isSeparator, flexible, firstAt, compact, dashOf, dashes, isDotted, dotted, firstOf, formOf}
 use Rattle.iso.specs.Iso.{dayOf, momentOf, zoned, isoOf}
 use Rattle.iso.specs.Examples.{marked}
 
 pub marked-examples : AllRight marked
-unfolding isSpace isDigit isSign ascii trimStart trimEnd trim run firstPlace has lastWhere lastPlace pieces readFrom digitsOf unsignedOf signedOf fit fitSigned leap lengths monthLength total yearLength yearStart firstDay exists dayNumber secondsInRange without int32 endsWithZ isSigned isOffset spaced signPlace cut timeText offsetText timePart secondOf clock colonTime plainTime timeOf upTo secondsOf hoursMinutes negated offsetOf allFields fieldsOf isSeparator flexible firstAt compact dashOf dashes isDotted dotted orElse formOf dayOf momentOf zoned isoOf
+unfolding isSpace isDigit isSign ascii trimStart trimEnd trim run firstPlace has lastWhere lastPlace pieces readFrom digitsOf unsignedOf signedOf fit fitSigned leap lengths monthLength total yearLength yearStart firstDay exists dayNumber secondsInRange without int32 endsWithZ isSigned isOffset splitsAtSpace signPlace cut timeText offsetText timePart secondOf clock colonTime plainTime isoTime upTo offsetSeconds hoursMinutes negated isoOffset allFields readFields isSeparator flexible firstAt compact dashOf dashes isDotted dotted firstOf formOf dayOf momentOf zoned isoOf
 marked-examples = (refl, (refl, (refl, tt)))
 
 abbrev row : List ℕ → Answer → Row
@@ -118,6 +118,6 @@ rows =
     row (128 ∷ []) (Refused NotAscii) ∷ []
 
 rows-right : AllRight rows
-unfolding isSpace isDigit isSign ascii trimStart trimEnd trim run firstPlace has lastWhere lastPlace pieces readFrom digitsOf unsignedOf signedOf fit fitSigned leap lengths monthLength total yearLength yearStart firstDay exists dayNumber secondsInRange without int32 endsWithZ isSigned isOffset spaced signPlace cut timeText offsetText timePart secondOf clock colonTime plainTime timeOf upTo secondsOf hoursMinutes negated offsetOf allFields fieldsOf isSeparator flexible firstAt compact dashOf dashes isDotted dotted orElse formOf dayOf momentOf zoned isoOf
+unfolding isSpace isDigit isSign ascii trimStart trimEnd trim run firstPlace has lastWhere lastPlace pieces readFrom digitsOf unsignedOf signedOf fit fitSigned leap lengths monthLength total yearLength yearStart firstDay exists dayNumber secondsInRange without int32 endsWithZ isSigned isOffset splitsAtSpace signPlace cut timeText offsetText timePart secondOf clock colonTime plainTime isoTime upTo offsetSeconds hoursMinutes negated isoOffset allFields readFields isSeparator flexible firstAt compact dashOf dashes isDotted dotted firstOf formOf dayOf momentOf zoned isoOf
 rows-right =
     (refl, (refl, (refl, (refl, (refl, (refl, (refl, (refl, (refl, (refl, (refl, (refl, (refl, (refl, (refl, (refl, (refl, (refl, (refl, (refl, (refl, (refl, (refl, (refl, (refl, (refl, (refl, (refl, (refl, (refl, (refl, (refl, (refl, (refl, (refl, (refl, (refl, (refl, (refl, (refl, (refl, (refl, (refl, (refl, (refl, (refl, (refl, (refl, (refl, (refl, (refl, (refl, (refl, tt)))))))))))))))))))))))))))))))))))))))))))))))))))))

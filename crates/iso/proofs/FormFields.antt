@@ -19,9 +19,9 @@ use Rattle.text.specs.declared.number.Integer.the-variants.{Is, Nothing as NoIn
 use Rattle.text.proofs.Lists.{by-test, both, take-length-sub-drop, getD-of-length-le}
 use Rattle.iso.specs.Parts.{two, int32}
 use Rattle.iso.specs.Cut.{cut, timeText, offsetText}
-use Rattle.iso.specs.Clock.{timeOf}
-use Rattle.iso.specs.Offset.{offsetOf}
-use Rattle.iso.specs.Forms.{allFields, fieldsOf, isSeparator, flexible, firstAt, compact, dashOf, dashes, isDotted, dotted, orElse, formOf}
+use Rattle.iso.specs.Clock.{isoTime}
+use Rattle.iso.specs.Offset.{isoOffset}
+use Rattle.iso.specs.Forms.{allFields, readFields, isSeparator, flexible, firstAt, compact, dashOf, dashes, isDotted, dotted, firstOf, formOf}
 use Rattle.iso.specs.Held.{FieldsIn}
 use Rattle.iso.specs.declared.forms.Local.{Local}
 use Rattle.iso.specs.declared.forms.Fields.{Fields}
@@ -72,10 +72,10 @@ allFields-of-day NoInteger m t o = refl
 
 -- ---- the fields of a text: r is what follows the date, trimmed, i its cut, b what is before the dot
 module _ (y m d s : List ℕ) (r : List ℕ) (i : ℕ) (b t o : List ℕ) (x : Number) (z y′ m′ d′ : Integer) where
-  pub fieldsOf-parts : r ≡ trim s → i ≡ cut r → b ≡ before 46 (take i r) → t ≡ trim b → x ≡ timeOf t → o ≡ trim (take (length r - i) (drop i r)) → z ≡ offsetOf o
-      → y′ ≡ fitSigned (2 ^ 31) (signedOf y) → m′ ≡ fitSigned (2 ^ 31) (signedOf m) → d′ ≡ fitSigned (2 ^ 31) (signedOf d) → allFields y′ m′ d′ x z ≡ fieldsOf y m d s
-  unfolding fieldsOf timeText offsetText int32
-  fieldsOf-parts er ei eb et ex eo ez ey em ed = rw (ey, em, ed, ez, eo, take-length-sub-drop r i, ex, et, eb, ei, er)
+  pub readFields-parts : r ≡ trim s → i ≡ cut r → b ≡ before 46 (take i r) → t ≡ trim b → x ≡ isoTime t → o ≡ trim (take (length r - i) (drop i r)) → z ≡ isoOffset o
+      → y′ ≡ fitSigned (2 ^ 31) (signedOf y) → m′ ≡ fitSigned (2 ^ 31) (signedOf m) → d′ ≡ fitSigned (2 ^ 31) (signedOf d) → allFields y′ m′ d′ x z ≡ readFields y m d s
+  unfolding readFields timeText offsetText int32
+  readFields-parts er ei eb et ex eo ez ey em ed = rw (ey, em, ed, ez, eo, take-length-sub-drop r i, ex, et, eb, ei, er)
 
 -- ---- compact
 pub compact-short : (s : List ℕ) → length s < 9 → NoFields ≡ compact s
@@ -89,7 +89,7 @@ unfolding compact firstAt
 compact-no s r q h = rw (ne-eqb (firstPlace 84 s) 8 (firstPlace-is-not 84 9 8 s r q (omega arith) h))
 
 pub compact-yes : (s : List ℕ) (r : ℕ) (a b : List ℕ) → r ≡ firstPlace 84 (take 9 s) → r ≡ 8 → 9 ≤ length s → a ≡ two 4 s → b ≡ two 6 s
-    → fieldsOf (take 4 s) a b (take (length s - 9) (drop 9 s)) ≡ compact s
+    → readFields (take 4 s) a b (take (length s - 9) (drop 9 s)) ≡ compact s
 unfolding compact firstAt
 compact-yes s r a b q e h p w = rw (p, w, take-length-sub-drop s 9, eq-eqb (firstPlace 84 s) 8 (firstPlace-is 84 9 8 s r q (omega arith) h e), lt-ltb 8 (length s) h)
 
@@ -117,7 +117,7 @@ module _ (s : List ℕ) (p : getD s 4 0 ≡ 45) where
     flexible-ten e = rw (eq-eqb (getD s 4 0) 45 p, eq-eqb (getD s 7 0) 45 q, e)
 
     pub flexible-yes : (a b : List ℕ) → isSeparator (getD s 10 0) ≡ true → a ≡ two 5 s → b ≡ two 8 s
-        → fieldsOf (take 4 s) a b (take (length s - 11) (drop 11 s)) ≡ flexible s
+        → readFields (take 4 s) a b (take (length s - 11) (drop 11 s)) ≡ flexible s
     unfolding flexible
     flexible-yes a b e u v = rw (u, v, take-length-sub-drop s 11, eq-eqb (getD s 4 0) 45 p, eq-eqb (getD s 7 0) 45 q, e)
 
@@ -143,7 +143,7 @@ dotted-seven s f h = by-test (firstAt 32 10 s) (λ e. rw (e, eq-eqb (getD s 4 0)
 -- the fields of ten bytes, each dot of them a dash, and of what follows the space
 abbrev dashedFields : List ℕ → Fields
 dashedFields s =
-    fieldsOf (dashOf (getD s 0 0) ∷ dashOf (getD s 1 0) ∷ dashOf (getD s 2 0) ∷ dashOf (getD s 3 0) ∷ [])
+    readFields (dashOf (getD s 0 0) ∷ dashOf (getD s 1 0) ∷ dashOf (getD s 2 0) ∷ dashOf (getD s 3 0) ∷ [])
     (dashOf (getD s 5 0) ∷ dashOf (getD s 6 0) ∷ []) (dashOf (getD s 8 0) ∷ dashOf (getD s 9 0) ∷ []) (drop 11 s)
 
 pub isDotted-yes : (s : List ℕ) (r : ℕ) → 11 ≤ length s → r ≡ firstPlace 32 (take 11 s) → r ≡ 10 → getD s 4 0 ≡ 46 → getD s 7 0 ≡ 46 → isDotted s ≡ true
@@ -181,15 +181,15 @@ dotted-yes s h e =
 
 -- ---- the first form that is there
 pub formOf-dotted : (s : List ℕ) {f : Local} → dotted s ≡ Are f → Are f ≡ formOf s
-unfolding formOf orElse
+unfolding formOf firstOf
 formOf-dotted s e = rw e
 
 pub formOf-compact : (s : List ℕ) {f : Local} → dotted s ≡ NoFields → compact s ≡ Are f → Are f ≡ formOf s
-unfolding formOf orElse
+unfolding formOf firstOf
 formOf-compact s e g = rw (e, g)
 
 pub formOf-flexible : (s : List ℕ) → dotted s ≡ NoFields → compact s ≡ NoFields → flexible s ≡ formOf s
-unfolding formOf orElse
+unfolding formOf firstOf
 formOf-flexible s e g = rw (e, g)
 
 pub FieldsIn-of-Are : {x : Fields} {f : Local} → x ≡ Are f → FieldsIn x → FieldsIn (Are f)

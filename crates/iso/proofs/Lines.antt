@@ -25,9 +25,9 @@ use Rattle.calendar.specs.declared.Found.the-variants.{At}
 use Rattle.time.specs.Header.{signByte, wholeMinutes}
 use Rattle.time.specs.Iso.{offsetBefore}
 use Rattle.iso.specs.Parts.{without}
-use Rattle.iso.specs.Cut.{endsWithZ, isSigned, isOffset, spaced, signPlace, cut, timeText, offsetText}
-use Rattle.iso.specs.Clock.{colonTime, timeOf}
-use Rattle.iso.specs.Offset.{upTo, secondsOf, hoursMinutes, negated, offsetOf}
+use Rattle.iso.specs.Cut.{endsWithZ, isSigned, isOffset, splitsAtSpace, signPlace, cut, timeText, offsetText}
+use Rattle.iso.specs.Clock.{colonTime, isoTime}
+use Rattle.iso.specs.Offset.{upTo, offsetSeconds, hoursMinutes, negated, isoOffset}
 use Rattle.iso.proofs.Times.{clock-value}
 use Rattle.text.proofs.Digits.{no-space, no-dot, no-colon, no-Z, isSign-of-digit, isSpace-of-digit, tens, ones, unsignedOf-two}
 use Rattle.text.proofs.FirstPlaces.{firstPlace-of-Free, lastPlace-of-Free}
@@ -56,9 +56,9 @@ module _ (h m s : ℕ) (p : h ≤ 23) (q : m ≤ 59) (r : s ≤ 59) where
   unfolding fit
   fit-two n limit k l = ap (fit limit) (unsignedOf-two n k) ∙ rw (le-leb n limit l)
 
-  pub timeOf-clockText : timeOf (clockText h m s []) ≡ Value (h * 3600 + m * 60 + s)
-  unfolding timeOf has firstPlace run pieces colonTime
-  timeOf-clockText =
+  pub isoTime-clockText : isoTime (clockText h m s []) ≡ Value (h * 3600 + m * 60 + s)
+  unfolding isoTime has firstPlace run pieces colonTime
+  isoTime-clockText =
       rw (no-colon (48 + h / 10) (tens h h<), no-colon (48 + h % 10) (ones h), no-colon (48 + m / 10) (tens m m<), no-colon (48 + m % 10) (ones m), no-colon (48 + s / 10) (tens s s<), no-colon (48 + s % 10) (ones s))
       (sym (clock-value (twoBefore h []) (twoBefore m []) (twoBefore s []) (fit-two h 23 h< p) (fit-two m 59 m< q) (fit-two s 59 s< r)))
 
@@ -113,7 +113,7 @@ module _ (h m s : ℕ) (p : h ≤ 23) (q : m ≤ 59) (r : s ≤ 59) where
         omega (arith, lastWhere-drop isOffset tail 8 less)
 
     cut-tail : cut tail ≡ 8
-    unfolding cut endsWithZ spaced signPlace isSigned trim trimStart trimEnd
+    unfolding cut endsWithZ splitsAtSpace signPlace isSigned trim trimStart trimEnd
     cut-tail = rw (no-Z (48 + c % 10) (ones c), no-space-in, sign-at)
 
     pub timeText-tail : timeText tail ≡ clockText h m s []
@@ -133,18 +133,18 @@ module _ (h m s : ℕ) (p : h ≤ 23) (q : m ≤ 59) (r : s ≤ 59) where
 -- ---- the offset
 module _ (a c : ℕ) (p : a ≤ 23) (q : c ≤ 59) where
   hoursMinutes-without : hoursMinutes (without 58 (twoBefore a (58 ∷ twoBefore c []))) ≡ Is (pos (a * 3600 + c * 60))
-  unfolding hoursMinutes without secondsOf upTo
+  unfolding hoursMinutes without offsetSeconds upTo
   hoursMinutes-without =
       let k : a < 100 = omega arith in
       let l : c < 100 = omega arith in
       rw (no-colon (48 + a / 10) (tens a k), no-colon (48 + a % 10) (ones a), no-colon (48 + c / 10) (tens c l), no-colon (48 + c % 10) (ones c), int32-two a k, int32-two c l, le-leb a 23 p, le-leb c 59 q)
 
-pub offsetOf-line : (o : ℤ) → natAbs o < 86400 → natAbs o % 60 ≡ 0 → offsetOf (offsetBefore o []) ≡ Is o
-unfolding offsetOf signByte wholeMinutes negated
-offsetOf-line (pos n) h e =
+pub isoOffset-line : (o : ℤ) → natAbs o < 86400 → natAbs o % 60 ≡ 0 → isoOffset (offsetBefore o []) ≡ Is o
+unfolding isoOffset signByte wholeMinutes negated
+isoOffset-line (pos n) h e =
     let k : n / 60 / 60 * 3600 + n / 60 % 60 * 60 ≡ n = omega arith in
     hoursMinutes-without (n / 60 / 60) (n / 60 % 60) (omega arith) (omega arith) ∙ ap (λ (x : ℕ). Is (pos x)) k
-offsetOf-line (negsuc n) h e =
+isoOffset-line (negsuc n) h e =
     let k : suc n / 60 / 60 * 3600 + suc n / 60 % 60 * 60 ≡ suc n = omega arith in
     ap negated (hoursMinutes-without (suc n / 60 / 60) (suc n / 60 % 60) (omega arith) (omega arith)) ∙ ap (λ (x : ℕ). Is (negℤ (pos x))) k
 

@@ -16,7 +16,7 @@ use Rattle.text.specs.declared.number.Integer.the-variants.{Is, Nothing}
 use Rattle.text.proofs.Lists.{take-length-sub-drop}
 use Rattle.text.proofs.Numbers.{Short, signedOf-short, fitSigned-of-length}
 use Rattle.iso.specs.Parts.{without, int32}
-use Rattle.iso.specs.Offset.{upTo, secondsOf, hoursMinutes, negated, offsetOf}
+use Rattle.iso.specs.Offset.{upTo, offsetSeconds, hoursMinutes, negated, isoOffset}
 use Rattle.iso.specs.Held.{Within}
 
 -- ---- a field of two bytes is from -99 to 99
@@ -29,14 +29,14 @@ unfolding int32
 int32-two-within x y = rw (fitSigned-of-length (2 ^ 31) (x ∷ y ∷ []) (omega arith)) (Within-of-Short (signedOf (x ∷ y ∷ [])) (signedOf-short (x ∷ y ∷ [])))
 
 -- ---- hours and minutes, of four bytes that are held
-pub hoursMinutes-two : (f : List ℕ) → length f ≡ 4 → secondsOf (upTo (pos 23) (int32 (getD f 0 0 ∷ getD f 1 0 ∷ []))) (Is (pos 0)) ≡ hoursMinutes (take 2 f)
+pub hoursMinutes-two : (f : List ℕ) → length f ≡ 4 → offsetSeconds (upTo (pos 23) (int32 (getD f 0 0 ∷ getD f 1 0 ∷ []))) (Is (pos 0)) ≡ hoursMinutes (take 2 f)
 unfolding hoursMinutes
 hoursMinutes-two [] h = absurd (omega arith)
 hoursMinutes-two (a ∷ []) h = absurd (omega arith)
 hoursMinutes-two (a ∷ b ∷ f) h = refl
 
 pub hoursMinutes-four : (f : List ℕ) → length f ≡ 4
-    → secondsOf (upTo (pos 23) (int32 (getD f 0 0 ∷ getD f 1 0 ∷ []))) (upTo (pos 59) (int32 (getD f 2 0 ∷ getD f 3 0 ∷ []))) ≡ hoursMinutes (take 4 f)
+    → offsetSeconds (upTo (pos 23) (int32 (getD f 0 0 ∷ getD f 1 0 ∷ []))) (upTo (pos 59) (int32 (getD f 2 0 ∷ getD f 3 0 ∷ []))) ≡ hoursMinutes (take 4 f)
 unfolding hoursMinutes
 hoursMinutes-four [] h = absurd (omega arith)
 hoursMinutes-four (a ∷ []) h = absurd (omega arith)
@@ -49,35 +49,35 @@ unfolding hoursMinutes
 hoursMinutes-not l a b = rw (ne-eqb (length l) 2 a, ne-eqb (length l) 4 b)
 
 -- ---- the whole offset
-pub offsetOf-nil : (s : List ℕ) → length s ≡ 0 → Is (pos 0) ≡ offsetOf s
-unfolding offsetOf
-offsetOf-nil [] h = refl
-offsetOf-nil (b ∷ s) h = absurd (omega arith)
+pub isoOffset-nil : (s : List ℕ) → length s ≡ 0 → Is (pos 0) ≡ isoOffset s
+unfolding isoOffset
+isoOffset-nil [] h = refl
+isoOffset-nil (b ∷ s) h = absurd (omega arith)
 
-pub offsetOf-east : (s : List ℕ) → getD s 0 0 ≡ 43 → hoursMinutes (without 58 (take (length s - 1) (drop 1 s))) ≡ offsetOf s
-unfolding offsetOf
-offsetOf-east [] e = absurd (omega arith)
-offsetOf-east (b ∷ s) e = rw (take-length-sub-drop (b ∷ s) 1, e)
+pub isoOffset-east : (s : List ℕ) → getD s 0 0 ≡ 43 → hoursMinutes (without 58 (take (length s - 1) (drop 1 s))) ≡ isoOffset s
+unfolding isoOffset
+isoOffset-east [] e = absurd (omega arith)
+isoOffset-east (b ∷ s) e = rw (take-length-sub-drop (b ∷ s) 1, e)
 
-pub offsetOf-west : (s : List ℕ) → getD s 0 0 ≡ 45 → negated (hoursMinutes (without 58 (take (length s - 1) (drop 1 s)))) ≡ offsetOf s
-unfolding offsetOf
-offsetOf-west [] e = absurd (omega arith)
-offsetOf-west (b ∷ s) e = rw (take-length-sub-drop (b ∷ s) 1, e)
+pub isoOffset-west : (s : List ℕ) → getD s 0 0 ≡ 45 → negated (hoursMinutes (without 58 (take (length s - 1) (drop 1 s)))) ≡ isoOffset s
+unfolding isoOffset
+isoOffset-west [] e = absurd (omega arith)
+isoOffset-west (b ∷ s) e = rw (take-length-sub-drop (b ∷ s) 1, e)
 
-pub offsetOf-zed : (s : List ℕ) → getD s 0 0 ≡ 90 → length s ≡ 1 → Is (pos 0) ≡ offsetOf s
-unfolding offsetOf
-offsetOf-zed [] e h = absurd (omega arith)
-offsetOf-zed (b ∷ s) e h = let z : length s ≡ 0 = omega arith in rw (e, z)
+pub isoOffset-zed : (s : List ℕ) → getD s 0 0 ≡ 90 → length s ≡ 1 → Is (pos 0) ≡ isoOffset s
+unfolding isoOffset
+isoOffset-zed [] e h = absurd (omega arith)
+isoOffset-zed (b ∷ s) e h = let z : length s ≡ 0 = omega arith in rw (e, z)
 
-pub offsetOf-zed-not : (s : List ℕ) → getD s 0 0 ≡ 90 → (length s ≡ 1 → ⊥) → Nothing ≡ offsetOf s
-unfolding offsetOf
-offsetOf-zed-not [] e h = absurd (omega arith)
-offsetOf-zed-not (b ∷ s) e h = rw (e, ne-eqb (length s) 0 (λ z. h (omega (arith, z))))
+pub isoOffset-zed-not : (s : List ℕ) → getD s 0 0 ≡ 90 → (length s ≡ 1 → ⊥) → Nothing ≡ isoOffset s
+unfolding isoOffset
+isoOffset-zed-not [] e h = absurd (omega arith)
+isoOffset-zed-not (b ∷ s) e h = rw (e, ne-eqb (length s) 0 (λ z. h (omega (arith, z))))
 
-pub offsetOf-not : (s : List ℕ) → (length s ≡ 0 → ⊥) → (getD s 0 0 ≡ 43 → ⊥) → (getD s 0 0 ≡ 45 → ⊥) → (getD s 0 0 ≡ 90 → ⊥) → Nothing ≡ offsetOf s
-unfolding offsetOf
-offsetOf-not [] h p m z = absurd (h refl)
-offsetOf-not (b ∷ s) h p m z = rw (ne-eqb b 90 z, ne-eqb b 43 p, ne-eqb b 45 m)
+pub isoOffset-not : (s : List ℕ) → (length s ≡ 0 → ⊥) → (getD s 0 0 ≡ 43 → ⊥) → (getD s 0 0 ≡ 45 → ⊥) → (getD s 0 0 ≡ 90 → ⊥) → Nothing ≡ isoOffset s
+unfolding isoOffset
+isoOffset-not [] h p m z = absurd (h refl)
+isoOffset-not (b ∷ s) h p m z = rw (ne-eqb b 90 z, ne-eqb b 43 p, ne-eqb b 45 m)
 
 -- ---- the answers of the code, case by case
 -- a number that is there is within k
@@ -97,17 +97,17 @@ module _ (limit : ℤ) (s : List ℕ) where
   unfolding upTo int32
   upTo-over e h = rw (e, leZ-false h)
 
-pub secondsOf-not-hours : {h : Integer} (m : Integer) → h ≡ Nothing → Nothing ≡ secondsOf h m
-unfolding secondsOf
-secondsOf-not-hours m e = rw e
+pub offsetSeconds-not-hours : {h : Integer} (m : Integer) → h ≡ Nothing → Nothing ≡ offsetSeconds h m
+unfolding offsetSeconds
+offsetSeconds-not-hours m e = rw e
 
-pub secondsOf-not-minutes : {h m : Integer} {x : ℤ} → h ≡ Is x → m ≡ Nothing → Nothing ≡ secondsOf h m
-unfolding secondsOf
-secondsOf-not-minutes e f = rw (e, f)
+pub offsetSeconds-not-minutes : {h m : Integer} {x : ℤ} → h ≡ Is x → m ≡ Nothing → Nothing ≡ offsetSeconds h m
+unfolding offsetSeconds
+offsetSeconds-not-minutes e f = rw (e, f)
 
-pub secondsOf-value : {h m : Integer} {x y : ℤ} → h ≡ Is x → m ≡ Is y → Is (x *ℤ pos 3600 +ℤ y *ℤ pos 60) ≡ secondsOf h m
-unfolding secondsOf
-secondsOf-value e f = rw (e, f)
+pub offsetSeconds-value : {h m : Integer} {x y : ℤ} → h ≡ Is x → m ≡ Is y → Is (x *ℤ pos 3600 +ℤ y *ℤ pos 60) ≡ offsetSeconds h m
+unfolding offsetSeconds
+offsetSeconds-value e f = rw (e, f)
 
 pub negated-not : {o : Integer} → o ≡ Nothing → Nothing ≡ negated o
 unfolding negated

@@ -32,13 +32,13 @@ use Rattle.time.specs.declared.Answer.the-variants.{Time as Read}
 use Rattle.time.specs.declared.Written.the-variants.{Length}
 use Rattle.time.specs.declared.range.Instant.{Instant}
 use Rattle.ints.proofs.Parts.{pos-natAbs-add}
-use Rattle.iso.specs.Forms.{allFields, fieldsOf, isSeparator, flexible}
+use Rattle.iso.specs.Forms.{allFields, readFields, isSeparator, flexible}
 use Rattle.iso.specs.Iso.{dayOf, zoned, isoOf}
 use Rattle.iso.specs.declared.forms.Fields.the-variants.{Are}
 use Rattle.text.proofs.Digits.{isSpace-of-digit, tens, ones}
 use Rattle.text.proofs.Trimming.{trim-of-ends}
 use Rattle.iso.proofs.Digits.{int32-two, int32-four, ascii-of-Narrow}
-use Rattle.iso.proofs.Lines.{timeOf-clockText, trim-tail, timeText-tail, offsetText-tail, offsetOf-line, dayNumber-of-IsDate}
+use Rattle.iso.proofs.Lines.{isoTime-clockText, trim-tail, timeText-tail, offsetText-tail, isoOffset-line, dayNumber-of-IsDate}
 use Rattle.iso.proofs.Instants.{dayOf-value, momentOf-in}
 use Rattle.iso.proofs.Theorems.{iso-of-flexible}
 use Rattle.time.proofs.Isos.{WasWritten, wasWritten, shown-of-whole-minutes}
@@ -88,7 +88,7 @@ module _ (y mo d h m s : ℕ) (o : ℤ) (yl : y < 10000) (ml : mo < 100) (dl : d
       (48 + c % 10) (isSpace-of-digit (48 + y / 100 / 10) (tens (y / 100) (omega arith))) (isSpace-of-digit (48 + c % 10) (ones c))
 
   fields-line : flexible line ≡ Are (record { year = pos y; month = pos mo; day = pos d; second = h * 3600 + m * 60 + s; offset = o })
-  unfolding flexible isSeparator fieldsOf allFields
+  unfolding flexible isSeparator readFields allFields
   fields-line =
       let sign = isSign-signByte o in
       let space = isSpace-signByte o in
@@ -99,9 +99,9 @@ module _ (y mo d h m s : ℕ) (o : ℤ) (yl : y < 10000) (ml : mo < 100) (dl : d
         int32-two d dl,
         trim-tail h m s hl nl sl (signByte o) a c sign space other a< c<,
         timeText-tail h m s hl nl sl (signByte o) a c sign space other a< c<,
-        timeOf-clockText h m s hl nl sl,
+        isoTime-clockText h m s hl nl sl,
         offsetText-tail h m s hl nl sl (signByte o) a c sign space other a< c<,
-        offsetOf-line o ol whole,
+        isoOffset-line o ol whole,
       )
 
   ascii-line : ascii line ≡ true

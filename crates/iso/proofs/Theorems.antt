@@ -20,7 +20,7 @@ use Rattle.time.specs.Answers.{answerNumber}
 use Rattle.time.specs.declared.Time.{Time}
 use Rattle.time.specs.declared.Answer.the-variants.{Time as At}
 use Rattle.iso.specs.Parts.{two, int32}
-use Rattle.iso.specs.Forms.{fieldsOf, isSeparator, flexible, firstAt, compact, dashes, isDotted, dotted, orElse, formOf}
+use Rattle.iso.specs.Forms.{readFields, isSeparator, flexible, firstAt, compact, dashes, isDotted, dotted, firstOf, formOf}
 use Rattle.iso.specs.Iso.{zoned, isoOf}
 use Rattle.iso.specs.Theorems.{isThere, accepts}
 use Rattle.iso.specs.declared.forms.Fields.{Fields}
@@ -40,7 +40,7 @@ int32-T x = refl
 
 -- so a text with a dot at place 4 is not compact: it would open the month
 compact-of-dot : (s : List ℕ) → getD s 4 0 ≡ 46 → compact s ≡ NoFields
-unfolding compact firstAt fieldsOf
+unfolding compact firstAt readFields
 compact-of-dot s p =
     by-test (eqb (firstPlace 84 s) 8)
     (λ e. by-test (ltb 8 (length s))
@@ -53,7 +53,7 @@ compact-of-dot s p =
 
 -- and one with its first `T` at place 8 is not flexible: it would open the day
 flexible-of-T : (s : List ℕ) → firstAt 84 8 s ≡ true → flexible s ≡ NoFields
-unfolding firstAt flexible fieldsOf
+unfolding firstAt flexible readFields
 flexible-of-T s e =
     let q = both (eqb (firstPlace 84 s) 8) (ltb 8 (length s)) e in
     let i : firstPlace 84 s ≡ 8 = eqb-true _ _ (q .0) in
@@ -141,24 +141,24 @@ not-missing e m = omega (arith, ap answerNumber (rw m at e))
 
 module _ (s : List ℕ) (a : ascii s ≡ true) {t : Time} where
   pub iso-of-dotted : zoned (dotted (trim s)) ≡ At t → isoOf s ≡ At t
-  unfolding isoOf formOf orElse
+  unfolding isoOf formOf firstOf
   iso-of-dotted h = rw a (go (dotted (trim s)) h)
     where
-      go : (f : Fields) → zoned f ≡ At t → zoned (orElse f (orElse (compact (trim s)) (flexible (trim s)))) ≡ At t
+      go : (f : Fields) → zoned f ≡ At t → zoned (firstOf f (firstOf (compact (trim s)) (flexible (trim s)))) ≡ At t
       go (Are f) e = e
       go NoFields e = absurd (not-missing e refl)
 
   pub iso-of-compact : zoned (compact (trim s)) ≡ At t → isoOf s ≡ At t
-  unfolding isoOf formOf orElse
+  unfolding isoOf formOf firstOf
   iso-of-compact h =
       dotted-or-compact (trim s) (λ m. rw (a, m) (go (compact (trim s)) h)) (λ m. absurd (not-missing h m))
     where
-      go : (f : Fields) → zoned f ≡ At t → zoned (orElse f (flexible (trim s))) ≡ At t
+      go : (f : Fields) → zoned f ≡ At t → zoned (firstOf f (flexible (trim s))) ≡ At t
       go (Are f) e = e
       go NoFields e = absurd (not-missing e refl)
 
   pub iso-of-flexible : zoned (flexible (trim s)) ≡ At t → isoOf s ≡ At t
-  unfolding isoOf formOf orElse
+  unfolding isoOf formOf firstOf
   iso-of-flexible h =
       dotted-or-flexible (trim s)
       (λ m. compact-or-flexible (trim s) (λ n. rw (a, m, n) h) (λ n. absurd (not-missing h n)))

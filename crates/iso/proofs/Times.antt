@@ -16,7 +16,7 @@ use Rattle.text.specs.Words.{pieces}
 use Rattle.text.specs.declared.number.Number.{Number}
 use Rattle.text.specs.declared.number.Number.the-variants.{Value, Nothing}
 use Rattle.text.proofs.Lists.{by-test, take-length-sub-drop}
-use Rattle.iso.specs.Clock.{timePart, secondOf, clock, isColon, colonTime, plainTime, timeOf}
+use Rattle.iso.specs.Clock.{timePart, secondOf, clock, isColon, colonTime, plainTime, isoTime}
 use Rattle.text.proofs.FirstPlaces.{pieces-of-lt, pieces-of-le}
 
 -- ---- a part
@@ -82,12 +82,12 @@ module _ (h s : List ℕ) (i : ℕ) (q : i ≡ firstPlace 58 s) where
   colonTime-second l = let k : length s ≤ firstPlace 58 s = omega arith in rw (pieces-of-le 58 s k)
 
 module _ (t : List ℕ) (i : ℕ) (q : i ≡ firstPlace 58 t) where
-  pub timeOf-colon : (x : Number) → i < length t → x ≡ colonTime (take i t ∷ pieces isColon (take (length t - (i + 1)) (drop (i + 1) t))) → x ≡ timeOf t
-  unfolding timeOf has
-  timeOf-colon x l e =
+  pub isoTime-colon : (x : Number) → i < length t → x ≡ colonTime (take i t ∷ pieces isColon (take (length t - (i + 1)) (drop (i + 1) t))) → x ≡ isoTime t
+  unfolding isoTime has
+  isoTime-colon x l e =
       let k : firstPlace 58 t < length t = omega arith in
       rw (lt-ltb (firstPlace 58 t) (length t) k, pieces-of-lt 58 t k, e, take-length-sub-drop t (i + 1), q)
 
-  pub timeOf-plain : length t ≤ i → plainTime t ≡ timeOf t
-  unfolding timeOf has
-  timeOf-plain l = let k : length t ≤ firstPlace 58 t = omega arith in rw (le-ltb (firstPlace 58 t) (length t) k)
+  pub isoTime-plain : length t ≤ i → plainTime t ≡ isoTime t
+  unfolding isoTime has
+  isoTime-plain l = let k : length t ≤ firstPlace 58 t = omega arith in rw (le-ltb (firstPlace 58 t) (length t) k)

@@ -46,5 +46,5 @@ plainTime t =
     (cond (eqb (length t) 4) (clock (two 0 t) (two 2 t) (bytes "0"))
     (cond (eqb (length t) 6) (clock (two 0 t) (two 2 t) (two 4 t)) Nothing))
 
-unfoldable pub timeOf : List ℕ → Number
-timeOf t = cond (has (code ":") t) (colonTime (pieces isColon t)) (plainTime t)
+unfoldable pub isoTime : List ℕ → Number
+isoTime t = cond (has (code ":") t) (colonTime (pieces isColon t)) (plainTime t)

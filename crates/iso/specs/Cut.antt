@@ -27,8 +27,8 @@ isOffset (b ∷ []) = false
 isOffset (b ∷ d ∷ s) = isSign b && isDigit d
 
 -- the last space is beyond place 5, and what follows it, trimmed, starts with a sign; trimming drops the space itself too
-unfoldable pub spaced : List ℕ → Bool
-spaced s = ltb 5 (lastPlace (code " ") s) && isSigned (trim (drop (lastPlace (code " ") s) s))
+unfoldable pub splitsAtSpace : List ℕ → Bool
+splitsAtSpace s = ltb 5 (lastPlace (code " ") s) && isSigned (trim (drop (lastPlace (code " ") s) s))
 
 -- the rightmost sign that has a digit directly after it, if it is at place 2 or later; otherwise the end
 unfoldable pub signPlace : List ℕ → ℕ
@@ -36,7 +36,7 @@ signPlace s = cond (ltb (lastWhere isOffset s) 2) (length s) (lastWhere isOffset
 
 -- a final `Z` is the offset; otherwise it is what follows that space; otherwise that sign opens it; otherwise there is none
 unfoldable pub cut : List ℕ → ℕ
-cut s = cond (endsWithZ s) (length s - 1) (cond (spaced s) (lastPlace (code " ") s) (signPlace s))
+cut s = cond (endsWithZ s) (length s - 1) (cond (splitsAtSpace s) (lastPlace (code " ") s) (signPlace s))
 
 -- the time: what is before the first dot, then trimmed
 unfoldable pub timeText : List ℕ → List ℕ

@@ -15,8 +15,8 @@ use Rattle.text.specs.declared.number.Integer.{Integer}
 use Rattle.text.specs.declared.number.Integer.the-variants.{Is, Nothing as NoInteger}
 use Rattle.iso.specs.Parts.{two, int32}
 use Rattle.iso.specs.Cut.{timeText, offsetText}
-use Rattle.iso.specs.Clock.{timeOf}
-use Rattle.iso.specs.Offset.{offsetOf}
+use Rattle.iso.specs.Clock.{isoTime}
+use Rattle.iso.specs.Offset.{isoOffset}
 use Rattle.iso.specs.declared.forms.Fields.{Fields}
 use Rattle.iso.specs.declared.forms.Fields.the-variants.{Are, Nothing as NoFields}
 
@@ -30,8 +30,8 @@ allFields (Is y) NoInteger d c o = NoFields
 allFields NoInteger m d c o = NoFields
 
 -- year, month and day are signed 32-bit fields; s is what follows the `T` or space
-unfoldable pub fieldsOf : List ℕ → List ℕ → List ℕ → List ℕ → Fields
-fieldsOf y m d s = allFields (int32 y) (int32 m) (int32 d) (timeOf (timeText (trim s))) (offsetOf (offsetText (trim s)))
+unfoldable pub readFields : List ℕ → List ℕ → List ℕ → List ℕ → Fields
+readFields y m d s = allFields (int32 y) (int32 m) (int32 d) (isoTime (timeText (trim s))) (isoOffset (offsetText (trim s)))
 
 -- `T` or space
 unfoldable pub isSeparator : ℕ → Bool
@@ -41,7 +41,7 @@ isSeparator b = eqb b (code "T") || eqb b (code " ")
 unfoldable pub flexible : List ℕ → Fields
 flexible s =
     cond (eqb (getD s 4 0) (code "-") && (eqb (getD s 7 0) (code "-") && isSeparator (getD s 10 0)))
-    (fieldsOf (take 4 s) (two 5 s) (two 8 s) (drop 11 s)) NoFields
+    (readFields (take 4 s) (two 5 s) (two 8 s) (drop 11 s)) NoFields
 
 -- the first b is at place i
 unfoldable pub firstAt : ℕ → ℕ → List ℕ → Bool
@@ -49,7 +49,7 @@ firstAt b i s = eqb (firstPlace b s) i && ltb i (length s)
 
 -- compact: the first `T` is at place 8
 unfoldable pub compact : List ℕ → Fields
-compact s = cond (firstAt (code "T") 8 s) (fieldsOf (take 4 s) (two 4 s) (two 6 s) (drop 9 s)) NoFields
+compact s = cond (firstAt (code "T") 8 s) (readFields (take 4 s) (two 4 s) (two 6 s) (drop 9 s)) NoFields
 
 -- dots read as dashes
 unfoldable pub dashOf : ℕ → ℕ
@@ -68,9 +68,9 @@ unfoldable pub dotted : List ℕ → Fields
 dotted s = cond (isDotted s) (flexible (dashes (take 10 s) ++ drop 10 s)) NoFields
 
 -- the first form whose fields are there; any order gives the same, since at most one has them: `one-form-has-fields`
-unfoldable pub orElse : Fields → Fields → Fields
-orElse (Are f) g = Are f
-orElse NoFields g = g
+unfoldable pub firstOf : Fields → Fields → Fields
+firstOf (Are f) g = Are f
+firstOf NoFields g = g
 
 unfoldable pub formOf : List ℕ → Fields
-formOf s = orElse (dotted s) (orElse (compact s) (flexible s))
+formOf s = firstOf (dotted s) (firstOf (compact s) (flexible s))

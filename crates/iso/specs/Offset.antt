@@ -18,16 +18,16 @@ upTo limit (Is z) = cond (leZ z limit) (Is z) Nothing
 upTo limit Nothing = Nothing
 
 -- the seconds of hours and minutes
-unfoldable pub secondsOf : Integer → Integer → Integer
-secondsOf (Is h) (Is m) = Is (h *ℤ pos 3600 +ℤ m *ℤ pos 60)
-secondsOf (Is h) Nothing = Nothing
-secondsOf Nothing m = Nothing
+unfoldable pub offsetSeconds : Integer → Integer → Integer
+offsetSeconds (Is h) (Is m) = Is (h *ℤ pos 3600 +ℤ m *ℤ pos 60)
+offsetSeconds (Is h) Nothing = Nothing
+offsetSeconds Nothing m = Nothing
 
 -- 2 or 4 bytes in two-byte signed fields; hours go to 23, minutes to 59
 unfoldable pub hoursMinutes : List ℕ → Integer
 hoursMinutes s =
-    cond (eqb (length s) 2) (secondsOf (upTo (pos 23) (int32 (two 0 s))) (Is (pos 0)))
-    (cond (eqb (length s) 4) (secondsOf (upTo (pos 23) (int32 (two 0 s))) (upTo (pos 59) (int32 (two 2 s)))) Nothing)
+    cond (eqb (length s) 2) (offsetSeconds (upTo (pos 23) (int32 (two 0 s))) (Is (pos 0)))
+    (cond (eqb (length s) 4) (offsetSeconds (upTo (pos 23) (int32 (two 0 s))) (upTo (pos 59) (int32 (two 2 s)))) Nothing)
 
 -- a `-` in front of the fields negates their whole sum
 unfoldable pub negated : Integer → Integer
@@ -35,9 +35,9 @@ negated (Is z) = Is (negℤ z)
 negated Nothing = Nothing
 
 -- nothing or `Z` is 0; otherwise a sign and then, once all colons are removed, the fields
-unfoldable pub offsetOf : List ℕ → Integer
-offsetOf [] = Is (pos 0)
-offsetOf (b ∷ s) =
+unfoldable pub isoOffset : List ℕ → Integer
+isoOffset [] = Is (pos 0)
+isoOffset (b ∷ s) =
     cond (eqb b (code "Z") && eqb (length s) 0) (Is (pos 0))
     (cond (eqb b (code "+")) (hoursMinutes (without (code ":") s))
     (cond (eqb b (code "-")) (negated (hoursMinutes (without (code ":") s))) Nothing))

@@ -10,10 +10,7 @@ use lib.ListN.{take, drop}
 use Rattle.text.specs.Number.{signedOf, fitSigned}
 use Rattle.text.specs.declared.number.Integer.{Integer}
 
--- two bytes, by name, for contracts
-abbrev pub space : ℕ
-space = code " "
-
+-- a colon, by name, for contracts
 abbrev pub colon : ℕ
 colon = code ":"
 

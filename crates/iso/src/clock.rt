@@ -3,7 +3,7 @@ ghost use mathlib.Core.Path.{_≡_};
 ghost use mathlib.Core.List.{_∷_};
 ghost use Rattle.text.specs.Number.{AtMost};
 ghost use Rattle.text.specs.Words.{pieces};
-ghost use Rattle.iso.specs.Clock.{clock as clockOf, isColon, colonTime, plainTime, timeOf};
+ghost use Rattle.iso.specs.Clock.{clock as clockOf, isColon, colonTime, plainTime, isoTime};
 use crate::parts;
 use text::number;
 use text::number::Number;
@@ -11,7 +11,7 @@ use text::places;
 
 // The time in a trimmed text: `HH:MM:SS`, `HH:MM`, `HHMMSS`, `HHMM` or `HH`.
 pub fn parse_time_component(t: &[u8]) -> Number
-    ensures is { λ r. ⌜ r ≡ timeOf (now (t .entry)) ⌝ }
+    ensures is { λ r. ⌜ r ≡ isoTime (now (t .entry)) ⌝ }
     ensures range { λ r. ⌜ AtMost 86399 r ⌝ }
 {
     let i = places::first_place(t, b':');

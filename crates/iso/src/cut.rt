@@ -6,8 +6,8 @@ ghost use Prim.Native.Nat.{_≤_};
 ghost use lib.ListN.{length, getD, drop};
 ghost use Rattle.text.specs.Bytes.{isDigit};
 ghost use Rattle.text.specs.Places.{lastPlace, lastWhere};
-ghost use Rattle.iso.specs.Parts.{space};
-ghost use Rattle.iso.specs.Cut.{isOffset, spaced, cut};
+ghost use Rattle.time.specs.Header.{space};
+ghost use Rattle.iso.specs.Cut.{isOffset, splitsAtSpace, cut};
 use text::bytes;
 use text::places;
 use text::trim;
@@ -39,7 +39,7 @@ pub fn split_time_and_offset(s: &[u8]) -> usize
 // Whether the last space, which is at `at`, is beyond place 5 and what follows it, trimmed, starts with a sign.
 fn is_spaced(s: &[u8], at: usize) -> bool
     requires { ⌜ at ≡ lastPlace space (now s) ⌝ }
-    ensures { λ r. ⌜ r ≡ spaced (now (s .entry)) ⌝ }
+    ensures { λ r. ⌜ r ≡ splitsAtSpace (now (s .entry)) ⌝ }
 {
     if at <= 5 {
         return false;

@@ -5,7 +5,7 @@ ghost use mathlib.Core.Bool.{true};
 ghost use Prim.Native.Nat.{_≤_};
 ghost use lib.ListN.{length};
 ghost use Rattle.text.specs.Number.{AtMost};
-ghost use Rattle.iso.specs.Forms.{allFields, fieldsOf, isSeparator, flexible, compact, dashOf, isDotted, dotted, formOf};
+ghost use Rattle.iso.specs.Forms.{allFields, readFields, isSeparator, flexible, compact, dashOf, isDotted, dotted, formOf};
 ghost use Rattle.iso.specs.Held.{Within, FieldsIn};
 use crate::clock;
 use crate::cut;
@@ -131,7 +131,7 @@ fn is_separator(b: u8) -> bool
 
 // Reads year, month, day, and from s, what follows the `T` or space, time and offset.
 fn read_fields(y: &[u8], m: &[u8], d: &[u8], s: &[u8]) -> Fields
-    ensures is { λ r. ⌜ r ≡ fieldsOf (now (y .entry)) (now (m .entry)) (now (d .entry)) (now (s .entry)) ⌝ }
+    ensures is { λ r. ⌜ r ≡ readFields (now (y .entry)) (now (m .entry)) (now (d .entry)) (now (s .entry)) ⌝ }
     ensures range { λ r. ⌜ FieldsIn r ⌝ }
 {
     let r = trim::trimmed(s);

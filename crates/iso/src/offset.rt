@@ -3,7 +3,7 @@
 ghost use mathlib.Core.Path.{_≡_};
 ghost use mathlib.Core.List.{[], _∷_};
 ghost use Rattle.iso.specs.Parts.{colon, without, int32};
-ghost use Rattle.iso.specs.Offset.{upTo, secondsOf, hoursMinutes, negated as negatedOf, offsetOf};
+ghost use Rattle.iso.specs.Offset.{upTo, offsetSeconds, hoursMinutes, negated as negatedOf, isoOffset};
 ghost use Rattle.iso.specs.Held.{Within};
 use text::number;
 use text::number::Integer;
@@ -11,7 +11,7 @@ use text::number::Width;
 
 // The offset in a trimmed text: nothing, `Z`, or a sign and `HH` or `HHMM`, with colons anywhere behind it.
 pub fn parse_flexible_offset(o: &[u8]) -> Integer
-    ensures is { λ r. ⌜ r ≡ offsetOf (now (o .entry)) ⌝ }
+    ensures is { λ r. ⌜ r ≡ isoOffset (now (o .entry)) ⌝ }
     ensures range { λ r. ⌜ Within 362340 r ⌝ }
 {
     if o.len() == 0 {
@@ -78,7 +78,7 @@ fn field(x: u8, y: u8, limit: i64) -> Integer
 
 fn seconds(h: Integer, m: Integer) -> Integer
     requires { ⌜ Within 99 h × Within 99 m ⌝ }
-    ensures is { λ r. ⌜ r ≡ secondsOf h m ⌝ }
+    ensures is { λ r. ⌜ r ≡ offsetSeconds h m ⌝ }
     ensures range { λ r. ⌜ Within 362340 r ⌝ }
 {
     let Integer::Is(hours) = h else {

@@ -14,7 +14,7 @@ use Rattle.text.specs.Number.{signedOf, fitSigned, unsignedOf, digitsOf, readFr
 use Rattle.text.specs.Places.{firstPlace, has, run}
 use Rattle.time.specs.Answers.{timeAt}
 use Rattle.time.specs.declared.Now.the-variants.{Missing, At}
-use Rattle.lines.specs.Layout.{formOf, currentOf, textOf, lineOf}
+use Rattle.lines.specs.Layout.{formNamed, currentOf, textOf, lineOf}
 use Rattle.lines.specs.Rows.{rowBytes}
 use Rattle.lines.specs.declared.layout.Form.the-variants.{Header, Raw, Iso, Relative, Any}
 use Rattle.lines.specs.declared.layout.Line.{Line}
@@ -57,7 +57,7 @@ layouts =
     ∷ []
 
 layout-examples : AllRight layouts
-unfolding lineOf formOf currentOf same has firstPlace run signedOf fitSigned unsignedOf digitsOf readFrom isDigit
+unfolding lineOf formNamed currentOf same has firstPlace run signedOf fitSigned unsignedOf digitsOf readFrom isDigit
 layout-examples = (refl, (refl, (refl, (refl, (refl, (refl, (refl, (refl, (refl, (refl, (refl, (refl, tt))))))))))))
 
 -- RULES 10.2, "the text keeps further tabs"

@@ -21,7 +21,7 @@ use Rattle.text.specs.Lines.{tab, field, rest}
 use Rattle.text.proofs.Lists.{by-test, both}
 use Rattle.text.proofs.Lines.{cut-rest}
 use Rattle.time.specs.declared.Now.{Now}
-use Rattle.lines.specs.Layout.{maxLine, textOf, textPlace, asks, lineOf, formOf, currentOf}
+use Rattle.lines.specs.Layout.{maxLine, textOf, textPlace, asks, lineOf, formNamed, currentOf}
 use Rattle.lines.specs.Held.{Fits32}
 use Rattle.lines.specs.declared.layout.Form.{Form}
 use Rattle.lines.specs.declared.layout.Named.{Named}
@@ -70,7 +70,7 @@ module _ (s r : List ℕ) (a b : ℕ) (ea : a ≡ firstPlace tab s) (er : r ≡ 
         rw (le-ltb (firstPlace tab (rest (rest s))) (length (rest (rest s))) (omega (arith, ap length last-is, ap (firstPlace tab) last-is)), and-false, and-false, and-false)
 
     pub lineOf-three-tabs : (f g h : List ℕ) (n : Named) (k : Current) (x : Line) → length s ≤ maxLine → a < length s → b < length r → c < length t
-        → f ≡ take a s → g ≡ take b r → h ≡ take c t → n ≡ formOf f → k ≡ currentOf g h → x ≡ asks n k (a + 1 + (b + 1) + (c + 1)) → x ≡ lineOf s
+        → f ≡ take a s → g ≡ take b r → h ≡ take c t → n ≡ formNamed f → k ≡ currentOf g h → x ≡ asks n k (a + 1 + (b + 1) + (c + 1)) → x ≡ lineOf s
     unfolding lineOf has
     lineOf-three-tabs f g h n k x l la lb lc ef eg eh en ek ex =
         let p : r ≡ rest s = cut-rest s r a ea er in
@@ -86,7 +86,7 @@ module _ (s r : List ℕ) (a b : ℕ) (ea : a ≡ firstPlace tab s) (er : r ≡ 
           lt-ltb (firstPlace tab (rest s)) (length (rest s)) (omega (arith, ap length p)),
           lt-ltb (firstPlace tab (rest (rest s))) (length (rest (rest s))) (omega (arith, ap length q)),
         )
-        (ex ∙ (λ i. asks (en i) (ek i) (ea i + 1 + (pb i + 1) + (pc i + 1))) ∙ (λ i. asks (formOf (kf i)) (currentOf (kg i) (kh i)) (textPlace s)))
+        (ex ∙ (λ i. asks (en i) (ek i) (ea i + 1 + (pb i + 1) + (pc i + 1))) ∙ (λ i. asks (formNamed (kf i)) (currentOf (kg i) (kh i)) (textPlace s)))
 
 -- ---- the text of a line that asks
 asks-place : (n : Named) (k : Current) (at : ℕ) (f : Form) (m : Now) (p : ℕ) → asks n k at ≡ Asks f m p → at ≡ p
@@ -106,5 +106,5 @@ pub lineOf-asks : (s : List ℕ) (f : Form) (n : Now) (at : ℕ) → lineOf s �
 unfolding lineOf
 lineOf-asks s f n at e =
     by-test (leb (length s) maxLine && (has tab s && (has tab (rest s) && has tab (rest (rest s)))))
-    (λ y. ap (λ (v : ℕ). drop v s) (sym (asks-place (formOf (field s)) (currentOf (field (rest s)) (field (rest (rest s)))) (textPlace s) f n at (rw y at e))) ∙ drop-textPlace s)
+    (λ y. ap (λ (v : ℕ). drop v s) (sym (asks-place (formNamed (field s)) (currentOf (field (rest s)) (field (rest (rest s)))) (textPlace s) f n at (rw y at e))) ∙ drop-textPlace s)
     (λ y. let w : Wrong ≡ Asks f n at = rw y at e in let z : _≡_ {A = ℕ} 0 1 = cc in absurd (omega arith))

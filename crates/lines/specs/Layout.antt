@@ -28,8 +28,8 @@ abbrev pub maxLine : ℕ
 maxLine = 4096
 
 -- RULES 10.2: the form is `header`, `raw`, `iso`, `relative` or `any`
-unfoldable pub formOf : List ℕ → Named
-formOf s =
+unfoldable pub formNamed : List ℕ → Named
+formNamed s =
     cond (same s (bytes "header")) (As Header)
     (cond (same s (bytes "raw")) (As Raw)
     (cond (same s (bytes "iso")) (As Iso)
@@ -65,5 +65,5 @@ asks NoForm c at = Wrong
 unfoldable pub lineOf : List ℕ → Line
 lineOf s =
     cond (leb (length s) maxLine && (has tab s && (has tab (rest s) && has tab (rest (rest s)))))
-    (asks (formOf (field s)) (currentOf (field (rest s)) (field (rest (rest s)))) (textPlace s))
+    (asks (formNamed (field s)) (currentOf (field (rest s)) (field (rest (rest s)))) (textPlace s))
     Wrong

@@ -4,7 +4,7 @@ ghost use mathlib.Core.Path.{_≡_};
 ghost use mathlib.Core.Bool.{cond};
 ghost use Rattle.text.specs.Bytes.{same};
 ghost use Rattle.lines.specs.declared.layout.Named.the-variants.{As};
-ghost use Rattle.lines.specs.Layout.{formOf, currentAt, currentOf, asks as asksOf, lineOf};
+ghost use Rattle.lines.specs.Layout.{formNamed, currentAt, currentOf, asks as asksOf, lineOf};
 ghost use Rattle.lines.specs.Held.{Fits32};
 use text::bytes;
 use text::number;
@@ -86,7 +86,7 @@ fn asks(form: Named, current: Current, at: usize) -> Line
 
 // The form with this name. Names are in small letters (RULES 10.2).
 fn form_of(s: &[u8]) -> Named
-    ensures { λ r. ⌜ r ≡ formOf (now (s .entry)) ⌝ }
+    ensures { λ r. ⌜ r ≡ formNamed (now (s .entry)) ⌝ }
 {
     let n = Named::Nothing;
     let n = form_named(s, b"any", Form::Any, n);

@@ -26,7 +26,7 @@ use Rattle.time.specs.declared.Answer.the-variants.{Time, Refused}
 use Rattle.relative.specs.Words.{wordsOf, spelled, countOf, singular, unitNamed, unitOf}
 use Rattle.relative.specs.Pairs.{pairsFrom, agoFrom, known}
 use Rattle.relative.specs.Steps.{monthStart, monthsEarlier, landing, landed, step, steps}
-use Rattle.relative.specs.Joined.{waitsFrom, Whole}
+use Rattle.relative.specs.Joined.{waitsFrom, Joinable}
 use Rattle.relative.specs.Months.{monthDays, earlierDate, OnePair}
 use Rattle.relative.specs.declared.pair.Unit.the-variants.{Months}
 use Rattle.relative.specs.Examples.{read, at, may, marked}
@@ -133,6 +133,6 @@ two-years : OnePair (bytes "Two YEARS") 2 (Months 12)
 unfolding ascii wordsOf isAlphanumeric words full pieces pairsFrom sameLetters lowerOf countOf spelled fit digitsOf readFrom isDigit unitOf unitNamed singular
 two-years = record { plain = refl; pair = refl }
 
-weeks-and-day : Whole (bytes "2 weeks and 1 day")
+weeks-and-day : Joinable (bytes "2 weeks and 1 day")
 unfolding ascii wordsOf isAlphanumeric words full pieces pairsFrom waitsFrom known sameLetters lowerOf countOf spelled fit digitsOf readFrom isDigit unitOf unitNamed singular
 weeks-and-day = record { plain = refl; some = omega arith; units-known = refl; ended = refl }

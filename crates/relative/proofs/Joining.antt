@@ -26,7 +26,7 @@ use Rattle.relative.specs.Words.{wordsOf}
 use Rattle.relative.specs.Pairs.{pairsOf, agoIn, known}
 use Rattle.relative.specs.Steps.{steps}
 use Rattle.relative.specs.Relative.{from, relativeOf}
-use Rattle.relative.specs.Joined.{Whole, spaced, after}
+use Rattle.relative.specs.Joined.{Joinable, joinedBySpace, after}
 use Rattle.relative.specs.declared.pair.Pair.{Pair}
 use Rattle.relative.proofs.Holding.{steps-refused}
 use Rattle.relative.proofs.Texts.{pairsFrom-append, waitsFrom-append, known-append, steps-append, Good, steps-good}
@@ -36,15 +36,15 @@ use Rattle.relative.proofs.Named.{relativeOf-of-pairs}
 pub known-or : (k a : Bool) → k ≡ true → (k || a) ≡ true
 known-or k a e = rw e
 
-pub answer-of-whole : (bound : ℕ) (s : List ℕ) (current : Now) → Whole s → length (pairsOf s) ≤ bound → relativeOf bound s current ≡ from current (pairsOf s)
+pub answer-of-whole : (bound : ℕ) (s : List ℕ) (current : Now) → Joinable s → length (pairsOf s) ≤ bound → relativeOf bound s current ≡ from current (pairsOf s)
 answer-of-whole bound s current w h = relativeOf-of-pairs bound s current (w .plain) (w .some) (known-or (known (pairsOf s)) (agoIn s) (w .units-known)) h
 
 -- the joined text is whole, and has the pairs of both
-pub joined-pairs : (a b : List ℕ) → Whole a → pairsOf (spaced a b) ≡ pairsOf a ++ pairsOf b
+pub joined-pairs : (a b : List ℕ) → Joinable a → pairsOf (joinedBySpace a b) ≡ pairsOf a ++ pairsOf b
 unfolding wordsOf isAlphanumeric
 joined-pairs a b w = rw (words-append (separator Mark) a b (code " ") refl, pairsFrom-append Nothing (wordsOf a) (wordsOf b), w .ended)
 
-pub joined-whole : (a b : List ℕ) → Whole a → Whole b → Whole (spaced a b)
+pub joined-whole : (a b : List ℕ) → Joinable a → Joinable b → Joinable (joinedBySpace a b)
 unfolding ascii wordsOf isAlphanumeric
 joined-whole a b v w =
     record {
@@ -68,7 +68,7 @@ from-append : (x : Time) (ps qs : List Pair) → timeInRange x ≡ true → from
 unfolding from
 from-append x ps qs c = rw (c, steps-append ps qs (Answered x)) (steps-onward qs (steps ps (Answered x)) (steps-good ps (Answered x) c))
 
-module _ (bound : ℕ) (b : List ℕ) (w : Whole b) (h : length (pairsOf b) ≤ bound) where
+module _ (bound : ℕ) (b : List ℕ) (w : Joinable b) (h : length (pairsOf b) ≤ bound) where
   onward-after : (r : Answer) → onward r (pairsOf b) ≡ after bound b r
   onward-after (Answered x) = sym (answer-of-whole bound b (At x) w h)
   onward-after (Refused r) = refl
@@ -82,14 +82,14 @@ after-refused bound b (Answered y) = (
 )
 after-refused bound b (Refused r) = ((λ e. inl e), ⊎-elim (λ e. e) (λ p. ap (after bound b) (p .1) ∙ p .2))
 
-module _ (bound : ℕ) (a b : List ℕ) (x : Time) (v : Whole a) (w : Whole b) (h : length (pairsOf a) + length (pairsOf b) ≤ bound) (c : timeInRange x ≡ true) where
+module _ (bound : ℕ) (a b : List ℕ) (x : Time) (v : Joinable a) (w : Joinable b) (h : length (pairsOf a) + length (pairsOf b) ≤ bound) (c : timeInRange x ≡ true) where
   -- joined by a space, two texts answer as the second read from the first's answer
-  pub relative-join : relativeOf bound (spaced a b) (At x) ≡ after bound b (relativeOf bound a (At x))
+  pub relative-join : relativeOf bound (joinedBySpace a b) (At x) ≡ after bound b (relativeOf bound a (At x))
   relative-join =
-      let k : length (pairsOf (spaced a b)) ≤ bound = rw (joined-pairs a b v) (omega (arith, length-append (pairsOf a) (pairsOf b))) in
-      answer-of-whole bound (spaced a b) (At x) (joined-whole a b v w) k ∙ ap (from (At x)) (joined-pairs a b v) ∙ from-append x (pairsOf a) (pairsOf b) c ∙ ap (λ (r : Answer). onward r (pairsOf b)) (sym (answer-of-whole bound a (At x) v (omega arith))) ∙ onward-after bound b w (omega arith) (relativeOf bound a (At x))
+      let k : length (pairsOf (joinedBySpace a b)) ≤ bound = rw (joined-pairs a b v) (omega (arith, length-append (pairsOf a) (pairsOf b))) in
+      answer-of-whole bound (joinedBySpace a b) (At x) (joined-whole a b v w) k ∙ ap (from (At x)) (joined-pairs a b v) ∙ from-append x (pairsOf a) (pairsOf b) c ∙ ap (λ (r : Answer). onward r (pairsOf b)) (sym (answer-of-whole bound a (At x) v (omega arith))) ∙ onward-after bound b w (omega arith) (relativeOf bound a (At x))
 
   -- and are refused as out of range exactly if either step is
-  pub relative-join-refused : (relativeOf bound (spaced a b) (At x) ≡ Refused Range)
+  pub relative-join-refused : (relativeOf bound (joinedBySpace a b) (At x) ≡ Refused Range)
       ↔ ((relativeOf bound a (At x) ≡ Refused Range) ⊎ ((y : Time) × (relativeOf bound a (At x) ≡ Answered y) × (relativeOf bound b (At y) ≡ Refused Range)))
   relative-join-refused = rw relative-join (after-refused bound b (relativeOf bound a (At x)))

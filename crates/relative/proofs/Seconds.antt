@@ -30,7 +30,7 @@ use Rattle.relative.specs.Words.{wordsOf, is, spelled, countOf, singular
 use Rattle.relative.specs.Pairs.{pairsFrom, pairsOf, agoIn, known}
 use Rattle.relative.specs.Steps.{landing, landed, step, steps}
 use Rattle.relative.specs.Relative.{from, namedOf, relativeOf}
-use Rattle.relative.specs.Joined.{Whole, spaced, isSeconds, allSeconds}
+use Rattle.relative.specs.Joined.{Joinable, joinedBySpace, isSeconds, allSeconds}
 use Rattle.relative.specs.Months.{OnePair}
 use Rattle.relative.specs.declared.pair.Unit.{Unit}
 use Rattle.relative.specs.declared.pair.Unit.the-variants.{Seconds, Months, Unknown}
@@ -140,16 +140,16 @@ allSeconds-append [] qs h k = k
 allSeconds-append (p ∷ ps) qs h k = let l = both (isSeconds (p .unit)) (allSeconds ps) h in rw (l .0) (allSeconds-append ps qs (l .1) k)
 
 module _ (bound : ℕ) (x : Time) (c : timeInRange x ≡ true) where
-  seconds-in-order : (a b : List ℕ) → Whole a → Whole b → allSeconds (pairsOf a) ≡ true → allSeconds (pairsOf b) ≡ true → length (pairsOf a) + length (pairsOf b) ≤ bound
-      → relativeOf bound (spaced a b) (At x) ≡ landed (x .seconds -ℤ pos (total (pairsOf a) + total (pairsOf b))) (x .offset)
+  seconds-in-order : (a b : List ℕ) → Joinable a → Joinable b → allSeconds (pairsOf a) ≡ true → allSeconds (pairsOf b) ≡ true → length (pairsOf a) + length (pairsOf b) ≤ bound
+      → relativeOf bound (joinedBySpace a b) (At x) ≡ landed (x .seconds -ℤ pos (total (pairsOf a) + total (pairsOf b))) (x .offset)
   unfolding from
   seconds-in-order a b v w p q h =
-      let few : length (pairsOf (spaced a b)) ≤ bound = rw (joined-pairs a b v) (omega (arith, length-append (pairsOf a) (pairsOf b))) in
-      answer-of-whole bound (spaced a b) (At x) (joined-whole a b v w) few ∙ rw (joined-pairs a b v, c, steps-total (pairsOf a ++ pairsOf b) x (allSeconds-append (pairsOf a) (pairsOf b) p q) c, total-append (pairsOf a) (pairsOf b))
+      let few : length (pairsOf (joinedBySpace a b)) ≤ bound = rw (joined-pairs a b v) (omega (arith, length-append (pairsOf a) (pairsOf b))) in
+      answer-of-whole bound (joinedBySpace a b) (At x) (joined-whole a b v w) few ∙ rw (joined-pairs a b v, c, steps-total (pairsOf a ++ pairsOf b) x (allSeconds-append (pairsOf a) (pairsOf b) p q) c, total-append (pairsOf a) (pairsOf b))
 
   -- two texts of seconds units answer alike in either order, refusals too
-  pub seconds-units-commute : (a b : List ℕ) → Whole a → Whole b → allSeconds (pairsOf a) ≡ true → allSeconds (pairsOf b) ≡ true → length (pairsOf a) + length (pairsOf b) ≤ bound
-      → relativeOf bound (spaced a b) (At x) ≡ relativeOf bound (spaced b a) (At x)
+  pub seconds-units-commute : (a b : List ℕ) → Joinable a → Joinable b → allSeconds (pairsOf a) ≡ true → allSeconds (pairsOf b) ≡ true → length (pairsOf a) + length (pairsOf b) ≤ bound
+      → relativeOf bound (joinedBySpace a b) (At x) ≡ relativeOf bound (joinedBySpace b a) (At x)
   seconds-units-commute a b v w p q h =
       let e : total (pairsOf a) + total (pairsOf b) ≡ total (pairsOf b) + total (pairsOf a) = omega arith in
       seconds-in-order a b v w p q h ∙ ap (λ (n : ℕ). landed (x .seconds -ℤ pos n) (x .offset)) e ∙ sym (seconds-in-order b a w v q p (omega arith))

@@ -26,15 +26,15 @@ waitsFrom c [] = c
 waitsFrom c (w ∷ ws) = waitsFrom (next c w) ws
 
 -- ASCII, at least one pair, known units only, no count without a word after it
-pub record Whole (s : List ℕ) : Type 0 where
+pub record Joinable (s : List ℕ) : Type 0 where
   pub plain : ascii s ≡ true
   pub some : 0 < length (pairsOf s)
   pub units-known : known (pairsOf s) ≡ true
   pub ended : waitsFrom Nothing (wordsOf s) ≡ Nothing
 
 -- a and b with a space between
-abbrev pub spaced : List ℕ → List ℕ → List ℕ
-spaced a b = a ++ code " " ∷ b
+abbrev pub joinedBySpace : List ℕ → List ℕ → List ℕ
+joinedBySpace a b = a ++ code " " ∷ b
 
 -- the text b, read with an answer as the current time
 abbrev pub after : ℕ → List ℕ → Answer → Answer

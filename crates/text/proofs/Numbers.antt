@@ -60,10 +60,10 @@ unfolding fit readFrom
 fit-readFrom-of-lt [] limit v h = rw (lt-leb v limit h)
 fit-readFrom-of-lt (b ∷ s) limit v h = by-test (isDigit b) (λ e. rw e (fit-readFrom-of-lt s limit (10 * v + (b - 48)) (omega arith))) (λ e. rw e)
 
-pub fit-digitsOf-of-Not : (s : List ℕ) (limit : ℕ) → fit limit (readFrom 0 s) ≡ NoNumber → fit limit (digitsOf s) ≡ NoNumber
+pub fit-digitsOf-of-Nothing : (s : List ℕ) (limit : ℕ) → fit limit (readFrom 0 s) ≡ NoNumber → fit limit (digitsOf s) ≡ NoNumber
 unfolding fit digitsOf
-fit-digitsOf-of-Not [] limit h = refl
-fit-digitsOf-of-Not (b ∷ s) limit h = h
+fit-digitsOf-of-Nothing [] limit h = refl
+fit-digitsOf-of-Nothing (b ∷ s) limit h = h
 
 -- digits from one place up to another, with the value v: no number if the two places are the same
 pub fit-digitsOf-of-length : (s : List ℕ) (limit v from end : ℕ) → v ≤ limit → from + length s ≡ end → fit limit (readFrom 0 s) ≡ fit limit (Value v)

@@ -11,7 +11,7 @@ use native.Mathlib.Omega.{arith}
 use lib.ListN.{length, getD, take, drop}
 use denote.Ref.{RefT, now}
 use Rattle.text.specs.Words.{separator, words, takeWord}
-use Rattle.text.specs.Walk.{startOf, nextOf, movedTo, passed, walk}
+use Rattle.text.specs.Walk.{walkerOf, nextOf, movedTo, passed, walk}
 use Rattle.text.specs.declared.words.Separator.{Separator}
 use Rattle.text.specs.declared.words.Span.{Span}
 use Rattle.text.specs.declared.words.Words.{Words}
@@ -83,9 +83,9 @@ module _ (by : Separator) where
       (λ e. rw (e, words-takeWord (separator by) (now (w .text)) (w .at) Nothing (sym e)))
 
   -- n steps from the front of a text give the first n of its words
-  pub walking-gives-the-first-words : (n : ℕ) (t : RefT (List ℕ)) → walk by n (startOf t) ≡ take n (words (separator by) (now t))
-  walking-gives-the-first-words n t = walk-take n (startOf t)
+  pub walking-gives-the-first-words : (n : ℕ) (t : RefT (List ℕ)) → walk by n (walkerOf t) ≡ take n (words (separator by) (now t))
+  walking-gives-the-first-words n t = walk-take n (walkerOf t)
 
   -- as many steps as the text has bytes, or more, give all of its words
-  pub walking-gives-the-words : (n : ℕ) (t : RefT (List ℕ)) → length (now t) ≤ n → walk by n (startOf t) ≡ words (separator by) (now t)
-  walking-gives-the-words n t h = walking-gives-the-readers-words n (startOf t) ∙ takings-words (separator by) n (now t) 0 (omega (arith, h))
+  pub walking-gives-the-words : (n : ℕ) (t : RefT (List ℕ)) → length (now t) ≤ n → walk by n (walkerOf t) ≡ words (separator by) (now t)
+  walking-gives-the-words n t h = walking-gives-the-readers-words n (walkerOf t) ∙ takings-words (separator by) n (now t) 0 (omega (arith, h))

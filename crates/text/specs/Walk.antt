@@ -15,8 +15,8 @@ use Rattle.text.specs.declared.words.Taken.the-variants.{Word, Nothing}
 use Rattle.text.specs.declared.walker.Walker.{Walker}
 
 -- at the front of a text
-abbrev pub startOf : RefT (List ℕ) → Walker
-startOf t = record { text = t; at = 0 }
+abbrev pub walkerOf : RefT (List ℕ) → Walker
+walkerOf t = record { text = t; at = 0 }
 
 -- the next word: the one that the reader takes at that place
 abbrev pub nextOf : Walker → Separator → Taken

@@ -11,7 +11,7 @@ ghost use mathlib.Core.List.{[]};
 ghost use lib.ListN.{drop, getD};
 ghost use Rattle.text.specs.Places.{part};
 ghost use Rattle.text.specs.Words.{separator, words};
-ghost use Rattle.text.specs.Walk.{startOf, nextOf, movedTo, passed};
+ghost use Rattle.text.specs.Walk.{walkerOf, nextOf, movedTo, passed};
 use crate::places;
 use crate::words::Separator;
 use crate::words::Span;
@@ -28,7 +28,7 @@ pub struct Walker<'a> {
 impl<'a> Walker<'a> {
     // A walker at the front of a text.
     pub fn start(text: &'a [u8]) -> Walker<'a>
-        ensures { λ r. ⌜ r ≡ startOf (text .entry) ⌝ }
+        ensures { λ r. ⌜ r ≡ walkerOf (text .entry) ⌝ }
     {
         Walker { text, at: 0 }
     }

@@ -14,7 +14,7 @@ use Rattle.time.specs.Answers.{timeAt}
 use Rattle.time.specs.Clock.{clockOf}
 use Rattle.time.specs.Range.{secondsInRange, offsetInRange}
 use Rattle.time.specs.Header.{signByte, headerSign, wholeMinutes, headerBytes, sizeOf, headerWritten}
-use Rattle.time.specs.Iso.{lineBytes, lineOf, lineWritten, shown, isoBytes, isoWritten}
+use Rattle.time.specs.Iso.{lineBytes, lineInstant, lineWritten, shown, isoBytes, isoWritten}
 use Rattle.time.specs.Rows.{Row, writes, AllRight}
 use Rattle.time.specs.declared.Refusal.the-variants.{Offset, Range, Room}
 use Rattle.time.specs.declared.Written.the-variants.{Length, Refused}
@@ -81,18 +81,18 @@ lines-right = (refl, (refl, (refl, (refl, tt))))
 
 -- "Writers test in the order 7, 6, 8": the largest seconds at an offset of a day, with no room
 seven-first : isoWritten (timeAt (pos (2 ^ 63 - 1)) (pos 86400)) [] ≡ Refused Offset
-unfolding isoWritten shown lineWritten lineOf
+unfolding isoWritten shown lineWritten lineInstant
 seven-first = refl
 
 six-next : isoWritten (timeAt (pos 253402207201) (pos 0)) [] ≡ Refused Range
-unfolding isoWritten shown lineWritten lineOf secondsInRange
+unfolding isoWritten shown lineWritten lineInstant secondsInRange
 six-next = refl
 
 -- "a local year outside 0 to 9999": the second before 1 January 0000, and that midnight
 year-before-0 : isoWritten (timeAt (negsuc 62167219200) (pos 0)) (replicate 25 0) ≡ Refused Range
-unfolding isoWritten shown lineWritten lineOf secondsInRange clockOf dateOf monthOf yearOf spanOf monthLength yearLength firstDay yearStart total lengths leap
+unfolding isoWritten shown lineWritten lineInstant secondsInRange clockOf dateOf monthOf yearOf spanOf monthLength yearLength firstDay yearStart total lengths leap
 year-before-0 = refl
 
 year-0 : isoWritten (timeAt (negsuc 62167219199) (pos 0)) (replicate 25 0) ≡ Length 25
-unfolding isoWritten shown lineWritten lineOf secondsInRange clockOf dateOf monthOf yearOf spanOf monthLength yearLength firstDay yearStart total lengths leap
+unfolding isoWritten shown lineWritten lineInstant secondsInRange clockOf dateOf monthOf yearOf spanOf monthLength yearLength firstDay yearStart total lengths leap
 year-0 = refl

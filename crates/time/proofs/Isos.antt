@@ -19,7 +19,7 @@ use Rattle.text.proofs.Putting.{put-put}
 use Rattle.time.specs.Range.{leastOffset, mostOffset, secondsInRange, offsetInRange, timeInRange, instantOf, movedOf}
 use Rattle.time.specs.Answers.{isWritten}
 use Rattle.time.specs.Clock.{clockOf}
-use Rattle.time.specs.Iso.{lineClock, yearOf, dateBefore, clockBefore, offsetBefore, clockLine, lineBytes, lineOf, writtenAt, lineWritten, shown}
+use Rattle.time.specs.Iso.{lineClock, clockYear, dateBefore, clockBefore, offsetBefore, clockLine, lineBytes, lineInstant, writtenAt, lineWritten, shown}
 use Rattle.time.specs.declared.Time.{Time}
 use Rattle.time.specs.declared.Refusal.{Refusal}
 use Rattle.time.specs.declared.Refusal.the-variants.{Offset, Range, Room}
@@ -33,9 +33,9 @@ use Rattle.time.specs.declared.format.Line.{Line}
 use Rattle.time.specs.declared.format.Line.the-variants.{At, Refused as NoLine}
 
 -- ---- which time has a line
-pub lineOf-of-wide : (t : Time) → 86400 ≤ natAbs (t .offset) → NoLine Offset ≡ lineOf t
-unfolding lineOf
-lineOf-of-wide t h = rw (le-leb 86400 (natAbs (t .offset)) h)
+pub lineInstant-of-wide : (t : Time) → 86400 ≤ natAbs (t .offset) → NoLine Offset ≡ lineInstant t
+unfolding lineInstant
+lineInstant-of-wide t h = rw (le-leb 86400 (natAbs (t .offset)) h)
 
 -- an offset under a day is in range
 offset-in : (z : ℤ) → natAbs z < 86400 → In leastOffset mostOffset z
@@ -47,9 +47,9 @@ abbrev pub lineFrom : Moved → Line
 lineFrom (Inside i) = At i
 lineFrom Nothing = NoLine Range
 
-pub lineOf-of-narrow : (t : Time) → natAbs (t .offset) < 86400 → lineFrom (movedOf t) ≡ lineOf t
-unfolding lineOf movedOf timeInRange offsetInRange
-lineOf-of-narrow t h =
+pub lineInstant-of-narrow : (t : Time) → natAbs (t .offset) < 86400 → lineFrom (movedOf t) ≡ lineInstant t
+unfolding lineInstant movedOf timeInRange offsetInRange
+lineInstant-of-narrow t h =
     by-test (secondsInRange (t .seconds))
     (λ e. rw (lt-leb 86400 (natAbs (t .offset)) h, e, isIn-of-In (offset-in (t .offset) h)))
     (λ e. rw (lt-leb 86400 (natAbs (t .offset)) h, e))
@@ -59,8 +59,8 @@ pub record HasLine (t : Time) (i : Instant) : Type 0 where
   pub narrow : natAbs (t .offset) < 86400
   pub instant : i ≡ instantOf t
 
-pub HasLine-of-At : (t : Time) (i : Instant) → lineOf t ≡ At i → HasLine t i
-unfolding lineOf
+pub HasLine-of-At : (t : Time) (i : Instant) → lineInstant t ≡ At i → HasLine t i
+unfolding lineInstant
 HasLine-of-At t i e =
     by-test (leb 86400 (natAbs (t .offset))) (λ y. absurd (clash Offset (rw y at e)))
     (λ n. by-test (secondsInRange (t .seconds))
@@ -105,11 +105,11 @@ module _ (c : Clock) (o : ℤ) (room : List ℕ) where
 abbrev WroteLine : Written → List ℕ → Time → List ℕ → Type 0
 WroteLine r after t room = (r ≡ lineWritten t room) × (after ≡ roomAfter (isWritten (lineWritten t room)) (lineBytes t) room)
 
-pub wroteLine-not : (t : Time) (r : Refusal) (room : List ℕ) → lineOf t ≡ NoLine r → WroteLine (Refused r) room t room
+pub wroteLine-not : (t : Time) (r : Refusal) (room : List ℕ) → lineInstant t ≡ NoLine r → WroteLine (Refused r) room t room
 unfolding lineWritten
 wroteLine-not t r room e = (rw e, rw e)
 
-pub wroteLine-At : (t : Time) (i : Instant) (o : ℤ) (room : List ℕ) (r : Written) (after : List ℕ) → lineOf t ≡ At i → o ≡ t .offset
+pub wroteLine-At : (t : Time) (i : Instant) (o : ℤ) (room : List ℕ) (r : Written) (after : List ℕ) → lineInstant t ≡ At i → o ≡ t .offset
     → WroteClock r after (clockOf i) o room → WroteLine r after t room
 unfolding lineWritten lineBytes
 wroteLine-At t i o room r after e p w =
@@ -125,16 +125,16 @@ pub record WasWritten (t : Time) (n : ℕ) : Type 0 where
   pub length : n ≡ 25
 
 pub wasWritten : (t : Time) (room : List ℕ) (n : ℕ) → lineWritten t room ≡ Length n → WasWritten t n
-unfolding lineWritten lineOf
+unfolding lineWritten lineInstant
 wasWritten t room n e =
     let c : Clock = lineClock t in
     by-test (leb 86400 (natAbs (t .offset))) (λ y. absurd (clash Offset (rw y at e)))
     (λ a. by-test (secondsInRange (t .seconds))
-    (λ b. by-test (leb 10000 (yearOf c) && ltb (yearOf c) 20000)
+    (λ b. by-test (leb 10000 (clockYear c) && ltb (clockYear c) 20000)
     (λ y.
-    let p = both (leb 10000 (yearOf c)) (ltb (yearOf c) 20000) y in
-    let l : 10000 ≤ yearOf c = leb-true 10000 (yearOf c) (p .0) in
-    let h : yearOf c < 20000 = ltb-true (yearOf c) 20000 (p .1) in
+    let p = both (leb 10000 (clockYear c)) (ltb (clockYear c) 20000) y in
+    let l : 10000 ≤ clockYear c = leb-true 10000 (clockYear c) (p .0) in
+    let h : clockYear c < 20000 = ltb-true (clockYear c) 20000 (p .1) in
     by-test (ltb (length room) 25) (λ k. absurd (clash Room (rw (a, b, y, k) at e)))
     (λ k. record { narrow = leb-false 86400 (natAbs (t .offset)) a; seconds = b; year-low = omega arith; year-high = omega arith; length = same (rw (a, b, y, k) at e) }))
     (λ m. absurd (clash Range (rw (a, b, m) at e))))

@@ -30,7 +30,7 @@ use Rattle.time.specs.Answers.{isWritten}
 use Rattle.time.specs.Clock.{clockOf, localOf}
 use Rattle.time.specs.Header.{sizeOf, headerBytes, headerWritten, signByte, wholeMinutes, smallestTime, largestTime}
 use Rattle.time.specs.Range.{instantOf}
-use Rattle.time.specs.Iso.{lineClock, yearOf, lineBytes, shown, isoBytes, isoWritten}
+use Rattle.time.specs.Iso.{lineClock, clockYear, lineBytes, shown, isoBytes, isoWritten}
 use Rattle.time.specs.Theorems.{HasHeader, isLike}
 use Rattle.time.specs.declared.Time.{Time}
 use Rattle.time.specs.declared.Refusal.{Refusal}
@@ -129,7 +129,7 @@ line-has-its-shape : (t : Time) {n : ℕ} → WasWritten t n → isLike (bytes "
 unfolding lineBytes wholeMinutes
 line-has-its-shape t w =
     let c = lineClock t in
-    let y = yearOf c - 10000 in
+    let y = clockYear c - 10000 in
     let m = natAbs (t .offset) / 60 in
     let o : m / 60 < 100 = omega (arith, w .narrow) in
     let h : c .second / 3600 < 100 = omega (arith, clock-second (instantOf t)) in

@@ -25,8 +25,8 @@ abbrev pub lineClock : Time → Clock
 lineClock t = clockOf (instantOf t)
 
 -- the year of a clock, from year -10000
-abbrev pub yearOf : Clock → ℕ
-yearOf c = c .date .month / 12
+abbrev pub clockYear : Clock → ℕ
+clockYear c = c .date .month / 12
 
 -- `b` and two digits of n, in front of t
 abbrev pub fieldBefore : ℕ → ℕ → List ℕ → List ℕ
@@ -35,7 +35,7 @@ fieldBefore b n t = b ∷ twoBefore n t
 -- `YYYY-MM-DD`, in front of t
 abbrev pub dateBefore : Clock → List ℕ → List ℕ
 dateBefore c t =
-    twoBefore ((yearOf c - 10000) / 100) (twoBefore ((yearOf c - 10000) % 100)
+    twoBefore ((clockYear c - 10000) / 100) (twoBefore ((clockYear c - 10000) % 100)
     (fieldBefore (code "-") (c .date .month % 12 + 1) (fieldBefore (code "-") (c .date .day + 1) t)))
 
 -- `THH:MM:SS`
@@ -56,22 +56,22 @@ unfoldable pub lineBytes : Time → List ℕ
 lineBytes t = clockLine (lineClock t) (t .offset)
 
 -- refused by 7 if the size of the offset is 86400 or more, then by 6 if the seconds are out of range; otherwise the instant
-unfoldable pub lineOf : Time → Line
-lineOf t =
+unfoldable pub lineInstant : Time → Line
+lineInstant t =
     cond (leb 86400 (natAbs (t .offset))) (NoLine Offset)
     (cond (secondsInRange (t .seconds)) (At (instantOf t)) (NoLine Range))
 
 -- refused by 6 too if the local year is outside 0 to 9999, then by 8 if the room is too short
 abbrev pub writtenAt : Clock → List ℕ → Written
 writtenAt c room =
-    cond (leb 10000 (yearOf c) && ltb (yearOf c) 20000) (cond (ltb (length room) 25) (Refused Room) (Length 25)) (Refused Range)
+    cond (leb 10000 (clockYear c) && ltb (clockYear c) 20000) (cond (ltb (length room) 25) (Refused Room) (Length 25)) (Refused Range)
 
 abbrev pub written : Line → List ℕ → Written
 written (At i) room = writtenAt (clockOf i) room
 written (NoLine r) room = Refused r
 
 unfoldable pub lineWritten : Time → List ℕ → Written
-lineWritten t room = written (lineOf t) room
+lineWritten t room = written (lineInstant t) room
 
 -- ---- the ISO line of a time
 -- the time that a line shows: for now the time itself

@@ -8,7 +8,7 @@ ghost use Rattle.text.specs.Room.{roomAfter};
 ghost use Rattle.calendar.specs.Table.{IsMonths};
 ghost use Rattle.time.specs.Answers.{isWritten};
 ghost use Rattle.time.specs.Clock.{clockOf};
-ghost use Rattle.time.specs.Iso.{fieldBefore, dateBefore, clockBefore, offsetBefore, clockLine, lineBytes, lineOf, writtenAt, lineWritten, shown as shownTime};
+ghost use Rattle.time.specs.Iso.{fieldBefore, dateBefore, clockBefore, offsetBefore, clockLine, lineBytes, lineInstant, writtenAt, lineWritten, shown as shownTime};
 ghost use Rattle.time.specs.Held.{LineInRange};
 ghost use Rattle.time.specs.Range.{InRange};
 use crate::Refusal;
@@ -62,7 +62,7 @@ pub fn write_line_with(t: Time, months: &[u32], room: &mut [u8]) -> Written
 
 // The instant of a time's line, unless the time is refused.
 fn line_of(t: Time) -> Line
-    ensures is { λ r. ⌜ r ≡ lineOf t ⌝ }
+    ensures is { λ r. ⌜ r ≡ lineInstant t ⌝ }
     ensures range { λ r. ⌜ LineInRange r ⌝ }
 {
     let offset = t.offset;

@@ -2,7 +2,7 @@
 -- Assumes nothing.
 use mathlib.Core.Path.{sym, _∙_}
 use lib.Seq.{length-take-le}
-use Rattle.iso.proofs.Times.{timeOf-colon, timeOf-plain}
+use Rattle.iso.proofs.Times.{isoTime-colon, isoTime-plain}
 use borrow.Author.Needs.{needs}
 use Rattle.iso.proofs.clock.parse_time_component.Statement.{statement}
 use Rattle.iso.proofs.clock.parse_time_component.Tie as tie
@@ -15,11 +15,11 @@ returns : tie.Need-returns
 returns c =
     let at-if1 = c .before .before .before in
     let at-first-place = at-if1 .before in
-    (timeOf-colon _ _ (at-first-place .first-place .ensures .0) _ (at-if1 .if1 .taken) (c .colon-time .ensures .0), c .colon-time .ensures .1)
+    (isoTime-colon _ _ (at-first-place .first-place .ensures .0) _ (at-if1 .if1 .taken) (c .colon-time .ensures .0), c .colon-time .ensures .1)
 
 -- without
 returns-2 : tie.Need-returns-2
-returns-2 c = (c .plain-time .ensures .0 ∙ timeOf-plain _ _ (c .before .before .first-place .ensures .0) (c .before .if1 .left), c .plain-time .ensures .1)
+returns-2 c = (c .plain-time .ensures .0 ∙ isoTime-plain _ _ (c .before .before .first-place .ensures .0) (c .before .if1 .left), c .plain-time .ensures .1)
 
 pub parse-time-component-spec : {M : Type 1} → statement M
 parse-time-component-spec =

@@ -2,7 +2,7 @@
 -- Assumes nothing.
 use mathlib.Core.Path.{sym, _∙_}
 use lib.Seq.{length-take-le}
-use Rattle.iso.proofs.FormFields.{fieldsOf-parts}
+use Rattle.iso.proofs.FormFields.{readFields-parts}
 use borrow.Author.Needs.{needs}
 use Rattle.iso.proofs.forms.read_fields.Statement.{statement}
 use Rattle.iso.proofs.forms.read_fields.Tie as tie
@@ -22,7 +22,7 @@ returns c =
     let at-split-time-and-offset = at-before2 .before .before in
     let at-trimmed = at-split-time-and-offset .before in (
       c .all-fields .ensures .0
-          ∙ fieldsOf-parts _ _ _ _ _ _ _ _ _ _ _ _ _ _ (at-trimmed .trimmed .ensures) (at-split-time-and-offset .split-time-and-offset .ensures .0) (at-before2 .before2 .ensures) (at-trimmed2 .trimmed2 .ensures) (at-parse-time-component .parse-time-component .ensures .0) (at-trimmed3 .trimmed3 .ensures) (at-parse-flexible-offset .parse-flexible-offset .ensures .0) (at-signed-number .signed-number .ensures) (at-signed-number2 .signed-number2 .ensures) (c .before .signed-number3 .ensures),
+          ∙ readFields-parts _ _ _ _ _ _ _ _ _ _ _ _ _ _ (at-trimmed .trimmed .ensures) (at-split-time-and-offset .split-time-and-offset .ensures .0) (at-before2 .before2 .ensures) (at-trimmed2 .trimmed2 .ensures) (at-parse-time-component .parse-time-component .ensures .0) (at-trimmed3 .trimmed3 .ensures) (at-parse-flexible-offset .parse-flexible-offset .ensures .0) (at-signed-number .signed-number .ensures) (at-signed-number2 .signed-number2 .ensures) (c .before .signed-number3 .ensures),
       c .all-fields .ensures .1,
     )
 

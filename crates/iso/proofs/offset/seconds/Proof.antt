@@ -6,7 +6,7 @@ use mir.Syntax.{w64}
 use mir.Val.{toZ, ofZ}
 use Rattle.ints.proofs.Machine.{In-of-At, At, known, times, add, read, fits}
 use Rattle.text.specs.declared.number.Integer.the-variants.{Is}
-use Rattle.iso.proofs.Offsets.{In-of-Within, secondsOf-not-hours, secondsOf-not-minutes, secondsOf-value}
+use Rattle.iso.proofs.Offsets.{In-of-Within, offsetSeconds-not-hours, offsetSeconds-not-minutes, offsetSeconds-value}
 use borrow.Author.Needs.{needs}
 use Rattle.iso.proofs.offset.seconds.Statement.{statement}
 use Rattle.iso.proofs.offset.seconds.Tie as tie
@@ -24,13 +24,13 @@ minutes c =
 
 -- no hours
 returns : tie.Need-returns
-returns c = (secondsOf-not-hours _ (c .enum-told .given .1), tt)
+returns c = (offsetSeconds-not-hours _ (c .enum-told .given .1), tt)
 
 -- no minutes
 returns-2 : tie.Need-returns-2
 returns-2 c =
     let at-h = c .before .before .before in
-    (secondsOf-not-minutes (at-h .h .given .1) (c .enum-told2 .given .1), tt)
+    (offsetSeconds-not-minutes (at-h .h .given .1) (c .enum-told2 .given .1), tt)
 
 mul-t5 : tie.Need-mul-t5
 mul-t5 c = fits w64 tt (times 3600 (hours c))
@@ -46,7 +46,7 @@ returns-3 : tie.Need-returns-3
 returns-3 c =
     let at-h = c .before .before .before .before in
     let z = read w64 tt (add (read w64 tt (times 3600 (hours c))) (read w64 tt (times 60 (minutes c)))) in
-    (ap Is (z .is) ∙ secondsOf-value (at-h .h .given .1) (c .before .m .given .1), In-of-At z)
+    (ap Is (z .is) ∙ offsetSeconds-value (at-h .h .given .1) (c .before .m .given .1), In-of-At z)
 
 pub seconds-spec : {M : Type 1} → statement M
 seconds-spec =

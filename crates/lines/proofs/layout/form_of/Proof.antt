@@ -1,12 +1,12 @@
 -- `lines::layout::form_of` meets its contract: the names are tried from the last to the first, and the first decides.
 -- Assumes nothing.
-use Rattle.lines.specs.Layout.{formOf}
+use Rattle.lines.specs.Layout.{formNamed}
 use borrow.Author.Needs.{needs}
 use Rattle.lines.proofs.layout.form_of.Statement.{statement}
 use Rattle.lines.proofs.layout.form_of.Tie as tie
 
 returns : tie.Need-returns
-unfolding formOf
+unfolding formNamed
 returns c = let at-raw = c .before .before in
     let at-iso = at-raw .before .before in
     let at-relative = at-iso .before .before in

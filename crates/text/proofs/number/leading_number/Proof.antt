@@ -15,7 +15,7 @@ use Rattle.text.specs.Places.{leading, past}
 use Rattle.text.specs.Number.{digitsOf, readFrom, fit}
 use Rattle.text.specs.declared.number.Number.the-variants.{Value, Nothing}
 use Rattle.text.proofs.Runs.{past-of-true, past-of-false, past-of-length-le, length-leading, leading-of-past, leading-of-true}
-use Rattle.text.proofs.Numbers.{digit-range, readFrom-cons, fit-readFrom-of-lt, fit-digitsOf-of-Not, fit-digitsOf-of-length}
+use Rattle.text.proofs.Numbers.{digit-range, readFrom-cons, fit-readFrom-of-lt, fit-digitsOf-of-Nothing, fit-digitsOf-of-length}
 use Rattle.text.proofs.number.leading_number.Statement.{statement}
 use Rattle.text.proofs.number.leading_number.Tie as tie
 
@@ -43,7 +43,7 @@ module _ (s : List ℕ) (from limit v i : ℕ) (on : On s from limit v i) where
 
   -- a digit that has no room
   over : limit < v → fit limit (digitsOf (leading isDigit (drop from s))) ≡ Nothing
-  over h = fit-digitsOf-of-Not _ limit (on ∙ fit-readFrom-of-lt _ limit v h)
+  over h = fit-digitsOf-of-Nothing _ limit (on ∙ fit-readFrom-of-lt _ limit v h)
 
 sub-as-u64 : tie.Need-sub-as-u64 Inv-loop μ-loop
 sub-as-u64 c = omega (arith, digit-range _ (sym (c .before .is-digit .ensures) ∙ c .if1 .taken))

@@ -16,9 +16,9 @@ use borrow.Author.Needs.{needs, sfits-of}
 use Rattle.text.proofs.number.with_sign.Statement.{statement}
 use Rattle.text.proofs.number.with_sign.Tie as tie
 
-signedBy-Not : (half : ℕ) (negative : Bool) → signedBy half negative NoNumber ≡ NoInteger
+signedBy-Nothing : (half : ℕ) (negative : Bool) → signedBy half negative NoNumber ≡ NoInteger
 unfolding signedBy fit
-signedBy-Not half negative = by-test negative (λ e. rw e) (λ e. rw e)
+signedBy-Nothing half negative = by-test negative (λ e. rw e) (λ e. rw e)
 
 minus-i64-requires : tie.Need-minus-i64-requires
 minus-i64-requires c κs =
@@ -53,7 +53,7 @@ returns-3 c =
     rw (at-n .n .given .1, c .before .if1 .left, lt-leb v (start .args .half - 1) h)
 
 returns-4 : tie.Need-returns-4
-returns-4 c = rw (c .enum-told .given .1, signedBy-Not)
+returns-4 c = rw (c .enum-told .given .1, signedBy-Nothing)
 
 pub with-sign-spec : {M : Type 1} → statement M
 with-sign-spec =

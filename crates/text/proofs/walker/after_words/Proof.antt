@@ -39,7 +39,7 @@ use denote.Triple.Walked.{says, Stays, stay-none, stay-none-slice, walkOf, goes-
 use denote.Exit.{yes}
 use denote.Triple.Clauses.{ensured, lasts}
 use Rattle.text.specs.Words.{separator}
-use Rattle.text.specs.Walk.{startOf, movedTo, passed}
+use Rattle.text.specs.Walk.{walkerOf, movedTo, passed}
 use Rattle.text.specs.declared.walker.Walker.{Walker}
 use Rattle.text.specs.declared.words.Separator.{Separator}
 use Rattle.text.proofs.Held as Held
@@ -95,7 +95,7 @@ module _ {M : Type 1} (𝓤 : URA M) (H : Heap 𝓤) (A : Atoms 𝓤) (W : Given
   at = (v ∷ [], (vint w64 n ∷ [], (By-val by′ ∷ [], tt)))
 
   abbrev found : List ℕ
-  found = leftAt (past (startOf s) n by′)
+  found = leftAt (past (walkerOf s) n by′)
 
   -- a walker's type as a local of a body has it
   abbrev αᵉ : NamedLft
@@ -118,8 +118,8 @@ module _ {M : Type 1} (𝓤 : URA M) (H : Heap 𝓤) (A : Atoms 𝓤) (W : Given
       -- [what s owns; what s owns; the token]
       nothing ! $ move ! (1 ∷ 0 ∷ []) $ fjoin ! $ move ! (2 ∷ 0 ∷ []) $ use2 W (raw (Start 𝓤 H A mem run .pre to-start)) (qed W ((‵ (flft κ q) ⊛ ‵ ftrue) ∷ ‵ (owns (ShrSlice (named 0) κ u8 ∷ []) (s, tt) (v ∷ [], tt)) ∷ []) ∵ join ! $ frame ! $ done !) $ frame ! $ done !
 
-  start-said : (r : Walker) → ent 𝓤 (ensured 𝓤 H A start.ended (start.clauses 𝓤 H A mem run) (κ, tt) (s, tt) tt r) (fact 𝓤 (r ≡ startOf s))
-  start-said r = exE 𝓤 _ (λ ws. snd∗ 𝓤 (sem 𝓤 H A (lasts start.ended (κ, tt) (s, tt) ws)) (fact 𝓤 (r ≡ startOf s)))
+  start-said : (r : Walker) → ent 𝓤 (ensured 𝓤 H A start.ended (start.clauses 𝓤 H A mem run) (κ, tt) (s, tt) tt r) (fact 𝓤 (r ≡ walkerOf s))
+  start-said r = exE 𝓤 _ (λ ws. snd∗ 𝓤 (sem 𝓤 H A (lasts start.ended (κ, tt) (s, tt) ws)) (fact 𝓤 (r ≡ walkerOf s)))
 
   -- the call of `skipped`, at the walker r with the machine value u
   abbrev to-skipped : Walker → Val → Skipped 𝓤 H A mem run .Ghost
@@ -156,7 +156,7 @@ module _ {M : Type 1} (𝓤 : URA M) (H : Heap 𝓤) (A : Atoms 𝓤) (W : Given
         move ! (12 ∷ []) $ use1 W (raw (Start 𝓤 H A mem run .pre to-start) ⊛ ‵ Own) goes-start $ split ! $
         calls-at ! fm (Start 𝓤 H A mem run) known-start to-start (and-then ! (load ! (from ! (stop !)) (look ! 10 refl)) (no-more !)) (λ u.
         use1 W (later (some (λ (r : Walker). ((‵ (flft κ q) ⊛ ‵ ftrue) ⊛ ‵ (Row (κ, tt) .own r (u ∷ []))) ⊛ raw (ensured 𝓤 H A start.ended (start.clauses 𝓤 H A mem run) (κ, tt) (s, tt) tt r)))) (id⊢ 𝓤 _) $ await ! tt $ pick ! (λ r.
-        split ! $ move ! (1 ∷ []) $ use1 W (raw (fact 𝓤 (r ≡ startOf s))) (start-said r) $ heard ! (r ≡ startOf s) (λ e. split ! $ move ! (1 ∷ []) $
+        split ! $ move ! (1 ∷ []) $ use1 W (raw (fact 𝓤 (r ≡ walkerOf s))) (start-said r) $ heard ! (r ≡ walkerOf s) (λ e. split ! $ move ! (1 ∷ []) $
         -- [what the walker owns; the token; what s owns; room for _5; …; room for _4; …; _3; …; _2; …; _1; …; room for _0; …]
         peeks ! (Row (κ, tt)) (Is (Row (κ, tt))) (shows 𝓤 H A (Row (κ, tt))) r (u ∷ []) (λ is.
         land ! (from ! (stop !)) (init ! 3 refl (LL.lawful (T.the-type αᵉ) (T′.the-laws αᵉ) 𝓤 H A W .typed r _ is .0)) $

@@ -35,7 +35,7 @@ use denote.Triple.Spec.{Meets, tripleOf}
 use denote.Triple.Table.{entered}
 use denote.Triple.Walked.{says, Stays, stay-none-slice, walkOf, goes-none-slice, ends-at, walked, walk-meets}
 use denote.Exit.{yes}
-use Rattle.text.specs.Walk.{startOf}
+use Rattle.text.specs.Walk.{walkerOf}
 use Rattle.text.specs.declared.walker.Walker.{Walker}
 use Rattle.text.proofs.walker.Walker as T
 use Rattle.text.proofs.walker.Walker.Laws as T′
@@ -56,7 +56,7 @@ module _ {M : Type 1} (𝓤 : URA M) (H : Heap 𝓤) (A : Atoms 𝓤) (W : Given
   v = sliceVal (s .ptr) (length (s .now))
 
   abbrev made : Walker
-  made = startOf s
+  made = walkerOf s
 
   abbrev at : List Val × Unit {0}
   at = (v ∷ [], tt)
