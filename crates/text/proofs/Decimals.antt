@@ -1,9 +1,7 @@
 -- Plain decimal. In order: the two clauses of `decimal`, and a proof by them; a text after the digits; the promise about the
--- digits; reading them gives the number back; how many digits there are; the same digits added to the front of a text one by one,
--- from the last.
+-- digits; reading them gives the number back; how many digits there are.
 -- Assumes nothing.
 use mathlib.Core.Path.{_≡_, sym, ap, _∙_, refl}
-use mathlib.Core.Bool.{Bool, true, false}
 use mathlib.Core.List.{List, [], _∷_, _++_, append-assoc, append-nil}
 use Prim.Native.Nat.{ℕ, zero, suc, _+_, _*_, _/_, _%_, _^_, _≤_, _<_}
 use Prim.Native.Char.{code}
@@ -51,16 +49,9 @@ by-digits P one more n = go n n (omega arith)
         (λ e. let m : 10 ≤ n = ltb-false n 10 e in more n m (go k (n / 10) (omega arith)))
 
 -- ---- a text after the digits
-pub decimalBefore-append : (n : ℕ) (t : List ℕ) → decimalBefore n t ≡ decimal n ++ t
+decimalBefore-append : (n : ℕ) (t : List ℕ) → decimalBefore n t ≡ decimal n ++ t
 unfolding decimalBefore
 decimalBefore-append n t = refl
-
-pub decimalBefore-app : (n : ℕ) (s t : List ℕ) → decimalBefore n (s ++ t) ≡ decimalBefore n s ++ t
-unfolding decimalBefore
-decimalBefore-app n s t = sym (append-assoc (decimal n) s t)
-
-pub length-decimalBefore : (n : ℕ) (t : List ℕ) → length (decimalBefore n t) ≡ length (decimal n) + length t
-length-decimalBefore n t = ap length (decimalBefore-append n t) ∙ length-append (decimal n) t
 
 pub decimalBefore-of-lt : (n : ℕ) (t : List ℕ) → n < 10 → decimalBefore n t ≡ (48 + n) ∷ t
 unfolding decimalBefore
@@ -84,10 +75,6 @@ pub decimal-between : (lo hi : ℕ) → lo ≤ 48 → 57 ≤ hi → (n : ℕ) �
 decimal-between lo hi l h =
     by-digits (λ (n : ℕ). Between lo hi (decimal n)) (λ n m. rw (decimal-of-lt n m) (omega arith, omega arith, tt))
     (λ n m b. rw (decimal-of-le n m) (Between-append lo hi (decimal (n / 10)) (digit (n % 10) ∷ []) b (omega arith, omega arith, tt)))
-
-pub decimalBefore-between : (lo hi : ℕ) → lo ≤ 48 → 57 ≤ hi → (n : ℕ) (t : List ℕ) → Between lo hi t → Between lo hi (decimalBefore n t)
-unfolding decimalBefore
-decimalBefore-between lo hi l h n t b = Between-append lo hi (decimal n) t (decimal-between lo hi l h n) b
 
 pub twoBefore-between : (lo hi : ℕ) → lo ≤ 48 → 57 ≤ hi → (n : ℕ) (t : List ℕ) → n < 100 → Between lo hi t → Between lo hi (twoBefore n t)
 twoBefore-between lo hi l u n t k b = (omega arith, omega arith, (omega arith, omega arith, b))
@@ -119,7 +106,7 @@ one-digit n t h =
     let e : 10 * 0 + n ≡ n = omega arith in
     readFrom-cons t 0 (48 + n) n (isDigit-of-le (48 + n) (omega arith) (omega arith)) (omega arith) ∙ ap (λ (v : ℕ). readFrom v t) e
 
-pub readFrom-decimalBefore : (n : ℕ) (t : List ℕ) → readFrom 0 (decimalBefore n t) ≡ readFrom n t
+readFrom-decimalBefore : (n : ℕ) (t : List ℕ) → readFrom 0 (decimalBefore n t) ≡ readFrom n t
 readFrom-decimalBefore =
     by-digits (λ (n : ℕ). (t : List ℕ) → readFrom 0 (decimalBefore n t) ≡ readFrom n t)
     (λ n m t. ap (readFrom 0) (decimalBefore-of-lt n t m) ∙ one-digit n t m)
@@ -168,19 +155,3 @@ length-decimal-div (suc k) n h =
     let d : n / 10 / 10 ^ k ≡ n / 10 ^ suc k = div-div-eq-div-mul n 10 (10 ^ k) ∙ ap (λ (x : ℕ). n / x) (sym p) in
     let e : length (decimal (n / 10)) ≡ k + length (decimal (n / 10 ^ suc k)) = rw d at (length-decimal-div k (n / 10) m) in
     omega (arith, length-decimal-of-le n (omega arith), e)
-
--- ---- the digits added to the front of a text one by one, from the last
--- a form that does not append: `single` says whether n is one digit, and k bounds the steps
-decimalBy : ℕ → Bool → ℕ → List ℕ → List ℕ
-decimalBy zero single n t = digit n ∷ t
-decimalBy (suc k) true n t = digit n ∷ t
-decimalBy (suc k) false n t = decimalBy k (ltb (n / 10) 10) (n / 10) (digit (n % 10) ∷ t)
-
--- it gives the same digits
-decimalBy-decimalBefore : (k : ℕ) (single : Bool) (n : ℕ) (t : List ℕ) → ltb n 10 ≡ single → n ≤ k → decimalBy k single n t ≡ decimalBefore n t
-unfolding decimalBy
-decimalBy-decimalBefore zero single n t e h = sym (decimalBefore-of-lt n t (omega arith))
-decimalBy-decimalBefore (suc k) true n t e h = sym (decimalBefore-of-lt n t (ltb-true n 10 e))
-decimalBy-decimalBefore (suc k) false n t e h =
-    let m : 10 ≤ n = ltb-false n 10 e in
-    decimalBy-decimalBefore k _ (n / 10) _ refl (omega arith) ∙ sym (decimalBefore-of-le n t m)

@@ -34,7 +34,7 @@ isSpace-of-digit b p =
     rw (le-leb 9 b n, lt-leb b 13 l, ne-eqb b 32 (λ e. omega (arith, r .0, e)))
 
 -- a sign is no digit
-pub isDigit-of-sign : (b : ℕ) → isSign b ≡ true → isDigit b ≡ false
+isDigit-of-sign : (b : ℕ) → isSign b ≡ true → isDigit b ≡ false
 isDigit-of-sign b h = by-test (isDigit b) (λ p. absurd (false≢true (sym (isSign-of-digit b p) ∙ h))) (λ p. p)
 
 pub leading-of-isSign : (w : List ℕ) → isSign (getD w 0 0) ≡ true → leading isDigit w ≡ []

@@ -159,7 +159,7 @@ unsignedOf-below (b ∷ s) =
     by-test (eqb b 43) (λ e. rw e (Below-le (digitsOf s) (omega (arith, pow-succ' 10 (length s))) (digitsOf-below s))) (λ e. rw e (digitsOf-below (b ∷ s)))
 
 -- so it fits any width that holds numbers of that size
-pub fit-of-length : (limit : ℕ) (s : List ℕ) → 10 ^ length s ≤ limit + 1 → fit limit (unsignedOf s) ≡ unsignedOf s
+fit-of-length : (limit : ℕ) (s : List ℕ) → 10 ^ length s ≤ limit + 1 → fit limit (unsignedOf s) ≡ unsignedOf s
 unfolding fit
 fit-of-length limit s h = go (unsignedOf s) (unsignedOf-below s)
   where

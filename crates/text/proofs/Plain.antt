@@ -22,7 +22,7 @@ pub isSpace-of-lt : (b : ℕ) → 32 < b → isSpace b ≡ false
 unfolding isSpace
 isSpace-of-lt b h = rw (lt-leb b 13 (omega arith), and-false (leb 9 b), ne-eqb b 32 (λ e. omega arith))
 
-pub sign-between : (b : ℕ) → isSign b ≡ true → (33 ≤ b) × (b ≤ 57)
+sign-between : (b : ℕ) → isSign b ≡ true → (33 ≤ b) × (b ≤ 57)
 unfolding isSign
 sign-between b e =
     by-test (eqb b 43) (λ k. let q = eqb-true b 43 k in (omega arith, omega arith)) (λ k. let q = eqb-true b 45 (rw k at e) in (omega arith, omega arith))
@@ -69,7 +69,7 @@ unfolding ascii
 ascii-append [] b = refl
 ascii-append (x ∷ a) b = by-test (ltb x 128) (λ e. rw e (ascii-append a b)) (λ e. rw e)
 
-pub ascii-drop : (s : List ℕ) (i : ℕ) → ascii s ≡ true → ascii (drop i s) ≡ true
+ascii-drop : (s : List ℕ) (i : ℕ) → ascii s ≡ true → ascii (drop i s) ≡ true
 unfolding ascii
 ascii-drop s zero e = e
 ascii-drop [] (suc i) e = e

@@ -75,7 +75,7 @@ unfolding signedBefore
 signedBefore-between lo hi l h z t b = Between-append lo hi (signed z) t (signed-between lo hi l h z) b
 
 -- ---- reading it back
-pub signedOf-signed : (z : ℤ) → signedOf (signed z) ≡ Is z
+signedOf-signed : (z : ℤ) → signedOf (signed z) ≡ Is z
 unfolding signed
 signedOf-signed (pos n) =
     signedOf-of-digits (decimal n) n (length-decimal-pos n) (decimal-between 48 57 (omega arith) (omega arith) n) (readFrom-decimal n)
