@@ -15,7 +15,7 @@ use Rattle.text.specs.Number.{readFrom, digitsOf, unsignedOf, signedOf, fitSign
 use Rattle.text.proofs.Lists.{by-test}
 use Rattle.text.proofs.Texts.{signedOf-not-ascii}
 use Rattle.time.specs.declared.Now.{Now}
-use Rattle.time.specs.declared.Refusal.the-variants.{NotAscii, Form, Missing, Current, Pairs, Range, Offset, Room}
+use Rattle.time.specs.declared.Refusal.the-variants.{NotAscii, Form, Missing, Current, Pairs, Range, Offset, Room, Book}
 use Rattle.time.specs.declared.Answer.{Answer}
 use Rattle.time.specs.declared.Answer.the-variants.{Time, Refused}
 use Rattle.header.specs.Raw.{Limits, rawOf}
@@ -43,6 +43,7 @@ orElse-Form (Refused Pairs) = refl
 orElse-Form (Refused Range) = refl
 orElse-Form (Refused Offset) = refl
 orElse-Form (Refused Room) = refl
+orElse-Form (Refused Book) = refl
 
 pub plainOf-nil : (l : Limits) → plainOf l [] ≡ Refused Form
 unfolding plainOf atOf numberFrom signedOf fitSigned

@@ -15,14 +15,14 @@ use Rattle.text.specs.declared.number.Integer.the-variants.{Is, Nothing}
 use Rattle.time.specs.Answers.{timeAt}
 use Rattle.time.specs.declared.Now.{Now}
 use Rattle.time.specs.declared.Refusal.{Refusal}
-use Rattle.time.specs.declared.Refusal.the-variants.{NotAscii, Form, Missing, Current, Pairs, Range, Offset, Room}
+use Rattle.time.specs.declared.Refusal.the-variants.{NotAscii, Form, Missing, Current, Pairs, Range, Offset, Room, Book}
 use Rattle.time.specs.declared.Answer.{Answer}
 use Rattle.time.specs.declared.Answer.the-variants.{Time, Refused}
 use Rattle.header.specs.Raw.{Limits, rawOf}
 use Rattle.iso.specs.Iso.{isoOf}
 use Rattle.relative.specs.Relative.{maxPairs, relativeOf}
 
--- whether a refusal ends the search: every one but 2, after which the next form is tried. No reader answers 7 or 8
+-- whether a refusal ends the search: every one but 2, after which the next form is tried. No reader answers 7, 8 or 10
 abbrev pub settles : Refusal → Bool
 settles Form = false
 settles NotAscii = true
@@ -32,6 +32,7 @@ settles Pairs = true
 settles Range = true
 settles Offset = true
 settles Room = true
+settles Book = true
 
 -- whether an answer ends the search: a time does too
 abbrev pub isSettled : Answer → Bool

@@ -93,7 +93,7 @@ fn is_settled(a: Answer) -> bool
     }
 }
 
-// Whether a refusal ends the search: every one but 2, after which the next form is tried. No reader answers 7 or 8.
+// Whether a refusal ends the search: every one but 2, after which the next form is tried. No reader answers 7, 8 or 10.
 fn settles(r: Refusal) -> bool
     ensures { λ b. ⌜ b ≡ settlesOf r ⌝ }
 {
@@ -106,5 +106,6 @@ fn settles(r: Refusal) -> bool
         Refusal::Range => true,
         Refusal::Offset => true,
         Refusal::Room => true,
+        Refusal::Book => true,
     }
 }

@@ -129,6 +129,8 @@ pub enum Refusal {
     Offset,
     // 8: the room is shorter than the bytes to be written.
     Room,
+    // 10: a book of stamps is too long or has a bad line; or values make no good line.
+    Book,
 }
 
 // The number of a refusal (RULES 2.1).
@@ -144,6 +146,7 @@ pub fn number_of(r: Refusal) -> u8
         Refusal::Range => 6,
         Refusal::Offset => 7,
         Refusal::Room => 8,
+        Refusal::Book => 10,
     }
 }
 

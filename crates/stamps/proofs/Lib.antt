@@ -1,0 +1,1 @@
+-- The laws of books (RULES 13). In order: scans; printed numbers; stamps; fields; lines; lines written; books; listings; examples.

@@ -1,0 +1,112 @@
+-- What the code holds on the way to an answer. Nothing here is needed to read what the public calls ensure. In order: the classes of bytes
+-- that a scan passes; a number, and the tail of a stamp, at the front of a longer text; the first line of a text; the marks of the lines
+-- that are listed.
+-- Assumes nothing.
+use Prim.Native.Nat.{ℕ, _+_, _*_}
+use Prim.Native.Char.{code}
+use mathlib.Core.Path.{_≡_}
+use mathlib.Core.Bool.{Bool, true, cond, not, _&&_}
+use mathlib.Core.List.{List, [], _∷_}
+use lib.Dec.{ltb, eqb}
+use lib.IntN.{ℤ, pos, negℤ}
+use lib.ListN.{length, take, drop, getD, set}
+use Rattle.text.specs.Bytes.{isDigit, isSign}
+use Rattle.text.specs.Number.{fitSigned, numeral}
+use Rattle.text.specs.Places.{before, firstPlace, has}
+use Rattle.text.specs.Lines.{tab, newline}
+use Rattle.text.specs.declared.number.Integer.{Integer}
+use Rattle.text.specs.declared.number.Integer.the-variants.{Is, Nothing as NoInteger}
+use Rattle.text.specs.declared.number.Number.{Number}
+use Rattle.text.specs.declared.number.Number.the-variants.{Value, Nothing as NoNumber}
+use Rattle.header.specs.Held.{twoDigits}
+use Rattle.stamps.specs.Stamps.{printed}
+use Rattle.stamps.specs.Lines.{isPathByte, isHexDigit, lineOf, isGood}
+use Rattle.stamps.specs.Listing.{isListed, cutOffBelow}
+use Rattle.stamps.specs.declared.scan.Class.{Class}
+use Rattle.stamps.specs.declared.scan.Class.the-variants.{Path, Hex, Text}
+use Rattle.stamps.specs.declared.stamp.PrintedNumber.{PrintedNumber}
+use Rattle.stamps.specs.declared.line.First.{First}
+use Rattle.stamps.specs.declared.book.Next.{Next}
+
+-- ---- the classes of bytes
+-- a byte of the text in a `since` line: any but tab and newline
+unfoldable pub isTextByte : ℕ → Bool
+isTextByte b = not (eqb b tab) && not (eqb b newline)
+
+abbrev pub isOf : Class → ℕ → Bool
+isOf Path = isPathByte
+isOf Hex = isHexDigit
+isOf Text = isTextByte
+
+-- ---- at the front of a longer text
+-- the number that is printed at the front of s, which begins at the place `at` of a text: a sign, if there is one, and digits
+pub record OpensPrinted (half : ℕ) (s : List ℕ) (at : ℕ) (r : PrintedNumber) : Type 0 where
+  pub number-is : r .number ≡ fitSigned half (printed (take (numeral s) s))
+  pub end-is : r .end ≡ at + numeral s
+
+-- whether a line ends in front of s: a newline follows, or nothing
+unfoldable pub endsHere : List ℕ → Bool
+endsHere [] = true
+endsHere (b ∷ s) = eqb b newline
+
+-- hours and minutes of a stamp's tail in seconds, and its offset
+unfoldable pub tailSize : List ℕ → ℕ
+tailSize s = twoDigits (getD s 2 0) (getD s 3 0) * 3600 + twoDigits (getD s 4 0) (getD s 5 0) * 60
+
+unfoldable pub tailOffset : List ℕ → ℤ
+tailOffset s = cond (eqb (getD s 1 0) (code "-")) (negℤ (pos (tailSize s))) (pos (tailSize s))
+
+-- the tail of a stamp: a space, a sign, two digits of hours and two of minutes, and the end of the line. Minutes are below 60, and the
+-- sign of offset 0 is not `-`
+unfoldable pub isTail : List ℕ → Bool
+isTail s =
+    (eqb (getD s 0 0) (code " ") && isSign (getD s 1 0))
+    && ((isDigit (getD s 2 0) && isDigit (getD s 3 0)) && (isDigit (getD s 4 0) && isDigit (getD s 5 0)))
+    && (ltb (getD s 4 0) (code "6") && not (eqb (getD s 1 0) (code "-") && eqb (tailSize s) 0))
+    && endsHere (drop 6 s)
+
+unfoldable pub tailOf : List ℕ → Integer
+tailOf s = cond (isTail s) (Is (tailOffset s)) NoInteger
+
+-- ---- the first line of a text
+-- the line in front of the first newline of s, and, if it is good, how many bytes it has
+pub record FirstLine (bound : ℕ) (s : List ℕ) (r : First) : Type 0 where
+  pub line-is : r .line ≡ lineOf bound (before newline s)
+  pub length-is : isGood (r .line) ≡ true → r .length ≡ firstPlace newline s
+
+-- the first line of s in a book, under the cut-off c: how many bytes it has with its newline, or 0 if it is bad or has none; whether it is
+-- listed; the cut-off for the lines below it
+pub record NextLine (bound : ℕ) (s : List ℕ) (c : Integer) (r : Next) : Type 0 where
+  pub size-is : r .size ≡ cond (isGood (lineOf bound (before newline s)) && has newline s) (firstPlace newline s + 1) 0
+  pub listed-is : r .listed ≡ isListed c (lineOf bound (before newline s))
+  pub cut-off-is : r .«cut_off» ≡ cutOffBelow c (lineOf bound (before newline s))
+
+-- ---- the marks of lines
+-- 1 for a line that is listed, 0 for any other
+abbrev pub markOf : Bool → ℕ
+markOf b = cond b 1 0
+
+unfoldable pub marksOf : ℕ → Integer → List (List ℕ) → List ℕ
+marksOf bound c [] = []
+marksOf bound c (l ∷ ls) = markOf (isListed c (lineOf bound l)) ∷ marksOf bound (cutOffBelow c (lineOf bound l)) ls
+
+-- the mark m put at place n of a buffer, if it has that place
+abbrev pub markedAt : ℕ → ℕ → List ℕ → List ℕ
+markedAt n m ms = cond (ltb n (length ms)) (set ms n m) ms
+
+-- these marks laid over the front of a buffer, as many as it has places for
+unfoldable pub laid : List ℕ → List ℕ → List ℕ
+laid [] ms = ms
+laid (x ∷ xs) [] = []
+laid (x ∷ xs) (m ∷ ms) = x ∷ laid xs ms
+
+-- the lines whose mark is 1
+unfoldable pub picked : List ℕ → List (List ℕ) → List (List ℕ)
+picked [] ls = []
+picked (m ∷ ms) [] = []
+picked (m ∷ ms) (l ∷ ls) = let below = picked ms ls in cond (eqb m 1) (l ∷ below) below
+
+-- the number of a bad line, or 0 if there is none
+abbrev pub badNumber : Number → ℕ
+badNumber (Value n) = n
+badNumber NoNumber = 0

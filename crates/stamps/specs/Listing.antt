@@ -1,0 +1,81 @@
+-- The listing of a book (RULES 13.10 and 13.11): the `hull` lines whose seconds are at or after the cut-off of the last `since` line above
+-- them, all where there is none, in the order of the book, each with its newline.
+-- Assumes nothing.
+use Prim.Native.Nat.{ℕ}
+use mathlib.Core.Bool.{Bool, true, false, cond}
+use mathlib.Core.List.{List, [], _∷_, _++_}
+use lib.IntN.{ℤ}
+use lib.ListN.{length}
+use lib.Signed.{leZ}
+use Rattle.text.specs.Lines.{newline, endedLines}
+use Rattle.text.specs.Room.{fits}
+use Rattle.text.specs.declared.number.Integer.{Integer}
+use Rattle.text.specs.declared.number.Integer.the-variants.{Is, Nothing}
+use Rattle.time.specs.Answers.{numberOf}
+use Rattle.time.specs.declared.Refusal.the-variants.{Room}
+use Rattle.stamps.specs.Lines.{lineOf}
+use Rattle.stamps.specs.Book.{checkOf}
+use Rattle.stamps.specs.declared.line.Line.{Line}
+use Rattle.stamps.specs.declared.line.Line.the-variants.{Hull, Since, Bad}
+use Rattle.stamps.specs.declared.book.Checked.{Checked}
+use Rattle.stamps.specs.declared.book.Checked.the-variants.{Good, Refused as NotGood}
+use Rattle.stamps.specs.declared.book.Listed.{Listed}
+use Rattle.stamps.specs.declared.book.Listed.the-variants.{Length, Refused}
+
+-- whether seconds are at or after a cut-off; where there is none, all are
+abbrev pub isAfter : Integer → ℤ → Bool
+isAfter (Is c) z = leZ c z
+isAfter Nothing z = true
+
+-- whether a line is listed, under the cut-off of the last `since` line above it
+abbrev pub isListed : Integer → Line → Bool
+isListed c (Hull h) = isAfter c (h .time .seconds)
+isListed c (Since x) = false
+isListed c Bad = false
+
+-- the cut-off for the lines below this one
+abbrev pub cutOffBelow : Integer → Line → Integer
+cutOffBelow c (Hull h) = c
+cutOffBelow c (Since x) = Is (x .«cut_off» .seconds)
+cutOffBelow c Bad = c
+
+-- the lines that are listed
+unfoldable pub listed : ℕ → Integer → List (List ℕ) → List (List ℕ)
+listed bound c [] = []
+listed bound c (l ∷ ls) =
+    let below = listed bound (cutOffBelow c (lineOf bound l)) ls in
+    cond (isListed c (lineOf bound l)) (l ∷ below) below
+
+-- lines as bytes, each with its newline
+unfoldable pub joined : List (List ℕ) → List ℕ
+joined [] = []
+joined (l ∷ ls) = l ++ newline ∷ joined ls
+
+unfoldable pub listing : ℕ → List ℕ → List ℕ
+listing bound book = joined (listed bound Nothing (endedLines book))
+
+-- what a call that lists a book returns: refused as a check of the book is, then by 8 if the room is shorter than the listing
+abbrev pub listedAt : Checked → List ℕ → List ℕ → Listed
+listedAt Good bytes room = cond (fits bytes room) (Length (length bytes)) (Refused Room 0)
+listedAt (NotGood r n) bytes room = Refused r n
+
+unfoldable pub listOf : ℕ → List ℕ → List ℕ → Listed
+listOf bound book room = listedAt (checkOf bound book) (listing bound book) room
+
+-- whether the call wrote the listing
+abbrev pub isWritten : Listed → Bool
+isWritten (Length n) = true
+isWritten (Refused r n) = false
+
+-- the number that it returns, the length of the listing, and the line: 0 where they are not told
+abbrev pub listedNumber : Listed → ℕ
+listedNumber (Length n) = 0
+listedNumber (Refused r n) = numberOf r
+
+abbrev pub listedLength : Listed → ℕ
+listedLength (Length n) = n
+listedLength (Refused r n) = 0
+
+abbrev pub listedLine : Listed → ℕ
+listedLine (Length n) = 0
+listedLine (Refused r n) = n

@@ -1,0 +1,25 @@
+-- What the theorems about books speak of (docs/PROMISES.md). No contract cites these.
+-- Assumes nothing.
+use Prim.Native.Nat.{ℕ}
+use mathlib.Core.List.{List, [], _∷_}
+use Rattle.text.specs.declared.number.Integer.{Integer}
+use Rattle.text.specs.declared.number.Integer.the-variants.{Is, Nothing}
+use Rattle.stamps.specs.Lines.{lineOf}
+use Rattle.stamps.specs.declared.line.Line.{Line}
+use Rattle.stamps.specs.declared.line.Line.the-variants.{Hull, Since, Bad}
+
+-- the cut-off that a line gives
+abbrev pub cutOffIn : Line → Integer
+cutOffIn (Hull h) = Nothing
+cutOffIn (Since x) = Is (x .«cut_off» .seconds)
+cutOffIn Bad = Nothing
+
+-- the first if there is one, else the other
+abbrev pub orElse : Integer → Integer → Integer
+orElse (Is c) other = Is c
+orElse Nothing other = other
+
+-- the cut-off of the last `since` line among these
+unfoldable pub lastCutOff : ℕ → List (List ℕ) → Integer
+lastCutOff bound [] = Nothing
+lastCutOff bound (l ∷ ls) = orElse (lastCutOff bound ls) (cutOffIn (lineOf bound l))

@@ -1,0 +1,267 @@
+// A whole book (RULES 13.8 to 13.11). A check is one pass over it. A listing takes two: the first
+// judges every line, adds up the length of the listing and marks the lines that belong to it; the
+// second copies them. Nothing is written before the last line is known to be good and the room to be
+// long enough.
+ghost use mathlib.Core.Path.{_≡_};
+ghost use mathlib.Core.Bool.{cond};
+ghost use mathlib.Core.List.{[], _++_};
+ghost use Prim.Native.Nat.{_+_, _≤_};
+ghost use lib.Dec.{ltb, eqb};
+ghost use lib.ListN.{length, drop, getD};
+ghost use Rattle.calendar.specs.Table.{IsMonths};
+ghost use Rattle.relative.specs.Relative.{maxPairs};
+ghost use Rattle.text.specs.Lines.{endedLines, left};
+ghost use Rattle.text.specs.Room.{roomAfter};
+ghost use Rattle.text.specs.declared.number.Integer.the-variants.{Nothing};
+ghost use Rattle.stamps.specs.Book.{maxBook, linesIn, firstBad, checkOf};
+ghost use Rattle.stamps.specs.Listing.{isAfter, joined, listing, listOf, isWritten};
+ghost use Rattle.stamps.specs.Held.{NextLine, markOf, marksOf, markedAt, laid, picked, badNumber};
+use crate::line;
+use crate::line::Line;
+use crate::put;
+use text::number::Integer;
+use text::places;
+use time::Refusal;
+
+// The most bytes that a book has.
+pub const MAX_BOOK: usize = 65536;
+
+// Marks for the lines of a book: no good line has fewer than 14 bytes with its newline.
+const MARKS: usize = 4682;
+
+// What a check returns: a refusal has its reason and the number, from 1, of the first bad line, or 0
+// if the book is too long.
+pub enum Checked {
+    Good,
+    Refused(Refusal, usize),
+}
+
+// What a call that lists a book returns: how many bytes it wrote, or why it wrote none and at which
+// line. The line is 0 if the book is too long or if the room is too short.
+pub enum Listed {
+    Length(usize),
+    Refused(Refusal, usize),
+}
+
+// Whether a book is good. The empty book is.
+pub fn check(book: &[u8]) -> Checked
+    ensures { λ r. ⌜ r ≡ checkOf maxPairs (now (book .entry)) ⌝ }
+{
+    check_with(&[], book)
+}
+
+// The same with a table of months, for many calls: the whole table, or any leading part of it.
+pub fn check_with(months: &[u32], book: &[u8]) -> Checked
+    requires { ⌜ IsMonths (now months) ⌝ }
+    ensures { λ r. ⌜ r ≡ checkOf maxPairs (now (book .entry)) ⌝ }
+{
+    if MAX_BOOK < book.len() {
+        return Checked::Refused(Refusal::Book, 0);
+    }
+    let found = judge_lines(months, book, &mut []);
+    let bad = found.bad;
+    if bad == 0 {
+        return Checked::Good;
+    }
+    Checked::Refused(Refusal::Book, bad)
+}
+
+// Writes the listing of a book to the front of `room` and returns its length. The bytes beyond it stay
+// as they were. A book that is not good is refused by 10, then a room that is shorter than the listing
+// by 8. A refusal changes nothing in the room.
+pub fn list(book: &[u8], room: &mut [u8]) -> Listed
+    ensures { λ r. ⌜ r ≡ listOf maxPairs (now (book .entry)) (now (room .entry)) ⌝ }
+    ensures { λ _. ⌜ now (room .exit) ≡ roomAfter (isWritten (listOf maxPairs (now (book .entry)) (now (room .entry)))) (listing maxPairs (now (book .entry))) (now (room .entry)) ⌝ }
+{
+    list_with(&[], book, room)
+}
+
+// The same with a table of months, for many calls: the whole table, or any leading part of it.
+pub fn list_with(months: &[u32], book: &[u8], room: &mut [u8]) -> Listed
+    requires { ⌜ IsMonths (now months) ⌝ }
+    ensures { λ r. ⌜ r ≡ listOf maxPairs (now (book .entry)) (now (room .entry)) ⌝ }
+    ensures { λ _. ⌜ now (room .exit) ≡ roomAfter (isWritten (listOf maxPairs (now (book .entry)) (now (room .entry)))) (listing maxPairs (now (book .entry))) (now (room .entry)) ⌝ }
+{
+    if MAX_BOOK < book.len() {
+        return Listed::Refused(Refusal::Book, 0);
+    }
+    let mut marks = no_marks();
+    let found = judge_lines(months, book, &mut marks);
+    let bad = found.bad;
+    let length = found.length;
+    if bad != 0 {
+        return Listed::Refused(Refusal::Book, bad);
+    }
+    if room.len() < length {
+        return Listed::Refused(Refusal::Room, 0);
+    }
+    copy_marked(book, &marks, room);
+    Listed::Length(length)
+}
+
+// A buffer for marks.
+fn no_marks() -> [u8; 4682]
+    ensures { λ r. ⌜ 4682 ≡ length r ⌝ }
+{
+    [0; MARKS]
+}
+
+// What a pass over a book finds: the number of the first bad line, or 0 if there is none; and the
+// length of the listing, if there is none.
+struct Survey {
+    bad: usize,
+    length: usize,
+}
+
+// Judges every line of a book up to the first bad one, and marks those that are listed.
+fn judge_lines(months: &[u32], book: &[u8], marks: &mut [u8]) -> Survey
+    requires { ⌜ IsMonths (now months) ⌝ }
+    ensures { λ r. ⌜ r .bad ≡ badNumber (firstBad 1 (linesIn maxPairs (now (book .entry)))) ⌝ }
+    ensures { λ r. ⌜ (r .bad ≡ 0 → r .length ≡ length (listing maxPairs (now (book .entry)))) ⌝ }
+    ensures { λ r. ⌜ (r .bad ≡ 0 → now (marks .exit) ≡ laid (marksOf maxPairs Nothing (endedLines (now (book .entry)))) (now (marks .entry))) ⌝ }
+{
+    let mut at: usize = 0;
+    let mut n: usize = 0;
+    let mut length: usize = 0;
+    let mut cut_off = Integer::Nothing;
+    while at < book.len() {
+        let next = next_line(months, places::from(book, at), cut_off);
+        let size = next.size;
+        if size == 0 {
+            return Survey {
+                bad: n + 1,
+                length: 0,
+            };
+        }
+        let listed = next.listed;
+        put_mark(listed, n, marks);
+        length += size_if(listed, size);
+        cut_off = next.cut_off;
+        at += size;
+        n += 1;
+    }
+    Survey { bad: 0, length }
+}
+
+// What the next line of a book is: how many bytes it has with its newline, or 0 if it is bad; whether
+// it is listed; and the cut-off for the lines below it.
+struct Next {
+    size: usize,
+    listed: bool,
+    cut_off: Integer,
+}
+
+// Judges the first line of `s`, under the cut-off of the last `since` line above it. A line without a
+// newline is bad.
+fn next_line(months: &[u32], s: &[u8], cut_off: Integer) -> Next
+    requires { ⌜ IsMonths (now months) ⌝ }
+    ensures { λ r. ⌜ NextLine maxPairs (now (s .entry)) «cut_off» r ⌝ }
+{
+    let first = line::first_line(months, s);
+    let size = first.length;
+    let judged = first.line;
+    match judged {
+        Line::Hull(hull) => {
+            let time = hull.time;
+            Next {
+                size: size_with_newline(s, size),
+                listed: is_after(cut_off, time.seconds),
+                cut_off,
+            }
+        }
+        Line::Since(since) => {
+            let time = since.cut_off;
+            Next {
+                size: size_with_newline(s, size),
+                listed: false,
+                cut_off: Integer::Is(time.seconds),
+            }
+        }
+        Line::Bad => Next {
+            size: 0,
+            listed: false,
+            cut_off,
+        },
+    }
+}
+
+// How many bytes a line of `s` has with its newline, or 0 if it has none.
+fn size_with_newline(s: &[u8], size: usize) -> usize
+    ensures { λ r. ⌜ r ≡ cond (ltb size (length (now (s .entry)))) (size + 1) 0 ⌝ }
+{
+    if s.len() <= size {
+        return 0;
+    }
+    size + 1
+}
+
+// Whether seconds are at or after a cut-off. Without a cut-off all are.
+fn is_after(cut_off: Integer, seconds: i64) -> bool
+    ensures { λ r. ⌜ r ≡ isAfter «cut_off» seconds ⌝ }
+{
+    match cut_off {
+        Integer::Is(c) => c <= seconds,
+        Integer::Nothing => true,
+    }
+}
+
+// The size of a line that is listed; any other adds nothing to the listing.
+fn size_if(listed: bool, size: usize) -> usize
+    ensures { λ r. ⌜ r ≡ cond listed size 0 ⌝ }
+{
+    if listed {
+        return size;
+    }
+    0
+}
+
+// The mark of line n, counted from 0, if there is a place for it.
+fn put_mark(listed: bool, n: usize, marks: &mut [u8])
+    ensures { λ _. ⌜ now (marks .exit) ≡ markedAt n (markOf listed) (now (marks .entry)) ⌝ }
+{
+    if marks.len() <= n {
+        return;
+    }
+    marks[n] = mark_of(listed);
+}
+
+fn mark_of(listed: bool) -> u8
+    ensures { λ r. ⌜ r ≡ markOf listed ⌝ }
+{
+    if listed {
+        return 1;
+    }
+    0
+}
+
+// Copies the marked lines of a book, each with its newline, to the front of a room that is long enough
+// for them.
+fn copy_marked(book: &[u8], marks: &[u8], room: &mut [u8])
+    requires { ⌜ left (now book) ≡ [] ⌝ }
+    requires { ⌜ length (joined (picked (now marks) (endedLines (now book)))) ≤ length (now room) ⌝ }
+    ensures { λ _. ⌜ now (room .exit) ≡ joined (picked (now (marks .entry)) (endedLines (now (book .entry)))) ++ drop (length (joined (picked (now (marks .entry)) (endedLines (now (book .entry)))))) (now (room .entry)) ⌝ }
+{
+    let mut at: usize = 0;
+    let mut n: usize = 0;
+    let mut written: usize = 0;
+    while at < book.len() {
+        let rest = places::from(book, at);
+        let size = places::first_place(rest, b'\n') + 1;
+        if is_marked(marks, n) {
+            put::put_part(places::up_to(rest, size), written, room);
+            written += size;
+        }
+        at += size;
+        n += 1;
+    }
+}
+
+// Whether line n, counted from 0, is marked.
+fn is_marked(marks: &[u8], n: usize) -> bool
+    ensures { λ r. ⌜ r ≡ eqb (getD (now (marks .entry)) n 0) 1 ⌝ }
+{
+    if marks.len() <= n {
+        return false;
+    }
+    marks[n] == 1
+}

@@ -1,0 +1,208 @@
+// A line of a book, judged alone (RULES 13.2 to 13.7): a hull with its path, its key and its time, a
+// cut-off, or a bad line. A field is scanned once, up to its end, and nothing is copied: a path, a key
+// or a text is answered as its bounds in the line, for `text::words::within`.
+ghost use mathlib.Core.Path.{_≡_};
+ghost use Rattle.calendar.specs.Table.{IsMonths};
+ghost use Rattle.relative.specs.Relative.{maxPairs};
+ghost use Rattle.stamps.specs.Lines.{lineOf};
+ghost use Rattle.stamps.specs.Held.{FirstLine};
+use crate::scan;
+use crate::scan::Class;
+use crate::stamp;
+use crate::stamp::Stamp;
+use text::bytes;
+use text::number::Integer;
+use text::number::Width;
+use text::places;
+use text::words::Span;
+use time::Answer;
+use time::Now;
+use time::Time;
+
+// Where the path of a `hull` line and the text of a `since` line begin.
+const PATH_START: usize = 5;
+
+const TEXT_START: usize = 6;
+
+// The most bytes of a path, and the bytes of a key.
+pub(crate) const MAX_PATH: usize = 255;
+
+pub(crate) const KEY: usize = 16;
+
+// A hull: where its path and its key are in the line, and the time of its last commit.
+pub struct Hull {
+    pub path: Span,
+    pub key: Span,
+    pub time: Time,
+}
+
+// A cut-off: where its text is in the line, the current time beside it, and the time that the text
+// means at that current time.
+pub struct Since {
+    pub text: Span,
+    pub current: Time,
+    pub cut_off: Time,
+}
+
+// A line judged alone.
+pub enum Line {
+    Hull(Hull),
+    Since(Since),
+    Bad,
+}
+
+// Reads a line, which is given without its newline.
+pub fn read(line: &[u8]) -> Line
+    ensures { λ r. ⌜ r ≡ lineOf maxPairs (now (line .entry)) ⌝ }
+{
+    read_with(&[], line)
+}
+
+// The same with a table of months, for many calls: the whole table, or any leading part of it.
+pub fn read_with(months: &[u32], line: &[u8]) -> Line
+    requires { ⌜ IsMonths (now months) ⌝ }
+    ensures { λ r. ⌜ r ≡ lineOf maxPairs (now (line .entry)) ⌝ }
+{
+    let first = first_line(months, line);
+    if first.length == line.len() {
+        return first.line;
+    }
+    Line::Bad
+}
+
+// The first line of a text, and, if it is good, how many bytes it has before its newline.
+pub(crate) struct First {
+    pub line: Line,
+    pub length: usize,
+}
+
+// Reads the line in front of the first newline of `s`, or all of `s` if it holds none.
+pub(crate) fn first_line(months: &[u32], s: &[u8]) -> First
+    requires { ⌜ IsMonths (now months) ⌝ }
+    ensures { λ r. ⌜ FirstLine maxPairs (now (s .entry)) r ⌝ }
+{
+    if bytes::same(places::up_to(s, PATH_START), b"hull\t") {
+        return first_hull(s);
+    }
+    if bytes::same(places::up_to(s, TEXT_START), b"since\t") {
+        return first_since(months, s);
+    }
+    bad()
+}
+
+fn bad() -> First {
+    First {
+        line: Line::Bad,
+        length: 0,
+    }
+}
+
+// Reads the first line of a text that opens with `hull` and a tab.
+fn first_hull(s: &[u8]) -> First {
+    let path_end = scan::past(s, PATH_START, Class::Path);
+    let path = path_end - PATH_START;
+    if (path == 0) | (MAX_PATH < path) {
+        return bad();
+    }
+    if scan::is_at(s, path_end, b'\t') {
+        return keyed_hull(s, path_end);
+    }
+    bad()
+}
+
+// The same, where the path ends at a tab.
+fn keyed_hull(s: &[u8], path_end: usize) -> First {
+    let key_start = path_end + 1;
+    let key_end = scan::past(s, key_start, Class::Hex);
+    if key_end - key_start != KEY {
+        return bad();
+    }
+    if scan::is_at(s, key_end, b'\t') {
+        return stamped_hull(s, path_end, key_end);
+    }
+    bad()
+}
+
+// The same, where the key ends at a tab too.
+fn stamped_hull(s: &[u8], path_end: usize, key_end: usize) -> First {
+    let stamp = stamp::stamp_at(s, key_end + 1);
+    let Stamp::At(time) = stamp else {
+        return bad();
+    };
+    let path = Span {
+        start: PATH_START,
+        end: path_end,
+    };
+    let key = Span {
+        start: path_end + 1,
+        end: key_end,
+    };
+    First {
+        line: Line::Hull(Hull { path, key, time }),
+        length: key_end + 1 + time.size(),
+    }
+}
+
+// Reads the first line of a text that opens with `since` and a tab.
+fn first_since(months: &[u32], s: &[u8]) -> First
+    requires { ⌜ IsMonths (now months) ⌝ }
+{
+    let text_end = scan::past(s, TEXT_START, Class::Text);
+    if scan::is_at(s, text_end, b'\t') {
+        return dated_since(months, s, text_end);
+    }
+    bad()
+}
+
+// The same, where the text ends at a tab.
+fn dated_since(months: &[u32], s: &[u8], text_end: usize) -> First
+    requires { ⌜ IsMonths (now months) ⌝ }
+{
+    let seconds = stamp::printed_at(s, text_end + 1, Width::Bits64);
+    let seconds_end = seconds.end;
+    if scan::is_at(s, seconds_end, b'\t') {
+        let offset = stamp::printed_at(s, seconds_end + 1, Width::Bits32);
+        let end = offset.end;
+        if scan::ends_at(s, end) {
+            let z = seconds.number;
+            let o = offset.number;
+            let line = since_with(months, &s[TEXT_START..text_end], z, o);
+            return First { line, length: end };
+        }
+    }
+    bad()
+}
+
+// The line with this text and these numbers.
+fn since_with(months: &[u32], text: &[u8], seconds: Integer, offset: Integer) -> Line
+    requires { ⌜ IsMonths (now months) ⌝ }
+{
+    let Integer::Is(z) = seconds else {
+        return Line::Bad;
+    };
+    let Integer::Is(o) = offset else {
+        return Line::Bad;
+    };
+    let current = Time::new(z, o as i32);
+    since_at(
+        text.len(),
+        current,
+        relative::parse_with(months, text, Now::At(current)),
+    )
+}
+
+// The line whose text has this many bytes and this answer.
+fn since_at(length: usize, current: Time, answer: Answer) -> Line {
+    let Answer::Time(cut_off) = answer else {
+        return Line::Bad;
+    };
+    let text = Span {
+        start: TEXT_START,
+        end: TEXT_START + length,
+    };
+    Line::Since(Since {
+        text,
+        current,
+        cut_off,
+    })
+}

@@ -1,0 +1,128 @@
+// Numbers as the header writer prints them, and stamps (RULES 13.5 and 13.6), read from a place of a
+// text that may go on behind them. Each byte is read once: a number is printed plainly exactly if it
+// has as many bytes as its plain decimal, so nothing is written and compared.
+ghost use mathlib.Core.Path.{_≡_};
+ghost use lib.ListN.{drop};
+ghost use Rattle.text.specs.Places.{before};
+ghost use Rattle.text.specs.Lines.{newline};
+ghost use Rattle.text.specs.Number.{halfOf};
+ghost use Rattle.stamps.specs.Stamps.{stampOf};
+ghost use Rattle.stamps.specs.Held.{OpensPrinted, tailOf};
+use crate::scan;
+use text::bytes;
+use text::decimal;
+use text::number;
+use text::number::Integer;
+use text::number::Width;
+use time::Time;
+
+const SECONDS_PER_HOUR: i32 = 3600;
+
+const SECONDS_PER_MINUTE: i32 = 60;
+
+// How many bytes follow the seconds of a stamp: a space, a sign and four digits.
+const TAIL: usize = 6;
+
+// The time that a stamp means, or that a text is no stamp.
+pub enum Stamp {
+    At(Time),
+    Nothing,
+}
+
+// A number that is printed at a place of a text, and the place past its sign and its digits.
+pub struct PrintedNumber {
+    pub number: Integer,
+    pub end: usize,
+}
+
+// The number of a width that is printed from `at` on, as the header writer prints seconds: without
+// `+` and without zeros in front, and 0 without a sign.
+pub fn printed_at(s: &[u8], at: usize, width: Width) -> PrintedNumber
+    ensures { λ r. ⌜ OpensPrinted (halfOf width) (drop at (now (s .entry))) at r ⌝ }
+{
+    let read = number::leading_integer(s, at, width);
+    let number = read.number;
+    let end = read.end;
+    PrintedNumber {
+        number: if_width(number, end - at),
+        end,
+    }
+}
+
+// The number, if its plain decimal takes this many bytes.
+fn if_width(n: Integer, width: usize) -> Integer {
+    let Integer::Is(z) = n else {
+        return Integer::Nothing;
+    };
+    if decimal::signed_width(z) == width {
+        return Integer::Is(z);
+    }
+    Integer::Nothing
+}
+
+// The stamp from `at` up to the end of its line.
+pub fn stamp_at(s: &[u8], at: usize) -> Stamp
+    ensures { λ r. ⌜ r ≡ stampOf (before newline (drop at (now (s .entry)))) ⌝ }
+{
+    let seconds = printed_at(s, at, Width::Bits64);
+    let number = seconds.number;
+    let end = seconds.end;
+    let Integer::Is(z) = number else {
+        return Stamp::Nothing;
+    };
+    let offset = tail_at(s, end);
+    let Integer::Is(o) = offset else {
+        return Stamp::Nothing;
+    };
+    Stamp::At(Time::new(z, o as i32))
+}
+
+// The offset of the stamp's tail at a place: a space, a sign, two digits of hours, two of minutes,
+// and the end of the line. Minutes are below 60, and offset 0 has the sign `+`.
+fn tail_at(s: &[u8], at: usize) -> Integer
+    ensures { λ r. ⌜ r ≡ tailOf (drop at (now (s .entry))) ⌝ }
+{
+    if s.len() < TAIL {
+        return Integer::Nothing;
+    }
+    if s.len() - TAIL < at {
+        return Integer::Nothing;
+    }
+    let sign = s[at + 1];
+    let h = s[at + 2];
+    let hh = s[at + 3];
+    let m = s[at + 4];
+    let mm = s[at + 5];
+    if (s[at] == b' ')
+        & bytes::is_sign(sign)
+        & are_digits(h, hh, m, mm)
+        & (m < b'6')
+        & scan::ends_at(s, at + TAIL)
+    {
+        return with_sign(
+            sign == b'-',
+            two(h, hh) * SECONDS_PER_HOUR + two(m, mm) * SECONDS_PER_MINUTE,
+        );
+    }
+    Integer::Nothing
+}
+
+fn are_digits(h: u8, hh: u8, m: u8, mm: u8) -> bool {
+    (bytes::is_digit(h) & bytes::is_digit(hh)) & (bytes::is_digit(m) & bytes::is_digit(mm))
+}
+
+// The value of two digits.
+fn two(tens: u8, ones: u8) -> i32 {
+    10 * ((tens - b'0') as i32) + ((ones - b'0') as i32)
+}
+
+// An offset of this size. Offset 0 has no `-`.
+fn with_sign(minus: bool, size: i32) -> Integer {
+    if minus {
+        if size == 0 {
+            return Integer::Nothing;
+        }
+        return Integer::Is((-size) as i64);
+    }
+    Integer::Is(size as i64)
+}

@@ -1,0 +1,179 @@
+// A line written from its values (RULES 13.12), with its newline. Values that make no good line are
+// refused by 10, then a room that is too short by 8. A refusal changes nothing in the room.
+ghost use mathlib.Core.Path.{_≡_};
+ghost use mathlib.Core.Bool.{true, _&&_};
+ghost use mathlib.Core.List.{_++_};
+ghost use Prim.Native.Nat.{_≤_};
+ghost use lib.Dec.{ltb};
+ghost use lib.IntN.{natAbs};
+ghost use lib.ListN.{length, drop};
+ghost use Rattle.calendar.specs.Table.{IsMonths};
+ghost use Rattle.text.specs.Room.{fits, roomAfter};
+ghost use Rattle.time.specs.Answers.{isWritten};
+ghost use Rattle.relative.specs.Relative.{maxPairs};
+ghost use Rattle.stamps.specs.Writing.{isHull, isSince, isRead, hullLine, sinceLine, ended, lineWritten, hullWritten, sinceWritten};
+ghost use Rattle.stamps.specs.Stamps.{isWholeMinutes};
+ghost use Rattle.stamps.specs.Lines.{isPath, isKey};
+use crate::line::KEY;
+use crate::line::MAX_PATH;
+use crate::put;
+use crate::scan;
+use crate::scan::Class;
+use text::decimal;
+use time::Answer;
+use time::Now;
+use time::Refusal;
+use time::Time;
+use time::Written;
+
+// 100 hours. The header writer refuses an offset of this size or more.
+const OFFSET_LIMIT: u64 = 360000;
+
+// Writes the line of a hull to the front of `room` and returns how many bytes that took. The bytes
+// beyond them stay as they were.
+pub fn write_hull(path: &[u8], key: &[u8], time: Time, room: &mut [u8]) -> Written
+    ensures { λ r. ⌜ r ≡ hullWritten (now (path .entry)) (now (key .entry)) time (now (room .entry)) ⌝ }
+    ensures { λ _. ⌜ now (room .exit) ≡ roomAfter (isWritten (hullWritten (now (path .entry)) (now (key .entry)) time (now (room .entry)))) (ended (hullLine (now (path .entry)) (now (key .entry)) time)) (now (room .entry)) ⌝ }
+{
+    if is_hull(path, key, time) {
+        let n = hull_width(path, key, time);
+        if room.len() < n {
+            return Written::Refused(Refusal::Room);
+        }
+        put_hull(path, key, time, room);
+        return Written::Length(n);
+    }
+    Written::Refused(Refusal::Book)
+}
+
+// Whether the values make a good line: a path, a key, and a time whose offset is whole minutes under
+// 100 hours.
+fn is_hull(path: &[u8], key: &[u8], time: Time) -> bool
+    ensures { λ r. ⌜ r ≡ isHull (now (path .entry)) (now (key .entry)) time ⌝ }
+{
+    is_path(path) & is_key(key) & is_whole(time.offset)
+}
+
+fn is_path(s: &[u8]) -> bool
+    ensures { λ r. ⌜ r ≡ isPath (now (s .entry)) ⌝ }
+{
+    if MAX_PATH < s.len() {
+        return false;
+    }
+    (0 < s.len()) & (scan::past(s, 0, Class::Path) == s.len())
+}
+
+fn is_key(s: &[u8]) -> bool
+    ensures { λ r. ⌜ r ≡ isKey (now (s .entry)) ⌝ }
+{
+    if s.len() != KEY {
+        return false;
+    }
+    scan::past(s, 0, Class::Hex) == KEY
+}
+
+// Whether an offset is whole minutes, and under 100 hours.
+fn is_whole(offset: i32) -> bool
+    ensures { λ r. ⌜ r ≡ (isWholeMinutes offset && ltb (natAbs offset) 360000) ⌝ }
+{
+    let size = decimal::magnitude(offset as i64);
+    (size % 60 == 0) & (size < OFFSET_LIMIT)
+}
+
+// How many bytes the line takes, with three tabs and a newline.
+fn hull_width(path: &[u8], key: &[u8], time: Time) -> usize
+    requires { ⌜ isHull (now path) (now key) time ≡ true ⌝ }
+    ensures { λ r. ⌜ r ≡ length (ended (hullLine (now (path .entry)) (now (key .entry)) time)) ⌝ }
+{
+    path.len() + (key.len() + (time.size() + 8))
+}
+
+// Puts the line at the front of a room that is long enough.
+fn put_hull(path: &[u8], key: &[u8], time: Time, room: &mut [u8])
+    requires { ⌜ isHull (now path) (now key) time ≡ true ⌝ }
+    requires { ⌜ length (ended (hullLine (now path) (now key) time)) ≤ length (now room) ⌝ }
+    ensures { λ _. ⌜ now (room .exit) ≡ ended (hullLine (now (path .entry)) (now (key .entry)) time) ++ drop (length (ended (hullLine (now (path .entry)) (now (key .entry)) time))) (now (room .entry)) ⌝ }
+{
+    let at = put::put_part(b"hull\t", 0, room);
+    let at = put::put_part(path, at, room);
+    let at = put::put_part(b"\t", at, room);
+    let at = put::put_part(key, at, room);
+    let at = put::put_part(b"\t", at, room);
+    let at = put::put_time(time, at, room);
+    put::put_part(b"\n", at, room);
+}
+
+// Writes the line of a cut-off to the front of `room` and returns how many bytes that took. The bytes
+// beyond them stay as they were.
+pub fn write_since(text: &[u8], current: Time, room: &mut [u8]) -> Written
+    ensures { λ r. ⌜ r ≡ sinceWritten maxPairs (now (text .entry)) current (now (room .entry)) ⌝ }
+    ensures { λ _. ⌜ now (room .exit) ≡ roomAfter (isWritten (sinceWritten maxPairs (now (text .entry)) current (now (room .entry)))) (ended (sinceLine (now (text .entry)) current)) (now (room .entry)) ⌝ }
+{
+    write_since_with(&[], text, current, room)
+}
+
+// The same with a table of months, for many calls: the whole table, or any leading part of it.
+pub fn write_since_with(months: &[u32], text: &[u8], current: Time, room: &mut [u8]) -> Written
+    requires { ⌜ IsMonths (now months) ⌝ }
+    ensures { λ r. ⌜ r ≡ sinceWritten maxPairs (now (text .entry)) current (now (room .entry)) ⌝ }
+    ensures { λ _. ⌜ now (room .exit) ≡ roomAfter (isWritten (sinceWritten maxPairs (now (text .entry)) current (now (room .entry)))) (ended (sinceLine (now (text .entry)) current)) (now (room .entry)) ⌝ }
+{
+    if is_since(months, text, current) {
+        return put_if_fits(text, current, room);
+    }
+    Written::Refused(Refusal::Book)
+}
+
+// Writes the line of values that make a good one, unless the room is too short. The text is not too
+// long to be measured: its length is compared before anything is added to it.
+fn put_if_fits(text: &[u8], current: Time, room: &mut [u8]) -> Written
+    ensures { λ r. ⌜ r ≡ lineWritten true (sinceLine (now (text .entry)) current) (now (room .entry)) ⌝ }
+    ensures { λ _. ⌜ now (room .exit) ≡ roomAfter (fits (ended (sinceLine (now (text .entry)) current)) (now (room .entry))) (ended (sinceLine (now (text .entry)) current)) (now (room .entry)) ⌝ }
+{
+    if room.len() < text.len() {
+        return Written::Refused(Refusal::Room);
+    }
+    let numbers = decimal::signed_width(current.seconds)
+        + decimal::signed_width(current.offset as i64)
+        + 9;
+    if room.len() - text.len() < numbers {
+        return Written::Refused(Refusal::Room);
+    }
+    put_since(text, current, room);
+    Written::Length(text.len() + numbers)
+}
+
+// Whether the values make a good line: a text without tab and newline that is a relative date which is
+// read at the current time.
+fn is_since(months: &[u32], text: &[u8], current: Time) -> bool
+    requires { ⌜ IsMonths (now months) ⌝ }
+    ensures { λ r. ⌜ r ≡ isSince maxPairs (now (text .entry)) current ⌝ }
+{
+    if scan::past(text, 0, Class::Text) < text.len() {
+        return false;
+    }
+    is_read(relative::parse_with(months, text, Now::At(current)))
+}
+
+fn is_read(a: Answer) -> bool
+    ensures { λ r. ⌜ r ≡ isRead a ⌝ }
+{
+    match a {
+        Answer::Time(_) => true,
+        Answer::Refused(_) => false,
+    }
+}
+
+// Puts the line at the front of a room that is long enough.
+fn put_since(text: &[u8], current: Time, room: &mut [u8])
+    requires { ⌜ length (ended (sinceLine (now text) current)) ≤ length (now room) ⌝ }
+    ensures { λ _. ⌜ now (room .exit) ≡ ended (sinceLine (now (text .entry)) current) ++ drop (length (ended (sinceLine (now (text .entry)) current))) (now (room .entry)) ⌝ }
+{
+    let at = put::put_part(b"since\t", 0, room);
+    let at = put::put_part(text, at, room);
+    let at = put::put_part(b"\t", at, room);
+    let at = put::put_number(current.seconds, at, room);
+    let at = put::put_part(b"\t", at, room);
+    let at = put::put_number(current.offset as i64, at, room);
+    put::put_part(b"\n", at, room);
+}
