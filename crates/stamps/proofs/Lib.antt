@@ -1,1 +1,2 @@
 -- The laws of books (RULES 13). In order: scans; printed numbers; stamps; fields; lines; lines written; books; listings; examples.
+pub mod Fields
