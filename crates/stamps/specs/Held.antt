@@ -12,6 +12,7 @@ use lib.IntN.{ℤ, pos, negℤ}
 use lib.ListN.{length, take, drop, getD, set}
 use Rattle.text.specs.Bytes.{isDigit, isSign}
 use Rattle.text.specs.Number.{fitSigned, numeral}
+use Rattle.text.specs.Decimal.{signed}
 use Rattle.text.specs.Places.{before, firstPlace, has}
 use Rattle.text.specs.Lines.{tab, newline}
 use Rattle.text.specs.declared.number.Integer.{Integer}
@@ -43,6 +44,11 @@ isOf Text = isTextByte
 pub record OpensPrinted (half : ℕ) (s : List ℕ) (at : ℕ) (r : PrintedNumber) : Type 0 where
   pub number-is : r .number ≡ fitSigned half (printed (take (numeral s) s))
   pub end-is : r .end ≡ at + numeral s
+
+-- the number, if its plain decimal takes w bytes
+abbrev pub ifWidth : Integer → ℕ → Integer
+ifWidth (Is z) w = cond (eqb (length (signed z)) w) (Is z) NoInteger
+ifWidth NoInteger w = NoInteger
 
 -- whether a line ends in front of s: a newline follows, or nothing
 unfoldable pub endsHere : List ℕ → Bool
