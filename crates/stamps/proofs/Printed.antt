@@ -1,5 +1,6 @@
 -- Numbers as the header writer prints them (RULES 13.6). In order: texts that are the same; digits of the same value; a text that is as
--- long as the plain decimal of its number is that decimal, so only its length has to be compared; what is printed, and that it is read.
+-- long as the plain decimal of its number is that decimal, so that only lengths are compared; the same at the front of a longer text; what is
+-- printed is read, and nothing else.
 -- Assumes nothing.
 use mathlib.Core.Path.{_≡_, refl, sym, ap, _∙_}
 use mathlib.Core.Bool.{true, _&&_}
@@ -9,23 +10,26 @@ use native.Mathlib.Omega.{arith}
 use borrow.Author.Tests.{eqb-true, eqb-false, eq-eqb}
 use lib.Dec.{eqb}
 use lib.IntN.{ℤ, pos, negℤ}
-use lib.ListN.{length}
+use lib.ListN.{length, take}
+use lib.Seq.{length-take-le}
 use lib.Signed.{leZ, ltZ}
 use Rattle.text.specs.Bytes.{same}
 use Rattle.text.specs.Decimal.{decimal, signed}
-use Rattle.text.specs.Number.{readFrom, digitsOf, unsignedOf, signedOf, fitSigned, plus, minus}
+use Rattle.text.specs.Number.{readFrom, digitsOf, unsignedOf, signedOf, fitSigned, plus, minus, numeral, LeadsWith}
 use Rattle.text.specs.declared.number.Number.{Number}
 use Rattle.text.specs.declared.number.Number.the-variants.{Value, Nothing as NoNumber}
+use Rattle.text.specs.declared.number.LeadingInteger.{LeadingInteger}
 use Rattle.text.specs.declared.number.Integer.{Integer}
 use Rattle.text.specs.declared.number.Integer.the-variants.{Is, Nothing as NoInteger}
 use Rattle.text.proofs.Lists.{by-test, both, same-of-length}
-use Rattle.text.proofs.Numbers.{digit-range, readFrom-digit, unsignedOf-below, fitSigned-value}
+use Rattle.text.proofs.Numbers.{digit-range, readFrom-digit, unsignedOf-below, fitSigned-value, numeral-le-run}
+use Rattle.text.proofs.Runs.{run-le-length}
 use Rattle.text.proofs.Digits.{no-plus}
 use Rattle.text.proofs.Decimals.{length-decimal-pos, length-decimal-of-lt, length-decimal-le, readFrom-decimal}
 use Rattle.text.proofs.Signed.{fitSigned-signed}
 use Rattle.header.specs.Theorems.{Seconds64}
 use Rattle.stamps.specs.Stamps.{printed, printedAs}
-use Rattle.stamps.specs.Held.{ifWidth}
+use Rattle.stamps.specs.Held.{ifWidth, OpensPrinted}
 
 -- ---- texts that are the same
 pub same-self : (s : List ℕ) → same s s ≡ true
@@ -106,7 +110,7 @@ same-signed s z e =
     (λ k. rw k (ap (same s) (sym (eq-signed s z e (sym (eqb-true (length (signed z)) (length s) k)))) ∙ same-self s))
     (λ k. rw k (same-of-length s (signed z) (λ l. eqb-false (length (signed z)) (length s) k (sym l))))
 
-pub fitSigned-printed : (half : ℕ) (s : List ℕ) → fitSigned half (printed s) ≡ ifWidth (fitSigned half (signedOf s)) (length s)
+fitSigned-printed : (half : ℕ) (s : List ℕ) → fitSigned half (printed s) ≡ ifWidth (fitSigned half (signedOf s)) (length s)
 unfolding printed fitSigned
 fitSigned-printed half s = go (signedOf s) refl
   where
@@ -116,6 +120,21 @@ fitSigned-printed half s = go (signedOf s) refl
         (λ k. rw (same-signed s z e, k) (by-test (leZ (negℤ (pos half)) z && ltZ z (pos half)) (λ f. rw (f, k)) (λ f. rw f)))
         (λ k. rw (same-signed s z e, k) (by-test (leZ (negℤ (pos half)) z && ltZ z (pos half)) (λ f. rw (f, k)) (λ f. rw f)))
     go NoInteger e = refl
+
+-- ---- at the front of a longer text
+pub numeral-le-length : (s : List ℕ) → numeral s ≤ length s
+numeral-le-length s =
+    omega (arith, numeral-le-run (λ b. true) (λ b e. refl) (λ b e. refl) s, run-le-length (λ b. true) s)
+
+pub OpensPrinted-of-width : (half : ℕ) (s : List ℕ) (at : ℕ) (r : LeadingInteger) (n : Integer) → LeadsWith half s at r → n ≡ ifWidth (r .number) (r .end - at)
+    → OpensPrinted half s at (record { number = n; end = r .end })
+OpensPrinted-of-width half s at r n l e =
+    let w = take (numeral s) s in
+    let k : r .end - at ≡ length w = omega (arith, l .end-is, length-take-le (numeral s) s (numeral-le-length s)) in
+    record {
+      number-is = e ∙ (λ i. ifWidth (l .number-is i) (k i)) ∙ sym (fitSigned-printed half w);
+      end-is = l .end-is;
+    }
 
 -- ---- what is printed is read, and nothing else
 pub printed-signed : (z : ℤ) → Seconds64 z → printed (signed z) ≡ Is z
