@@ -1,4 +1,4 @@
--- Fields, with tabs between them. In order: two texts are the same; a text cut at its first tab, and two texts with a tab between; texts
+-- Fields, with tabs between them. In order: a text cut at its first tab, and two texts with a tab between; texts
 -- whose bytes are of one class; the fields of the first line of a text, read from a place of the text on; a number that is the next
 -- field, or the last.
 -- Assumes nothing.
@@ -23,19 +23,6 @@ use Rattle.text.proofs.FirstPlaces.{Free}
 use Rattle.text.proofs.Numbers.{digit-range, numeral-le-run, numeral-leading}
 use Rattle.stamps.specs.Lines.{every, isPathByte, isHexDigit}
 use Rattle.stamps.specs.Held.{isTextByte, endsHere, cut, leftAt}
-
--- ---- the same bytes
-pub same-true : (s t : List ℕ) → same s t ≡ true → s ≡ t
-unfolding same
-same-true [] [] e = refl
-same-true [] (y ∷ t) e = absurd (false≢true e)
-same-true (x ∷ s) [] e = absurd (false≢true e)
-same-true (x ∷ s) (y ∷ t) e = let k = both (eqb x y) (same s t) e in rw (eqb-true x y (k .0), same-true s t (k .1))
-
-pub same-refl : (s : List ℕ) → same s s ≡ true
-unfolding same
-same-refl [] = refl
-same-refl (x ∷ s) = rw (eq-eqb x x refl) (same-refl s)
 
 -- ---- a text cut at its first tab
 pub field-append : (p r : List ℕ) → Free tab p → field (p ++ tab ∷ r) ≡ p
