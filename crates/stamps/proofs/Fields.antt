@@ -3,26 +3,24 @@
 -- field, or the last.
 -- Assumes nothing.
 use mathlib.Core.Path.{_≡_, refl, sym, ap, _∙_}
-use mathlib.Core.Bool.{Bool, true, false, not, _&&_, false≢true}
+use mathlib.Core.Bool.{Bool, true, false, _&&_, false≢true}
 use mathlib.Core.List.{List, [], _∷_, _++_}
-use Prim.Native.Nat.{ℕ, zero, suc, _+_, _-_, _≤_, _<_}
+use Prim.Native.Nat.{ℕ, suc, _+_, _-_, _≤_, _<_}
 use native.Mathlib.Omega.{arith}
-use native.Mathlib.Nat.{le-refl}
 use native.Mathlib.Numerals.{add-one}
-use borrow.Author.Tests.{eqb-true, ltb-true, ltb-false, lt-ltb, le-ltb, leb-true, ne-eqb, eq-eqb}
+use borrow.Author.Tests.{eqb-true, ltb-true, ltb-false, lt-ltb, leb-true, ne-eqb}
 use lib.Dec.{leb, ltb, eqb}
 use lib.ListN.{length, getD, take, drop, length-drop, drop-of-length-le}
 use lib.Seq.{drop-cons, drop-drop, length-take-le}
-use Rattle.text.specs.Bytes.{isDigit, isSign, same}
+use Rattle.text.specs.Bytes.{isDigit, isSign}
 use Rattle.text.specs.Places.{run, leading, past, firstPlace, before, has, opensWith}
 use Rattle.text.specs.Lines.{tab, newline, field, rest}
-use Rattle.text.specs.Number.{numeral}
 use Rattle.text.proofs.Lists.{by-test, both}
 use Rattle.text.proofs.Runs.{run-le-length, run-drop, run-le-run, run-leading, length-leading}
 use Rattle.text.proofs.FirstPlaces.{Free}
-use Rattle.text.proofs.Numbers.{digit-range, numeral-le-run, numeral-leading}
+use Rattle.text.proofs.Numbers.{digit-range}
 use Rattle.stamps.specs.Lines.{every, isPathByte, isHexDigit}
-use Rattle.stamps.specs.Held.{isTextByte, endsHere, cut, leftAt}
+use Rattle.stamps.specs.Held.{isTextByte, cut, leftAt}
 
 -- ---- a text cut at its first tab
 pub field-append : (p r : List ℕ) → Free tab p → field (p ++ tab ∷ r) ≡ p

@@ -3,3 +3,4 @@ pub mod Scans
 pub mod Printed
 pub mod Stamps
 pub mod Fields
+pub mod Reading

@@ -123,7 +123,7 @@ fn first_hull(s: &[u8]) -> First
 
 // The same from its key on: the path ends at a tab.
 fn keyed_hull(s: &[u8], path_end: usize) -> First
-    requires { ⌜ («path_end» < length (now s)) × (isPath (cut (now s) 5 «path_end») ≡ true) ⌝ }
+    requires { ⌜ (5 ≤ «path_end») × («path_end» < length (now s)) × (isPath (cut (now s) 5 «path_end») ≡ true) ⌝ }
     ensures { λ r. ⌜ EndsLine (now (s .entry)) («path_end» + 1) (keyLeft (cut (now (s .entry)) 5 «path_end») (leftAt (now (s .entry)) («path_end» + 1))) r ⌝ }
 {
     let key_start = path_end + 1;
