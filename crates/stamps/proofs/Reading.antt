@@ -7,16 +7,18 @@ use mathlib.Core.Bool.{Bool, true, false, not, _&&_, _||_, false≢true, and-fal
 use mathlib.Core.List.{List, [], _∷_, _++_}
 use Prim.Native.Nat.{ℕ, zero, suc, _+_, _-_, _^_, _≤_, _<_}
 use native.Mathlib.Omega.{arith}
+use native.Mathlib.Nat.{zero-add}
 use borrow.Author.Tests.{eqb-true, ltb-true, ltb-false, lt-ltb, le-ltb, leb-true, le-leb, eqb-false, ne-eqb, eq-eqb}
 use lib.Dec.{leb, ltb, eqb}
 use lib.IntN.{ℤ, pos, negsuc, negℤ}
 use lib.ListN.{length, getD, take, drop, length-drop}
-use lib.Seq.{length-take-le, take-nil}
+use lib.Seq.{length-take-le, take-nil, drop-nil, take-all}
 use lib.Signed.{leZ, ltZ, _≤ℤ_, _<ℤ_}
 use Rattle.ints.specs.Range.{In, isIn}
 use Rattle.ints.proofs.Parts.{up, dn, le-parts, parts-le, parts-lt, up-neg, dn-neg}
 use Rattle.ints.proofs.Machine.{lit, le-yes, lt-yes, leZ-true, ltZ-true, lt-pred, In-of-isIn}
-use Rattle.text.specs.Bytes.{ascii}
+use Rattle.text.specs.Bytes.{ascii, same}
+use Rattle.text.specs.Quote.{bytes}
 use Rattle.text.specs.Number.{signedOf, fitSigned, numeral}
 use Rattle.text.specs.declared.number.Number.{Number}
 use Rattle.text.specs.declared.number.Number.the-variants.{Value, Nothing as NoNumber}
@@ -25,7 +27,8 @@ use Rattle.text.specs.declared.number.Integer.the-variants.{Is, Nothing as NoIn
 use Rattle.text.specs.Places.{run, past, firstPlace, before, has, opensWith}
 use Rattle.text.specs.Lines.{tab, newline, field, rest}
 use Rattle.text.proofs.Lists.{by-test, both}
-use Rattle.text.proofs.Runs.{run-le-length}
+use Rattle.text.proofs.Runs.{run-le-length, has-nil}
+use Rattle.text.proofs.Texts.{not-has-cons}
 use Rattle.text.proofs.Numbers.{signedOf-of-numeral-lt}
 use Rattle.time.specs.Header.{headerBytes, sizeOf}
 use Rattle.time.specs.Answers.{timeAt}
@@ -40,8 +43,8 @@ use Rattle.relative.specs.Relative.{from, namedOf, byName, byPairs, relativeOf}
 use Rattle.relative.specs.declared.pair.Pair.{Pair}
 use Rattle.stamps.specs.Stamps.{printed, stampOf}
 use Rattle.stamps.specs.Writing.{isRead}
-use Rattle.stamps.specs.Lines.{every, isPathByte, isPath, isHexDigit, isKey, hullAt, hullOf, sinceAt, sinceWith, sinceOf, isGood}
-use Rattle.stamps.specs.Held.{isTextByte, OpensPrinted, endsHere, cut, leftAt, hullLeft, keyLeft, sinceLeft, currentLeft, EndsLine}
+use Rattle.stamps.specs.Lines.{every, isPathByte, isPath, isHexDigit, isKey, hullAt, hullOf, sinceAt, sinceWith, sinceOf, lineOf, isGood}
+use Rattle.stamps.specs.Held.{isTextByte, OpensPrinted, endsHere, cut, leftAt, hullLeft, keyLeft, sinceLeft, currentLeft, EndsLine, FirstLine}
 use Rattle.stamps.specs.declared.stamp.Stamp.{Stamp}
 use Rattle.stamps.specs.declared.stamp.Stamp.the-variants.{At, Nothing as NoStamp}
 use Rattle.stamps.specs.declared.stamp.PrintedNumber.{PrintedNumber}
@@ -49,7 +52,7 @@ use Rattle.stamps.specs.declared.line.Line.{Line}
 use Rattle.stamps.specs.declared.line.Line.the-variants.{Hull, Since, Bad}
 use Rattle.stamps.specs.declared.line.First.{First}
 use Rattle.stamps.proofs.Stamps.{stampOf-bytes}
-use Rattle.stamps.proofs.Fields.{isTextByte-of-isPathByte, isTextByte-of-isHexDigit, FieldEnds, field-ends-past, every-cut, length-cut, past-of-every, rest-nil-of-every, every-field, field-ends-numeral, rest-nil-of-numeral, firstPlace-of-numeral, numeral-last}
+use Rattle.stamps.proofs.Fields.{isTextByte-of-isPathByte, isTextByte-of-isHexDigit, FieldEnds, field-ends-past, every-cut, length-cut, past-of-every, rest-nil-of-every, every-field, name-ends, take-name, name-no-tab, field-ends-numeral, rest-nil-of-numeral, firstPlace-of-numeral, numeral-last}
 
 -- ---- a bad line
 pub ends-bad : {s : List ℕ} {at : ℕ} {line : Line} {r : First} → r .line ≡ Bad → line ≡ Bad → EndsLine s at line r
@@ -107,9 +110,12 @@ isKey-nil : isKey [] ≡ false
 unfolding isKey
 isKey-nil = refl
 
-pub length-before : (b : ℕ) (s : List ℕ) → length (before b s) ≡ firstPlace b s
+pub firstPlace-le-length : (b : ℕ) (s : List ℕ) → firstPlace b s ≤ length s
 unfolding firstPlace
-length-before b s = length-take-le (firstPlace b s) s (run-le-length (λ x. not (eqb x b)) s)
+firstPlace-le-length b s = run-le-length (λ x. not (eqb x b)) s
+
+pub length-before : (b : ℕ) (s : List ℕ) → length (before b s) ≡ firstPlace b s
+length-before b s = length-take-le (firstPlace b s) s (firstPlace-le-length b s)
 
 pub stampOf-nil : stampOf [] ≡ NoStamp
 stampOf-nil = told (stampOf []) refl
@@ -359,3 +365,85 @@ module _ (bound : ℕ) (text s : List ℕ) (a : ℕ) (z : PrintedNumber) (oz : O
 
         pub since-ends : (line : Line) → line ≡ sinceWith bound text (z .number) (o .number) → EndsLine s a (currentLeft bound text (leftAt s a)) (record { line = line; length = o .end })
         since-ends line l = record { line-is = l ∙ sym since-numbers; end-is = λ g. omega (arith, oo .end-is, last-is, seconds-ends .line-is) }
+
+-- ---- a line by its first field
+pub has-before : (b : ℕ) (s : List ℕ) → has b (before b s) ≡ false
+unfolding firstPlace run
+has-before b [] = has-nil b
+has-before b (x ∷ s) = by-test (eqb x b) (λ e. rw e (has-nil b)) (λ e. rw e (not-has-cons b x _ e (has-before b s)))
+
+pub rest-nil : rest [] ≡ []
+rest-nil = drop-nil (firstPlace tab [] + 1)
+
+hullLeft-nil : hullLeft [] ≡ Bad
+unfolding isPath
+hullLeft-nil = hullOf-no-path _ _ _ (ap isPath field-nil)
+
+sinceLeft-nil : (bound : ℕ) → sinceLeft bound [] ≡ Bad
+sinceLeft-nil bound = sinceOf-no-seconds bound _ _ _ (ap (λ (t : List ℕ). printed (field t)) rest-nil ∙ ap printed field-nil ∙ printed-nil)
+
+module _ (bound : ℕ) (l : List ℕ) (h : has newline l ≡ false) where
+  pub lineOf-hull : field l ≡ bytes "hull" → lineOf bound l ≡ hullLeft (rest l)
+  unfolding lineOf same
+  lineOf-hull e = rw (h, e)
+
+  pub lineOf-since : field l ≡ bytes "since" → lineOf bound l ≡ sinceLeft bound (rest l)
+  unfolding lineOf same
+  lineOf-since e = rw (h, e)
+
+  lineOf-bad : (same (field l) (bytes "hull") ≡ true → rest l ≡ []) → (same (field l) (bytes "since") ≡ true → rest l ≡ []) → lineOf bound l ≡ Bad
+  unfolding lineOf
+  lineOf-bad f g =
+      by-test (same (field l) (bytes "hull")) (λ e. rw (h, e) (ap hullLeft (f e) ∙ hullLeft-nil))
+      (λ e. by-test (same (field l) (bytes "since")) (λ d. rw (h, e, d) (ap (sinceLeft bound) (g d) ∙ sinceLeft-nil bound)) (λ d. rw (h, e, d)))
+
+-- the first line of a text
+module _ (bound : ℕ) (s : List ℕ) (r : First) where
+  pub first-hull : same (take 5 s) (bytes "hull" ++ tab ∷ []) ≡ true → EndsLine s 5 (hullLeft (leftAt s 5)) r → FirstLine bound s r
+  unfolding every isTextByte
+  first-hull e h =
+      let f = name-ends (bytes "hull") s refl e in
+      let k = ends-behind f (lineOf-hull bound (before newline s) (has-before newline s) (f .field-is ∙ take-name (bytes "hull") s e) ∙ ap hullLeft (f .rest-is)) h in
+      record { line-is = k .line-is; length-is = λ g. k .end-is g ∙ zero-add _ }
+
+  pub first-since : same (take 6 s) (bytes "since" ++ tab ∷ []) ≡ true → EndsLine s 6 (sinceLeft bound (leftAt s 6)) r → FirstLine bound s r
+  unfolding every isTextByte
+  first-since e h =
+      let f = name-ends (bytes "since") s refl e in
+      let k = ends-behind f (lineOf-since bound (before newline s) (has-before newline s) (f .field-is ∙ take-name (bytes "since") s e) ∙ ap (sinceLeft bound) (f .rest-is)) h in
+      record { line-is = k .line-is; length-is = λ g. k .end-is g ∙ zero-add _ }
+
+  pub first-bad : r .line ≡ Bad → same (take 5 s) (bytes "hull" ++ tab ∷ []) ≡ false → same (take 6 s) (bytes "since" ++ tab ∷ []) ≡ false → FirstLine bound s r
+  first-bad b e d =
+      let k = lineOf-bad bound (before newline s) (has-before newline s) (λ f. name-no-tab (bytes "hull") s f e) (λ f. name-no-tab (bytes "since") s f d) in
+      record { line-is = b ∙ sym k; length-is = λ g. absurd (false≢true (sym (ap isGood b) ∙ g)) }
+
+-- ---- a text that holds a newline is no line
+lineOf-newline : (bound : ℕ) (s : List ℕ) → has newline s ≡ true → lineOf bound s ≡ Bad
+unfolding lineOf
+lineOf-newline bound s e = rw e
+
+bad-of-not-good : (l : Line) → isGood l ≡ false → l ≡ Bad
+bad-of-not-good (Hull h) e = absurd (false≢true (sym e))
+bad-of-not-good (Since x) e = absurd (false≢true (sym e))
+bad-of-not-good Bad e = refl
+
+module _ (bound : ℕ) (s : List ℕ) (r : First) (f : FirstLine bound s r) where
+  first-not-good : (r .length ≡ firstPlace newline s → ⊥) → r .line ≡ Bad
+  first-not-good n = by-test (isGood (r .line)) (λ g. absurd (n (f .length-is g))) (λ g. bad-of-not-good (r .line) g)
+
+  first-whole : has newline s ≡ false → r .line ≡ lineOf bound s
+  unfolding has
+  first-whole h = f .line-is ∙ ap (lineOf bound) (take-all (firstPlace newline s) s (ltb-false _ _ h))
+
+  pub read-whole : r .length ≡ length s → r .line ≡ lineOf bound s
+  unfolding has
+  read-whole e =
+      by-test (has newline s) (λ h. first-not-good (λ k. omega (arith, ltb-true (firstPlace newline s) (length s) h)) ∙ sym (lineOf-newline bound s h))
+      (λ h. first-whole h)
+
+  pub read-not-whole : (r .length ≡ length s → ⊥) → Bad ≡ lineOf bound s
+  unfolding has
+  read-not-whole n =
+      by-test (has newline s) (λ h. sym (lineOf-newline bound s h))
+      (λ h. sym (first-not-good (λ k. n (omega (arith, ltb-false (firstPlace newline s) (length s) h, firstPlace-le-length newline s)))) ∙ first-whole h)
