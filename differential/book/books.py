@@ -1,8 +1,8 @@
 """Books to compare: whole sets, and random ones from a seed.
 
-A suite is a function of a random number generator and a number of books; only the suites in SEEDED look at them. It yields
-books, good and bad ones. What is right about them is none of its business: book.py says that, and is asked here only for cut-offs,
-so that hulls can be put next to them.
+A suite is a function of a random number generator and a number of books, which only `random` looks at. It yields books, good and
+bad ones, and does not say which they are: that is for book.py. Here book.py is asked for cut-offs, so that hulls can be put
+next to them, and by `random` for good lines, so that enough books are good.
 """
 
 from itertools import product
@@ -345,6 +345,7 @@ def pool(rng):
 
 
 def random_books(rng, number):
+    """From the seed: cut-offs, and hulls around them, in any order; a quarter with lines that may be bad, a fifth with damaged bytes."""
     made = 0
     while made < number:
         sound, doubtful = pool(rng)
@@ -362,8 +363,7 @@ def random_books(rng, number):
             yield text
 
 
-SEEDED = {"random": random_books}
 SUITES = {
     "telling": telling, "settings": settings, "bytes": changed_bytes, "orders": orders, "offsets": offsets, "months": month_ends,
-    "range": ends_of_range, "long": long_books,
-} | SEEDED
+    "range": ends_of_range, "long": long_books, "random": random_books,
+}

@@ -181,12 +181,14 @@ static int record_differs(const record *want, const uint8_t *book, const uint8_t
         rooms[count++] = want->need / 2;
     rooms[count++] = want->book;
 
-    if (check_differs("at the end", last, want) || check_differs("at the start", first, want) || nulls_differ(last, want))
+    if (check_differs("at the end", last, want) || check_differs("at the start", first, want))
         return 1;
     for (i = 0; i < count; i++)
         if (list_differs("at the end", last, want, listing, rooms[i], (i & 1) == 0) ||
             list_differs("at the start", first, want, listing, rooms[i], (i & 1) == 1))
             return 1;
+    if (nulls_differ(last, want))
+        return 1;
     if (memcmp(first, book, want->book) != 0 || memcmp(last, book, want->book) != 0)
         return differ("the book was changed");
     return 0;

@@ -179,7 +179,7 @@ def compare(chosen, options):
             differ += count
             for place, what in told:
                 if differing < 3:
-                    print(f"{name}: {shown(batch[place])}: {what}")
+                    print(f"{name}: {shown(batch[place], 200)}: {what}")
                 differing += 1
                 if shortest is None or len(batch[place]) < len(shortest):
                     shortest = batch[place]
@@ -584,7 +584,7 @@ def main():
     options = parser.parse_args()
     if options.list:
         for name, suite in SUITES.items():
-            print(f"{name:10} {' '.join(suite.__doc__.split()) if suite.__doc__ else 'from the seed'}")
+            print(f"{name:10} {suite.__doc__}")
         return 0
     for name in options.suites:
         if name not in SUITES:
