@@ -70,9 +70,12 @@ TEXTS = [b"now", b"today", b"yesterday", b"NOW", b" Today\r", b"\x0b\x0cyesterda
          b"1 day " * 31, b"1 day " * 32, b"1 day " * 33, b"1 day " * 32 + b"5", b"1 x " * 32 + b"ago", b"1 x " * 33 + b"ago", b"1 x " * 33,
          b"1 month " * 32, b"1 month " * 33, b"0 days " * 33, b"1 day" + b" " * 500, b"word " * 300 + b"1 day", b"9" * 400 + b" 1 day"]
 
-CURRENT = [(b"%d" % seconds, b"%d" % offset) for seconds in
-           (0, 1622462400, 1614555000, 951825600, 1583020799, -1, -62162121600, FIRST - 1, FIRST, FIRST + 1, FIRST + 86400, LAST, LAST + 1, LAST - 1)
-           for offset in (0, 3600, -28800, 5400, -1, 30, 93599, -93599, 93600, -93600)]
+CURRENT_SECONDS = [0, 1622462400, 1614555000, 951825600, 1583020799, -1, -62162121600]
+CURRENT_SECONDS += [FIRST - 1, FIRST, FIRST + 1, FIRST + 86400, LAST, LAST + 1, LAST - 1]
+CURRENT_OFFSETS = [0, 3600, -28800, 5400, -1, 30, 93599, -93599, 93600, -93600]
+CURRENT = [(b"%d" % seconds, b"%d" % offset) for seconds in CURRENT_SECONDS for offset in CURRENT_OFFSETS]
+
+NAMES = [b"", b"Hull", b"HULL", b"hul", b"hulls", b"hull ", b" hull", b"since", b"sinc", b"sinces", b"Since", b"hull\r", b"#", b"hull\0"]
 
 GOOD = [H(b"5 +0000"), S(b"1 day ago", b"86400")]
 GOOD += [H(b"-1 -0800", b"ships/oak hull.obj", b"f" * 16), S(b"1 month ago", b"1622462400", b"-28800")]
@@ -88,7 +91,7 @@ def layouts():
             yield separator.join(fields)
             for place in range(1, 4):
                 yield b"\t".join(fields[:place]) + separator + b"\t".join(fields[place:])
-        for name in (b"", b"Hull", b"HULL", b"hul", b"hulls", b"hull ", b" hull", b"since", b"sinc", b"sinces", b"Since", b"hull\r", b"#", b"hull\0"):
+        for name in NAMES:
             yield b"\t".join([name] + fields[1:])
         yield b"\t".join(fields[::-1])
         yield b"\t".join([fields[0]] + fields[:0:-1])
@@ -190,22 +193,24 @@ def beside(seconds, offset, text):
 def month_ends(rng, number):
     """Month ends and their neighbours of telling years, less some months or years, at offsets that change the local day."""
     years = (-9999, -400, -1, 0, 1, 4, 1600, 1900, 1968, 1999, 2000, 2020, 2021, 2024, 2100, 9999)
+    texts = (b"1 month", b"2 months", b"3 months", b"11 months ago", b"12 months", b"1 year", b"4 years", b"1 month 1 month")
     for year in years:
         for month in range(12):
             first = reference.first_day_of_month(12 * year + month)
             for day in (first - 3, first - 1, first, first + 28, first + 30):
                 for clock, offset in ((0, 0), (86399, 0), (84600, 3600), (1800, -3600)):
-                    for text in (b"1 month", b"2 months", b"3 months", b"11 months ago", b"12 months", b"1 year", b"4 years", b"1 month 1 month"):
+                    for text in texts:
                         yield beside(day * 86400 + clock, offset, text)
 
 
 def ends_of_range(rng, number):
     """Both ends of the range of current times, and steps that land at its first second or one beyond it."""
+    texts = [b"now", b"yesterday", b"0 s ago", b"1 second", b"1 minute", b"1 hour", b"1 day", b"1 week", b"1 month", b"1 year"]
+    texts += [b"0 months", b"0 years", b"86400 seconds", b"31 days", b"19999 years", b"9223372036854775807 years"]
     for end in (FIRST, LAST):
         for distance in (-86401, -86400, -2, -1, 0, 1, 2, 59, 60, 3600, 86399, 86400, 86401, 604800, 2678400, 31536000):
             for offset in (0, 1, -1, 3600, -3600, 93599, -93599, 93600, -93600, 2147483647, -2147483648):
-                for text in (b"now", b"yesterday", b"0 s ago", b"1 second", b"1 minute", b"1 hour", b"1 day", b"1 week", b"1 month", b"1 year",
-                             b"0 months", b"0 years", b"86400 seconds", b"31 days", b"19999 years", b"9223372036854775807 years"):
+                for text in texts:
                     yield beside(end + distance, offset, text)
 
 
@@ -254,7 +259,8 @@ def some_time(rng):
 
 
 def some_offset(rng):
-    return rng.choice((0, 3600, 5400, -28800, 93599, -93599, rng.randint(-93599, 93599), rng.randint(-60, 60), rng.randint(-100000, 100000)))
+    usual = (0, 3600, 5400, -28800, 93599, -93599)
+    return rng.choice((*usual, rng.randint(-93599, 93599), rng.randint(-60, 60), rng.randint(-100000, 100000)))
 
 
 def some_text(rng):
@@ -280,7 +286,9 @@ def some_text(rng):
 
 
 def some_stamp(rng, seconds):
-    return b"%d %c%02d%02d" % (seconds, rng.choice(b"+-"), rng.choice((0, 1, 2, 8, 23, 24, 99, rng.randint(0, 99))), rng.choice((0, 30, 59, rng.randint(0, 60))))
+    hours = rng.choice((0, 1, 2, 8, 23, 24, 99, rng.randint(0, 99)))
+    minutes = rng.choice((0, 30, 59, rng.randint(0, 60)))
+    return b"%d %c%02d%02d" % (seconds, rng.choice(b"+-"), hours, minutes)
 
 
 def some_path(rng):
