@@ -31,13 +31,12 @@ pub record HandedLength (w : Written) (number length : ℕ) : Type 0 where
   pub number-is : number ≡ writtenNumber w
   pub length-is : length ≡ writtenLength w
 
--- a check of a book returns the number of its answer and stores the number of the first bad line, which is 0 where there is none
+-- a check of a book returns the number of its answer and stores the line, which is 0 for a good book and for one that is too long
 pub record HandedCheck (c : Checked) (number line : ℕ) : Type 0 where
   pub number-is : number ≡ checkedNumber c
   pub line-is : line ≡ checkedLine c
 
--- a listing of a book returns the number of its answer and stores its length, which is 0 for a refusal, and the number of the first bad
--- line, which is 0 where there is none
+-- a listing of a book returns the number of its answer and stores its length, which is 0 for a refusal, and the line, as a check does
 pub record HandedListing (l : Listed) (number length line : ℕ) : Type 0 where
   pub number-is : number ≡ listedNumber l
   pub length-is : length ≡ listedLength l

@@ -33,8 +33,8 @@ pub extern "C" fn chowderbell_book_list(
     hand_listing(book::list(book, room), length, line)
 }
 
-// Returns the number of a check and stores the number of the first bad line, which is 0 if there is
-// none.
+// Returns the number of a check and stores the number of the first bad line. It is 0 for a good book,
+// and for one that is too long.
 fn hand_check(c: Checked, line: &mut usize) -> u8
     ensures { λ r. ⌜ HandedCheck c r (now (line .exit)) ⌝ }
 {
@@ -51,7 +51,7 @@ fn hand_check(c: Checked, line: &mut usize) -> u8
 }
 
 // Returns the number of a listing and stores its length, which is 0 for a refusal, and the number of
-// the first bad line, which is 0 if there is none.
+// the first bad line. That is 0 for a good book, and for one that is too long.
 fn hand_listing(l: Listed, length: &mut usize, line: &mut usize) -> u8
     ensures { λ r. ⌜ HandedListing l r (now (length .exit)) (now (line .exit)) ⌝ }
 {
