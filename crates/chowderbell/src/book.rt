@@ -61,9 +61,9 @@ fn hand_listing(l: Listed, length: &mut usize, line: &mut usize) -> u8
             *line = 0;
             SUCCESS
         }
-        Listed::Refused(r, n) => {
+        Listed::Refused(r, at) => {
             *length = 0;
-            *line = n;
+            *line = at;
             time::number_of(r)
         }
     }
