@@ -1,8 +1,7 @@
 // The text that `whenread --help` writes. `.ci/help` tests that docs/whenread.1 has each of its lines.
-use crate::streams;
-
 pub fn write_help() {
     streams::write_out(
+        b"whenread",
         b"Usage: whenread < LINES
        whenread -h | --help
        whenread --version
