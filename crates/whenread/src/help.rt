@@ -1,7 +1,8 @@
 // The text that `whenread --help` writes. `.ci/help` tests that docs/whenread.1 has each of its lines.
+use crate::write_out;
+
 pub fn write_help() {
-    streams::write_out(
-        b"whenread",
+    write_out(
         b"Usage: whenread < LINES
        whenread -h | --help
        whenread --version

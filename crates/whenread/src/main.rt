@@ -132,7 +132,7 @@ fn answer_held(months: &[u32], buffer: &mut [u8], end: usize, out: &mut [u8]) ->
     }
 }
 
-// Writes answers to standard output and returns true, or false if a write fails.
-fn write_out(answers: &[u8]) -> bool {
-    streams::write_out(b"whenread", answers)
+// Writes all of `s` to standard output and returns true, or false if a write fails.
+fn write_out(s: &[u8]) -> bool {
+    streams::write_out(b"whenread", s)
 }
