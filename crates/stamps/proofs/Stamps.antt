@@ -64,9 +64,9 @@ module _ (s : List ℕ) (t : TimeValue) (e : stampOf s ≡ At t) where
   stampOf-bytes = stampAs-told (headerOf s) s t e .2
 
 -- ---- its seconds
-number64-in : (x : Integer) (z : ℤ) → fitSigned (2 ^ 63) x ≡ Is z → Seconds64 z
+pub Seconds64-of-fitSigned : (x : Integer) (z : ℤ) → fitSigned (2 ^ 63) x ≡ Is z → Seconds64 z
 unfolding fitSigned
-number64-in (Is y) z e =
+Seconds64-of-fitSigned (Is y) z e =
     let lo : ℤ = negℤ (pos (2 ^ 63)) in
     let hi : ℤ = pos (2 ^ 63) in
     by-test (leZ lo y && ltZ y hi)
@@ -75,15 +75,15 @@ number64-in (Is y) z e =
     let p = both (leZ lo y) (ltZ y hi) k in
     rw (← q) (record { low = le-yes (lit lo) (lit y) (p .0); high = lt-pred (lt-yes (lit y) (lit hi) (p .1)) }))
     (λ k. let m = rw k at e in let q : _≡_ {A = ℕ} 0 1 = cc in absurd (omega arith))
-number64-in NoInteger z e = let q : _≡_ {A = ℕ} 0 1 = cc in absurd (omega arith)
+Seconds64-of-fitSigned NoInteger z e = let q : _≡_ {A = ℕ} 0 1 = cc in absurd (omega arith)
 
 secondsOf-in : (w : List ℕ) (z : ℤ) → secondsOf w ≡ Is z → Seconds64 z
 unfolding secondsOf
 secondsOf-in w z e = go (number64 w) refl e
   where
     go : (x : Integer) → number64 w ≡ x → numberOr x (number64 (leading isDigit w)) ≡ Is z → Seconds64 z
-    go (Is y) k m = number64-in (signedOf w) z (k ∙ m)
-    go NoInteger k m = number64-in (signedOf (leading isDigit w)) z m
+    go (Is y) k m = Seconds64-of-fitSigned (signedOf w) z (k ∙ m)
+    go NoInteger k m = Seconds64-of-fitSigned (signedOf (leading isDigit w)) z m
 
 headerTime-in : (x : Integer) (p : Parsed) (t : TimeValue) → headerTime x p ≡ Time t → x ≡ Is (t .seconds)
 headerTime-in (Is z) (Offset f) t e = cc
