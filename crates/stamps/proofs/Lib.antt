@@ -5,3 +5,4 @@ pub mod Printed
 pub mod Tails
 pub mod Stamps
 pub mod Fronts
+pub mod Examples
