@@ -108,12 +108,12 @@ plus-of-isSign : (b : ℕ) → isSign b ≡ true → eqb b 45 ≡ false → b �
 unfolding isSign
 plus-of-isSign b e m = eqb-true b 43 (rw (m, or-false) at e)
 
-offsetWith-told : (b n : ℕ) (o : ℤ) → isSign b ≡ true → offsetWith (eqb b 45) n ≡ Is o → (natAbs o ≡ n) × (signByte o ≡ b)
+natAbs-signByte-of-offsetWith : (b n : ℕ) (o : ℤ) → isSign b ≡ true → offsetWith (eqb b 45) n ≡ Is o → (natAbs o ≡ n) × (signByte o ≡ b)
 unfolding offsetWith signByte
-offsetWith-told b zero o e k =
+natAbs-signByte-of-offsetWith b zero o e k =
     by-test (eqb b 45) (λ m. let q = rw m at k in let z : _≡_ {A = ℕ} 0 1 = cc in absurd (omega arith))
     (λ m. let q : pos 0 ≡ o = cc (rw m at k) in rw (← q) (refl, sym (plus-of-isSign b e m)))
-offsetWith-told b (suc n) o e k =
+natAbs-signByte-of-offsetWith b (suc n) o e k =
     by-test (eqb b 45) (λ m. let q : negsuc n ≡ o = cc (rw (m, ne-eqb (suc n) 0 (λ z. omega arith)) at k) in rw (← q) (refl, sym (eqb-true b 45 m)))
     (λ m. let q : pos (suc n) ≡ o = cc (rw m at k) in rw (← q) (refl, sym (plus-of-isSign b e m)))
 
@@ -167,7 +167,7 @@ module _ (a b h hh m mm : ℕ) (t : List ℕ) (o : ℤ) where
       let tens = digit-range h (u .0) in
       let ones = digit-range hh (u .1) in
       let last = digit-range mm (v .1) in
-      let q = offsetWith-told b (clockSize h hh m mm) o e k in
+      let q = natAbs-signByte-of-offsetWith b (clockSize h hh m mm) o e k in
       record {
         bytes-are = tailBytes-of-digits u v (omega arith) (q .0) x (q .1);
         ends = n;

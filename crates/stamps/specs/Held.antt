@@ -8,7 +8,7 @@ use mathlib.Core.Path.{_≡_}
 use mathlib.Core.Bool.{Bool, true, cond, not, _&&_}
 use mathlib.Core.List.{List, [], _∷_}
 use lib.Dec.{ltb, eqb}
-use lib.IntN.{ℤ, pos, negℤ}
+use lib.IntN.{pos, negℤ}
 use lib.ListN.{length, take, drop, getD, set}
 use Rattle.text.specs.Bytes.{isDigit, isSign}
 use Rattle.text.specs.Number.{fitSigned, numeral}

@@ -1,8 +1,7 @@
 -- `stamps::stamp::with_sign` meets its contract: a size this small fits with either sign.
 -- Assumes nothing.
 use mathlib.Core.Path.{ap}
-use Prim.Native.Nat.{ℕ, _<_}
-use native.Mathlib.Omega.{arith}
+use Prim.Native.Nat.{ℕ, _≤_}
 use borrow.Author.Needs.{needs}
 use borrow.Author.Tests.{eq-eqb, ne-eqb}
 use lib.IntN.{pos}
@@ -14,8 +13,8 @@ use Rattle.stamps.specs.Held.{offsetWith}
 use Rattle.stamps.proofs.stamp.with_sign.Statement.{statement}
 use Rattle.stamps.proofs.stamp.with_sign.Tie as tie
 
-size-is : (n : ℕ) → n < 362400 → At (pos 0) (pos 362399) (pos n) (toZ w64 n)
-size-is n h = cast w64 n tt (omega arith)
+size-is : (n : ℕ) → n ≤ 362340 → At (pos 0) (pos 362340) (pos n) (toZ w64 n)
+size-is n h = cast w64 n tt h
 
 -- `-` and 0
 returns : tie.Need-returns
