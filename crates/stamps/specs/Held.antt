@@ -8,10 +8,11 @@ use mathlib.Core.Path.{_≡_}
 use mathlib.Core.Bool.{Bool, true, cond, not, _&&_}
 use mathlib.Core.List.{List, [], _∷_}
 use lib.Dec.{ltb, eqb}
-use lib.IntN.{ℤ, pos, negℤ}
+use lib.IntN.{pos, negℤ}
 use lib.ListN.{length, take, drop, getD, set}
 use Rattle.text.specs.Bytes.{isDigit, isSign}
 use Rattle.text.specs.Number.{fitSigned, numeral}
+use Rattle.text.specs.Decimal.{signed}
 use Rattle.text.specs.Places.{before, firstPlace, has}
 use Rattle.text.specs.Lines.{tab, newline}
 use Rattle.text.specs.declared.number.Integer.{Integer}
@@ -44,29 +45,38 @@ pub record OpensPrinted (half : ℕ) (s : List ℕ) (at : ℕ) (r : PrintedNumbe
   pub number-is : r .number ≡ fitSigned half (printed (take (numeral s) s))
   pub end-is : r .end ≡ at + numeral s
 
+-- the number, if its plain decimal takes w bytes
+abbrev pub ifWidth : Integer → ℕ → Integer
+ifWidth (Is z) w = cond (eqb (length (signed z)) w) (Is z) NoInteger
+ifWidth NoInteger w = NoInteger
+
 -- whether a line ends in front of s: a newline follows, or nothing
 unfoldable pub endsHere : List ℕ → Bool
 endsHere [] = true
 endsHere (b ∷ s) = eqb b newline
 
--- hours and minutes of a stamp's tail in seconds, and its offset
-unfoldable pub tailSize : List ℕ → ℕ
-tailSize s = twoDigits (getD s 2 0) (getD s 3 0) * 3600 + twoDigits (getD s 4 0) (getD s 5 0) * 60
+-- two digits of hours and two of minutes, in seconds
+abbrev pub clockSize : ℕ → ℕ → ℕ → ℕ → ℕ
+clockSize h hh m mm = twoDigits h hh * 3600 + twoDigits m mm * 60
 
-unfoldable pub tailOffset : List ℕ → ℤ
-tailOffset s = cond (eqb (getD s 1 0) (code "-")) (negℤ (pos (tailSize s))) (pos (tailSize s))
+-- an offset of this size. Offset 0 has no `-`
+unfoldable pub offsetWith : Bool → ℕ → Integer
+offsetWith minus size = cond (minus && eqb size 0) NoInteger (Is (cond minus (negℤ (pos size)) (pos size)))
 
--- the tail of a stamp: a space, a sign, two digits of hours and two of minutes, and the end of the line. Minutes are below 60, and the
--- sign of offset 0 is not `-`
+-- four digits
+abbrev pub fourDigits : ℕ → ℕ → ℕ → ℕ → Bool
+fourDigits h hh m mm = (isDigit h && isDigit hh) && (isDigit m && isDigit mm)
+
+-- the tail of a stamp: a space, a sign, two digits of hours and two of minutes, which are below 60, and the end of the line
 unfoldable pub isTail : List ℕ → Bool
 isTail s =
-    (eqb (getD s 0 0) (code " ") && isSign (getD s 1 0))
-    && ((isDigit (getD s 2 0) && isDigit (getD s 3 0)) && (isDigit (getD s 4 0) && isDigit (getD s 5 0)))
-    && (ltb (getD s 4 0) (code "6") && not (eqb (getD s 1 0) (code "-") && eqb (tailSize s) 0))
-    && endsHere (drop 6 s)
+    eqb (getD s 0 0) (code " ") && isSign (getD s 1 0) && fourDigits (getD s 2 0) (getD s 3 0) (getD s 4 0) (getD s 5 0)
+    && ltb (getD s 4 0) (code "6") && endsHere (drop 6 s)
 
+-- its offset
 unfoldable pub tailOf : List ℕ → Integer
-tailOf s = cond (isTail s) (Is (tailOffset s)) NoInteger
+tailOf s =
+    cond (isTail s) (offsetWith (eqb (getD s 1 0) (code "-")) (clockSize (getD s 2 0) (getD s 3 0) (getD s 4 0) (getD s 5 0))) NoInteger
 
 -- ---- the first line of a text
 -- the line in front of the first newline of s, and, if it is good, how many bytes it has

@@ -2,12 +2,16 @@
 // text that may go on behind them. Each byte is read once: a number is printed plainly exactly if it
 // has as many bytes as its plain decimal, so nothing is written and compared.
 ghost use mathlib.Core.Path.{_≡_};
+ghost use mathlib.Core.Bool.{true};
+ghost use Prim.Native.Nat.{_≤_, _<_};
 ghost use lib.ListN.{drop};
+ghost use Rattle.text.specs.Bytes.{isDigit};
 ghost use Rattle.text.specs.Places.{before};
 ghost use Rattle.text.specs.Lines.{newline};
 ghost use Rattle.text.specs.Number.{halfOf};
+ghost use Rattle.header.specs.Held.{twoDigits};
 ghost use Rattle.stamps.specs.Stamps.{stampOf};
-ghost use Rattle.stamps.specs.Held.{OpensPrinted, tailOf};
+ghost use Rattle.stamps.specs.Held.{OpensPrinted, ifWidth, tailOf, fourDigits, clockSize, offsetWith};
 use crate::scan;
 use text::bytes;
 use text::decimal;
@@ -16,9 +20,9 @@ use text::number::Integer;
 use text::number::Width;
 use time::Time;
 
-const SECONDS_PER_HOUR: i32 = 3600;
+const SECONDS_PER_HOUR: u64 = 3600;
 
-const SECONDS_PER_MINUTE: i32 = 60;
+const SECONDS_PER_MINUTE: u64 = 60;
 
 // How many bytes follow the seconds of a stamp: a space, a sign and four digits.
 const TAIL: usize = 6;
@@ -50,7 +54,9 @@ pub fn printed_at(s: &[u8], at: usize, width: Width) -> PrintedNumber
 }
 
 // The number, if its plain decimal takes this many bytes.
-fn if_width(n: Integer, width: usize) -> Integer {
+fn if_width(n: Integer, width: usize) -> Integer
+    ensures { λ r. ⌜ r ≡ ifWidth n width ⌝ }
+{
     let Integer::Is(z) = n else {
         return Integer::Nothing;
     };
@@ -99,30 +105,42 @@ fn tail_at(s: &[u8], at: usize) -> Integer
         & (m < b'6')
         & scan::ends_at(s, at + TAIL)
     {
-        return with_sign(
-            sign == b'-',
-            two(h, hh) * SECONDS_PER_HOUR + two(m, mm) * SECONDS_PER_MINUTE,
-        );
+        return with_sign(sign == b'-', clock_size(h, hh, m, mm));
     }
     Integer::Nothing
 }
 
-fn are_digits(h: u8, hh: u8, m: u8, mm: u8) -> bool {
+fn are_digits(h: u8, hh: u8, m: u8, mm: u8) -> bool
+    ensures { λ r. ⌜ r ≡ fourDigits h hh m mm ⌝ }
+{
     (bytes::is_digit(h) & bytes::is_digit(hh)) & (bytes::is_digit(m) & bytes::is_digit(mm))
 }
 
-// The value of two digits.
-fn two(tens: u8, ones: u8) -> i32 {
-    10 * ((tens - b'0') as i32) + ((ones - b'0') as i32)
+// Two digits of hours and two of minutes, in seconds: at most 99 hours and 99 minutes.
+fn clock_size(h: u8, hh: u8, m: u8, mm: u8) -> u64
+    requires { ⌜ fourDigits h hh m mm ≡ true ⌝ }
+    ensures { λ r. ⌜ (r ≡ clockSize h hh m mm) × (r ≤ 362340) ⌝ }
+{
+    two_digits(h, hh) * SECONDS_PER_HOUR + two_digits(m, mm) * SECONDS_PER_MINUTE
+}
+
+fn two_digits(tens: u8, ones: u8) -> u64
+    requires { ⌜ (isDigit tens ≡ true) × (isDigit ones ≡ true) ⌝ }
+    ensures { λ r. ⌜ (r ≡ twoDigits tens ones) × (r < 100) ⌝ }
+{
+    (10 * (tens - b'0') + (ones - b'0')) as u64
 }
 
 // An offset of this size. Offset 0 has no `-`.
-fn with_sign(minus: bool, size: i32) -> Integer {
+fn with_sign(minus: bool, size: u64) -> Integer
+    requires { ⌜ size ≤ 362340 ⌝ }
+    ensures { λ r. ⌜ r ≡ offsetWith minus size ⌝ }
+{
     if minus {
         if size == 0 {
             return Integer::Nothing;
         }
-        return Integer::Is((-size) as i64);
+        return Integer::Is(0 - (size as i64));
     }
     Integer::Is(size as i64)
 }

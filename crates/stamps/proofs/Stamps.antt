@@ -1,0 +1,149 @@
+-- Stamps (RULES 13.5). In order: what a stamp says about its text; the seconds and the offset of a stamp; what the header writer writes at
+-- an offset of whole minutes is a stamp; so the stamps are exactly those texts.
+-- Assumes nothing.
+use mathlib.Core.Path.{_≡_, refl, sym, ap, _∙_}
+use mathlib.Core.Bool.{true, false, _&&_, false≢true, or-true}
+use mathlib.Core.List.{List, [], _∷_, _++_}
+use mathlib.Core.Logic.{_↔_}
+use Prim.Native.Nat.{ℕ, suc, _+_, _*_, _/_, _%_, _^_, _≤_, _<_}
+use native.Mathlib.Omega.{arith}
+use borrow.Author.Tests.{eqb-true, leb-true, leb-false}
+use lib.Dec.{leb}
+use lib.IntN.{ℤ, pos, negsuc, negℤ, natAbs}
+use lib.Signed.{leZ, ltZ}
+use Rattle.ints.proofs.Parts.{le-parts, natAbs-parts, one-up, one-dn}
+use Rattle.ints.proofs.Machine.{lit, le-yes, lt-yes, lt-pred}
+use Rattle.text.specs.Bytes.{isSpace, isDigit, ascii, same}
+use Rattle.text.specs.Places.{has, leading}
+use Rattle.text.specs.Words.{words}
+use Rattle.text.specs.Decimal.{signed}
+use Rattle.text.specs.Number.{signedOf, fitSigned}
+use Rattle.text.specs.declared.number.Integer.{Integer}
+use Rattle.text.specs.declared.number.Integer.the-variants.{Is, Nothing as NoInteger}
+use Rattle.text.proofs.Lists.{by-test, both}
+use Rattle.text.proofs.Runs.{has-cons}
+use Rattle.text.proofs.Signed.{signedBefore-append}
+use Rattle.time.specs.Header.{headerBytes, headerSign, wholeMinutes, cutToMinutes}
+use Rattle.time.specs.declared.Time.{Time as TimeValue}
+use Rattle.time.specs.declared.Answer.{Answer}
+use Rattle.time.specs.declared.Answer.the-variants.{Time, Refused}
+use Rattle.header.specs.Header.{number64, numberOr, secondsOf, headerTime, headerOfWords, headerOffset, headerOf}
+use Rattle.header.specs.Offset.{onlyWord}
+use Rattle.header.specs.Theorems.{Seconds64}
+use Rattle.header.specs.declared.offset.Parsed.{Parsed}
+use Rattle.header.specs.declared.offset.Parsed.the-variants.{Offset, Nothing as NoOffset}
+use Rattle.header.proofs.ReadBack.{header-read-back}
+use Rattle.header.proofs.Reach.{header-offset-in}
+use Rattle.stamps.specs.Stamps.{stampOf, stampAs, isWholeMinutes}
+use Rattle.stamps.specs.declared.stamp.Stamp.the-variants.{At}
+use Rattle.stamps.proofs.Printed.{same-self, eq-of-same}
+
+-- ---- what a stamp says about its text
+-- it is read as that time, at whole minutes, and it is what is written for that time
+time-of-stampAs : (a : Answer) (s : List ℕ) (t : TimeValue) → stampAs a s ≡ At t → (a ≡ Time t) × (isWholeMinutes (t .offset) ≡ true) × (s ≡ headerBytes t)
+time-of-stampAs (Time u) s t e =
+    by-test (isWholeMinutes (u .offset) && same s (headerBytes u))
+    (λ k.
+    let q : u ≡ t = cc (rw k at e) in
+    let p = both (isWholeMinutes (u .offset)) (same s (headerBytes u)) k in
+    (ap Time q, ap (λ (v : TimeValue). isWholeMinutes (v .offset)) (sym q) ∙ p .0, eq-of-same s (headerBytes u) (p .1) ∙ ap headerBytes q))
+    (λ k. let m = rw k at e in let q : _≡_ {A = ℕ} 0 1 = cc in absurd (omega arith))
+time-of-stampAs (Refused r) s t e = let q : _≡_ {A = ℕ} 0 1 = cc in absurd (omega arith)
+
+module _ (s : List ℕ) (t : TimeValue) (e : stampOf s ≡ At t) where
+  pub stampOf-read : headerOf s ≡ Time t
+  unfolding stampOf
+  stampOf-read = time-of-stampAs (headerOf s) s t e .0
+
+  pub stampOf-whole : isWholeMinutes (t .offset) ≡ true
+  unfolding stampOf
+  stampOf-whole = time-of-stampAs (headerOf s) s t e .1
+
+  pub stampOf-bytes : s ≡ headerBytes t
+  unfolding stampOf
+  stampOf-bytes = time-of-stampAs (headerOf s) s t e .2
+
+-- ---- its seconds
+pub Seconds64-of-fitSigned : (x : Integer) (z : ℤ) → fitSigned (2 ^ 63) x ≡ Is z → Seconds64 z
+unfolding fitSigned
+Seconds64-of-fitSigned (Is y) z e =
+    let lo : ℤ = negℤ (pos (2 ^ 63)) in
+    let hi : ℤ = pos (2 ^ 63) in
+    by-test (leZ lo y && ltZ y hi)
+    (λ k.
+    let q : y ≡ z = cc (rw k at e) in
+    let p = both (leZ lo y) (ltZ y hi) k in
+    rw (← q) (record { low = le-yes (lit lo) (lit y) (p .0); high = lt-pred (lt-yes (lit y) (lit hi) (p .1)) }))
+    (λ k. let m = rw k at e in let q : _≡_ {A = ℕ} 0 1 = cc in absurd (omega arith))
+Seconds64-of-fitSigned NoInteger z e = let q : _≡_ {A = ℕ} 0 1 = cc in absurd (omega arith)
+
+secondsOf-in : (w : List ℕ) (z : ℤ) → secondsOf w ≡ Is z → Seconds64 z
+unfolding secondsOf
+secondsOf-in w z e = go (number64 w) refl e
+  where
+    go : (x : Integer) → number64 w ≡ x → numberOr x (number64 (leading isDigit w)) ≡ Is z → Seconds64 z
+    go (Is y) k m = Seconds64-of-fitSigned (signedOf w) z (k ∙ m)
+    go NoInteger k m = Seconds64-of-fitSigned (signedOf (leading isDigit w)) z m
+
+headerTime-in : (x : Integer) (p : Parsed) (t : TimeValue) → headerTime x p ≡ Time t → x ≡ Is (t .seconds)
+headerTime-in (Is z) (Offset f) t e = cc
+headerTime-in (Is z) NoOffset t e = cc
+headerTime-in NoInteger p t e = let q : _≡_ {A = ℕ} 0 1 = cc in absurd (omega arith)
+
+headerOfWords-in : (ws : List (List ℕ)) (t : TimeValue) → headerOfWords ws ≡ Time t → Seconds64 (t .seconds)
+unfolding headerOfWords
+headerOfWords-in [] t e = let q : _≡_ {A = ℕ} 0 1 = cc in absurd (omega arith)
+headerOfWords-in (w ∷ ws) t e = secondsOf-in w (t .seconds) (headerTime-in (secondsOf w) (headerOffset (onlyWord ws)) t e)
+
+-- the seconds that a header is read as fit 64 bits, and it holds no `:`
+seconds-no-colon-of-headerOf : (s : List ℕ) (t : TimeValue) → headerOf s ≡ Time t → Seconds64 (t .seconds) × (has 58 s ≡ false)
+unfolding headerOf
+seconds-no-colon-of-headerOf s t e =
+    by-test (ascii s)
+    (λ a.
+    by-test (has 58 s) (λ h. let m = rw (a, h) at e in let q : _≡_ {A = ℕ} 0 1 = cc in absurd (omega arith))
+    (λ h. (headerOfWords-in (words isSpace s) t (rw (a, h) at e), h)))
+    (λ a. let m = rw a at e in let q : _≡_ {A = ℕ} 0 1 = cc in absurd (omega arith))
+
+-- ---- its offset
+has-append : (c : ℕ) (s t : List ℕ) → has c t ≡ true → has c (s ++ t) ≡ true
+has-append c [] t h = h
+has-append c (b ∷ s) t h = rw (has-cons c b (s ++ t), has-append c s t h, or-true)
+
+-- at 100 hours and more a `:` would be written for the tens of the hours
+has-colon : (t : TimeValue) → 360000 ≤ natAbs (t .offset) → natAbs (t .offset) ≤ 362439 → has 58 (headerBytes t) ≡ true
+unfolding headerBytes headerSign wholeMinutes
+has-colon t h k =
+    let n : ℕ = natAbs (t .offset) in
+    let q : 48 + n / 60 / 60 / 10 ≡ 58 = omega arith in
+    rw (signedBefore-append (t .seconds) _) (has-append 58 (signed (t .seconds)) _ (rw (has-cons, has-cons, has-cons, q, or-true)))
+
+pub stampOf-good : (s : List ℕ) (t : TimeValue) → stampOf s ≡ At t → (isWholeMinutes (t .offset) ≡ true) × (natAbs (t .offset) < 360000) × Seconds64 (t .seconds)
+stampOf-good s t e =
+    let header = seconds-no-colon-of-headerOf s t (stampOf-read s t e) in
+    let r = header-offset-in s t (stampOf-read s t e) in
+    let n : natAbs (t .offset) ≤ 362439 = omega (arith, le-parts (r .low), le-parts (r .high), natAbs-parts (t .offset), one-up (t .offset), one-dn (t .offset)) in (
+      stampOf-whole s t e,
+      by-test (leb 360000 (natAbs (t .offset)))
+          (λ k. absurd (false≢true (sym (header .1) ∙ ap (has 58) (stampOf-bytes s t e) ∙ has-colon t (leb-true 360000 (natAbs (t .offset)) k) n)))
+          (λ k. leb-false 360000 (natAbs (t .offset)) k),
+      header .0,
+    )
+
+-- ---- what is written at an offset of whole minutes
+cutToMinutes-whole : (o : ℤ) → isWholeMinutes o ≡ true → cutToMinutes o ≡ o
+unfolding cutToMinutes isWholeMinutes
+cutToMinutes-whole (pos n) e = let k = eqb-true (n % 60) 0 e in let q : n / 60 * 60 ≡ n = omega arith in ap pos q
+cutToMinutes-whole (negsuc n) e = let k = eqb-true (suc n % 60) 0 e in let q : suc n / 60 * 60 ≡ suc n = omega arith in ap (λ (m : ℕ). negℤ (pos m)) q
+
+pub stampOf-headerBytes : (t : TimeValue) → Seconds64 (t .seconds) → natAbs (t .offset) < 360000 → isWholeMinutes (t .offset) ≡ true → stampOf (headerBytes t) ≡ At t
+unfolding stampOf
+stampOf-headerBytes t r h w = rw (header-read-back t r h, cutToMinutes-whole (t .offset) w, w, same-self (headerBytes t))
+
+-- so the stamps are exactly what the header writer writes for times of 64-bit seconds at offsets of whole minutes under 100 hours
+pub stamp-is-what-the-writer-writes : (s : List ℕ) (t : TimeValue)
+    → (stampOf s ≡ At t) ↔ ((s ≡ headerBytes t) × (isWholeMinutes (t .offset) ≡ true) × (natAbs (t .offset) < 360000) × Seconds64 (t .seconds))
+stamp-is-what-the-writer-writes s t = (
+  λ e. let good = stampOf-good s t e in (stampOf-bytes s t e, good .0, good .1, good .2),
+  λ w. ap stampOf (w .0) ∙ stampOf-headerBytes t (w .3) (w .2) (w .1),
+)
