@@ -1,1 +1,3 @@
 -- The laws of books (RULES 13). In order: scans; printed numbers; stamps; fields; lines; lines written; books; listings; examples.
+pub mod Books
+pub mod Marks

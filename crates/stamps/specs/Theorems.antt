@@ -1,12 +1,18 @@
 -- What the theorems about books speak of (docs/PROMISES.md). No contract cites these.
 -- Assumes nothing.
 use Prim.Native.Nat.{ℕ}
+use mathlib.Core.Bool.{Bool, true, _&&_}
 use mathlib.Core.List.{List, [], _∷_}
 use Rattle.text.specs.declared.number.Integer.{Integer}
 use Rattle.text.specs.declared.number.Integer.the-variants.{Is, Nothing}
-use Rattle.stamps.specs.Lines.{lineOf}
+use Rattle.stamps.specs.Lines.{lineOf, isGood}
 use Rattle.stamps.specs.declared.line.Line.{Line}
 use Rattle.stamps.specs.declared.line.Line.the-variants.{Hull, Since, Bad}
+
+-- whether all of these lines are good
+unfoldable pub areGood : List Line → Bool
+areGood [] = true
+areGood (l ∷ ls) = isGood l && areGood ls
 
 -- the cut-off that a line gives
 abbrev pub cutOffIn : Line → Integer
