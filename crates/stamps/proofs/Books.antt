@@ -1,5 +1,6 @@
--- Books, line by line. In order: the first line of a text that holds a newline, of one that holds none, and of the empty text; the first
--- bad line; a book that is judged line by line, from the start, by one line more, and to the end.
+-- Books, line by line. In order: the first line of a text that holds a newline, of one that holds none, and of the empty text; lines and
+-- their bytes; the first bad line; a book without one; what a check returns; the next line; a book that is judged line by line, from the
+-- start, by one line more, and to the end.
 -- Assumes nothing.
 use mathlib.Core.Path.{_≡_, refl, sym, ap, _∙_}
 use mathlib.Core.Bool.{Bool, true, false, cond, _&&_, false≢true, and-true}
@@ -7,12 +8,12 @@ use mathlib.Core.List.{List, [], _∷_, _++_}
 use Prim.Native.Nat.{ℕ, suc, _+_, _≤_, _<_}
 use native.Mathlib.Omega.{arith}
 use native.Mathlib.Numerals.{add-one}
-use borrow.Author.Tests.{ltb-true, ltb-false, le-leb, lt-leb}
-use lib.Dec.{ltb}
-use lib.ListN.{length, take, drop, set, length-drop, length-set, length-append, drop-of-length-le}
+use borrow.Author.Tests.{ltb-true, ltb-false, le-leb, lt-leb, eqb-true}
+use lib.Dec.{ltb, eqb}
+use lib.ListN.{length, take, drop, set, length-drop, length-set, length-append, drop-of-length-le, take-append-drop}
 use lib.Seq.{drop-drop, length-take-le, sets}
 use Rattle.text.specs.Places.{firstPlace, before, has}
-use Rattle.text.specs.Lines.{newline, endedLines, takenBy, left}
+use Rattle.text.specs.Lines.{newline, ontoFirst, endedLines, takenBy, left}
 use Rattle.text.specs.declared.number.Integer.{Integer}
 use Rattle.text.specs.declared.number.Integer.the-variants.{Nothing}
 use Rattle.text.specs.declared.number.Number.{Number}
@@ -23,6 +24,7 @@ use Rattle.text.proofs.Lines.{endedLines-none, endedLines-cut}
 use Rattle.stamps.specs.Lines.{lineOf, isGood}
 use Rattle.stamps.specs.Book.{maxBook, judged, linesIn, lastPiece, firstBad, checkedAt, checkOf}
 use Rattle.stamps.specs.Listing.{isListed, cutOffBelow, listed, joined, listing}
+use Rattle.stamps.specs.Theorems.{areGood}
 use Rattle.stamps.specs.Held.{FirstLine, NextLine, markOf, marksOf, badNumber}
 use Rattle.stamps.specs.declared.line.Line.{Line}
 use Rattle.stamps.specs.declared.line.Line.the-variants.{Hull, Since, Bad}
@@ -40,7 +42,7 @@ module _ (s : List ℕ) (h : has newline s ≡ true) where
   unfolding has
   firstPlace-lt = ltb-true _ _ h
 
-  pub length-before : length (before newline s) ≡ firstPlace newline s
+  length-before : length (before newline s) ≡ firstPlace newline s
   length-before = length-take-le (firstPlace newline s) s (omega (arith, firstPlace-lt))
 
   pub endedLines-first : endedLines s ≡ before newline s ∷ endedLines (behind s)
@@ -53,7 +55,7 @@ module _ (s : List ℕ) (h : has newline s ≡ true) where
       let e : length (before newline s) + 1 + n ≡ firstPlace newline s + 1 + n = omega (arith, length-before) in
       ap (λ (ls : List (List ℕ)). drop (takenBy ls) s) endedLines-first ∙ ap (λ (k : ℕ). drop k s) e ∙ sym (drop-drop n (firstPlace newline s + 1) s)
 
-  pub linesIn-first : (bound : ℕ) → linesIn bound s ≡ lineOf bound (before newline s) ∷ linesIn bound (behind s)
+  linesIn-first : (bound : ℕ) → linesIn bound s ≡ lineOf bound (before newline s) ∷ linesIn bound (behind s)
   unfolding linesIn judged
   linesIn-first bound = (λ i. judged bound (endedLines-first i) ++ lastPiece (left-first i))
 
@@ -66,13 +68,43 @@ pub left-open : (s : List ℕ) → endedLines s ≡ [] → left s ≡ s
 unfolding left takenBy
 left-open s e = ap (λ (ls : List (List ℕ)). drop (takenBy ls) s) e
 
-pub linesIn-open : (bound : ℕ) (s : List ℕ) → endedLines s ≡ [] → linesIn bound s ≡ lastPiece s
+linesIn-open : (bound : ℕ) (s : List ℕ) → endedLines s ≡ [] → linesIn bound s ≡ lastPiece s
 unfolding linesIn judged
 linesIn-open bound s e = (λ i. judged bound (e i) ++ lastPiece (left-open s e i))
 
 pub endedLines-nil : endedLines [] ≡ []
 unfolding endedLines
 endedLines-nil = refl
+
+-- ---- lines and their bytes
+pub length-joined : (ls : List (List ℕ)) → length (joined ls) ≡ takenBy ls
+unfolding joined takenBy
+length-joined [] = refl
+length-joined (l ∷ ls) = omega (arith, length-append l (newline ∷ joined ls), length-joined ls)
+
+joined-ontoFirst : (b : ℕ) (s : List ℕ) (ls : List (List ℕ)) → joined ls ≡ take (takenBy ls) s → joined (ontoFirst b ls) ≡ take (takenBy (ontoFirst b ls)) (b ∷ s)
+unfolding joined takenBy
+joined-ontoFirst b s [] e = refl
+joined-ontoFirst b s (l ∷ ls) e =
+    let n : suc (length l + 1 + takenBy ls) ≡ suc (length l) + 1 + takenBy ls = omega arith in
+    ap (λ (t : List ℕ). b ∷ t) e ∙ ap (λ (k : ℕ). take k (b ∷ s)) n
+
+joined-take : (s : List ℕ) → joined (endedLines s) ≡ take (takenBy (endedLines s)) s
+unfolding endedLines joined takenBy
+joined-take [] = refl
+joined-take (b ∷ s) =
+    let n : suc (takenBy (endedLines s)) ≡ 0 + 1 + takenBy (endedLines s) = omega arith in
+    by-test (eqb b newline)
+    (λ e. rw e ((λ i. sym (eqb-true b newline e) i ∷ joined-take s i) ∙ ap (λ (k : ℕ). take k (b ∷ s)) n))
+    (λ e. rw e (joined-ontoFirst b s (endedLines s) (joined-take s)))
+
+-- a text is its lines, and what is left behind them
+pub joined-endedLines : (s : List ℕ) → joined (endedLines s) ++ left s ≡ s
+unfolding left
+joined-endedLines s = ap (λ (t : List ℕ). t ++ drop (takenBy (endedLines s)) s) (joined-take s) ∙ take-append-drop (takenBy (endedLines s)) s
+
+pub takenBy-le : (s : List ℕ) → takenBy (endedLines s) ≤ length s
+takenBy-le s = omega (arith, ap length (joined-endedLines s), length-append (joined (endedLines s)) (left s), length-joined (endedLines s))
 
 -- ---- the first bad line
 pub firstBad-good : (n : ℕ) (l : Line) (ls : List Line) → isGood l ≡ true → firstBad n (l ∷ ls) ≡ firstBad (suc n) ls
@@ -109,17 +141,53 @@ firstBad-last n [] h = absurd (omega arith)
 firstBad-last n (b ∷ s) h = refl
 
 module _ (bound n : ℕ) (s : List ℕ) where
-  pub firstBad-first : (isGood (lineOf bound (before newline s)) && has newline s) ≡ true → firstBad n (linesIn bound s) ≡ firstBad (suc n) (linesIn bound (behind s))
+  firstBad-first : (isGood (lineOf bound (before newline s)) && has newline s) ≡ true → firstBad n (linesIn bound s) ≡ firstBad (suc n) (linesIn bound (behind s))
   firstBad-first e =
       let p = both _ _ e in
       ap (firstBad n) (linesIn-first s (p .1) bound) ∙ firstBad-good n (lineOf bound (before newline s)) (linesIn bound (behind s)) (p .0)
 
   -- the first line is bad, or it has no newline
-  pub firstBad-stop : 0 < length s → (isGood (lineOf bound (before newline s)) && has newline s) ≡ false → firstBad n (linesIn bound s) ≡ Value n
+  firstBad-stop : 0 < length s → (isGood (lineOf bound (before newline s)) && has newline s) ≡ false → firstBad n (linesIn bound s) ≡ Value n
   firstBad-stop some e =
       by-test (has newline s)
       (λ h. ap (firstBad n) (linesIn-first s h bound) ∙ firstBad-bad n (lineOf bound (before newline s)) (linesIn bound (behind s)) (rw (h, and-true) at e))
       (λ h. ap (firstBad n) (linesIn-open bound s (endedLines-open s h)) ∙ firstBad-last n s some)
+
+-- ---- good lines
+firstBad-of-good : (n : ℕ) (ls : List Line) → areGood ls ≡ true → firstBad n ls ≡ NoNumber
+unfolding areGood firstBad
+firstBad-of-good n [] g = refl
+firstBad-of-good n (l ∷ ls) g = let p = both (isGood l) (areGood ls) g in firstBad-good n l ls (p .0) ∙ firstBad-of-good (suc n) ls (p .1)
+
+good-of-firstBad : (n : ℕ) (ls : List Line) → firstBad n ls ≡ NoNumber → areGood ls ≡ true
+unfolding areGood firstBad
+good-of-firstBad n [] e = refl
+good-of-firstBad n (Hull h ∷ ls) e = good-of-firstBad (suc n) ls e
+good-of-firstBad n (Since x ∷ ls) e = good-of-firstBad (suc n) ls e
+good-of-firstBad n (Bad ∷ ls) e = let z : _≡_ {A = ℕ} 0 1 = cc in absurd (omega arith)
+
+pub areGood-append : (a b : List Line) → areGood (a ++ b) ≡ (areGood a && areGood b)
+unfolding areGood
+areGood-append [] b = refl
+areGood-append (l ∷ a) b = by-test (isGood l) (λ e. rw (e, areGood-append a b)) (λ e. rw e)
+
+areGood-lastPiece : (s : List ℕ) → areGood (lastPiece s) ≡ true → s ≡ []
+unfolding areGood
+areGood-lastPiece [] g = refl
+areGood-lastPiece (b ∷ s) g = absurd (false≢true g)
+
+module _ (bound : ℕ) (book : List ℕ) where
+  -- no line of a book is bad exactly if the lines that have their end are good and nothing is left behind them
+  pub good-book : firstBad 1 (linesIn bound book) ≡ NoNumber → (areGood (judged bound (endedLines book)) ≡ true) × (left book ≡ [])
+  unfolding linesIn
+  good-book e =
+      let lines = judged bound (endedLines book) in
+      let p = both (areGood lines) (areGood (lastPiece (left book))) (sym (areGood-append lines (lastPiece (left book))) ∙ good-of-firstBad 1 (linesIn bound book) e) in
+      (p .0, areGood-lastPiece (left book) (p .1))
+
+  pub book-of-good : areGood (judged bound (endedLines book)) ≡ true → left book ≡ [] → firstBad 1 (linesIn bound book) ≡ NoNumber
+  unfolding linesIn areGood
+  book-of-good g e = firstBad-of-good 1 (linesIn bound book) (areGood-append (judged bound (endedLines book)) (lastPiece (left book)) ∙ rw (g, e))
 
 -- ---- what a check returns, by the number of the first bad line
 module _ (bound : ℕ) (book : List ℕ) where

@@ -1,9 +1,9 @@
--- Marks of lines. In order: the marks of lines pick those that are listed; lines and their bytes; a good line has at least 10 bytes, so
--- that the marks of a good book have their places; marked lines that are copied one after the other, from the start, by one line more, and
--- to the end.
+-- Marks of lines. In order: the marks of lines pick those that are listed; a good line has at least 10 bytes, so that the marks of a good
+-- book have their places; marked lines that are copied one after the other, from the start, by one line more, and to the end; what a call
+-- that lists a book returns.
 -- Assumes nothing.
 use mathlib.Core.Path.{_≡_, refl, sym, ap, _∙_}
-use mathlib.Core.Bool.{Bool, true, false, cond, _&&_, false≢true}
+use mathlib.Core.Bool.{Bool, true, cond, _&&_, false≢true}
 use mathlib.Core.List.{List, [], _∷_, _++_, append-assoc}
 use Prim.Native.Nat.{ℕ, suc, _+_, _*_, _≤_, _<_}
 use native.Mathlib.Nat.{zero-add}
@@ -11,13 +11,13 @@ use native.Mathlib.Omega.{arith}
 use native.Mathlib.Numerals.{add-one}
 use borrow.Author.Tests.{le-leb, lt-leb, ltb-true, ltb-false, eqb-true, eqb-false}
 use lib.Dec.{ltb, eqb}
-use lib.ListN.{length, take, drop, getD, set, length-take, length-drop, length-append, drop-of-length-le, take-append-drop}
-use lib.Seq.{drop-drop, length-take-le, take-suc, sets, sets-eq, length-sets}
+use lib.ListN.{length, take, drop, getD, set, length-take, length-drop, length-append, drop-of-length-le}
+use lib.Seq.{drop-drop, take-suc, sets, sets-eq, length-sets}
 use Rattle.text.specs.Bytes.{same}
 use Rattle.text.specs.Quote.{bytes}
 use Rattle.text.specs.Number.{signedOf}
 use Rattle.text.specs.Places.{firstPlace, before, has}
-use Rattle.text.specs.Lines.{tab, newline, field, rest, ontoFirst, endedLines, takenBy, left}
+use Rattle.text.specs.Lines.{tab, newline, field, rest, endedLines, takenBy, left}
 use Rattle.text.specs.Room.{roomAfter}
 use Rattle.text.specs.declared.number.Integer.{Integer}
 use Rattle.text.specs.declared.number.Integer.the-variants.{Is, Nothing}
@@ -28,19 +28,18 @@ use Rattle.time.specs.declared.Refusal.{Refusal}
 use Rattle.time.specs.declared.Refusal.the-variants.{Room}
 use Rattle.stamps.specs.Stamps.{printed}
 use Rattle.stamps.specs.Lines.{every, isPath, isHexDigit, isKey, hullOf, sinceWith, sinceOf, lineOf, isGood}
-use Rattle.stamps.specs.Book.{maxBook, judged, lastPiece, linesIn, firstBad, checkOf}
+use Rattle.stamps.specs.Book.{maxBook, judged, linesIn, firstBad, checkOf}
 use Rattle.stamps.specs.Theorems.{areGood}
 use Rattle.stamps.specs.Listing.{isListed, cutOffBelow, listed, joined, listing, listOf, isWritten}
-use Rattle.stamps.specs.Held.{markOf, marksOf, picked}
-use Rattle.stamps.specs.declared.line.Line.{Line}
-use Rattle.stamps.specs.declared.line.Line.the-variants.{Hull, Since, Bad}
+use Rattle.stamps.specs.Held.{marksOf, picked}
+use Rattle.stamps.specs.declared.line.Line.the-variants.{Bad}
 use Rattle.stamps.specs.declared.book.Checked.the-variants.{Good, Refused as NotGood}
 use Rattle.stamps.specs.declared.book.Listed.{Listed}
 use Rattle.stamps.specs.declared.book.Listed.the-variants.{Length, Refused}
-use Rattle.stamps.proofs.Books.{firstBad-good, firstBad-bad, behind, firstPlace-lt, endedLines-first, left-first, endedLines-open, left-open, endedLines-nil}
+use Rattle.stamps.proofs.Books.{takenBy-le, good-book, behind, firstPlace-lt, endedLines-first, left-first, endedLines-open, left-open, endedLines-nil}
 
 -- ---- the marks of lines pick those that are listed
-pub picked-marksOf : (bound : ℕ) (c : Integer) (ls : List (List ℕ)) (more : List ℕ) → picked (marksOf bound c ls ++ more) ls ≡ listed bound c ls
+picked-marksOf : (bound : ℕ) (c : Integer) (ls : List (List ℕ)) (more : List ℕ) → picked (marksOf bound c ls ++ more) ls ≡ listed bound c ls
 unfolding marksOf picked listed
 picked-marksOf bound c [] [] = refl
 picked-marksOf bound c [] (m ∷ more) = refl
@@ -48,43 +47,16 @@ picked-marksOf bound c (l ∷ ls) more =
     by-test (isListed c (lineOf bound l)) (λ e. rw (e, picked-marksOf bound (cutOffBelow c (lineOf bound l)) ls more))
     (λ e. rw (e, picked-marksOf bound (cutOffBelow c (lineOf bound l)) ls more))
 
-pub length-marksOf : (bound : ℕ) (c : Integer) (ls : List (List ℕ)) → length (marksOf bound c ls) ≡ length ls
+length-marksOf : (bound : ℕ) (c : Integer) (ls : List (List ℕ)) → length (marksOf bound c ls) ≡ length ls
 unfolding marksOf
 length-marksOf bound c [] = refl
 length-marksOf bound c (l ∷ ls) = ap suc (length-marksOf bound (cutOffBelow c (lineOf bound l)) ls)
 
 -- set in a buffer that has a place for each
-pub picked-sets : (bound : ℕ) (ls : List (List ℕ)) (ms : List ℕ) → length ls ≤ length ms → picked (sets ms 0 (marksOf bound Nothing ls)) ls ≡ listed bound Nothing ls
+picked-sets : (bound : ℕ) (ls : List (List ℕ)) (ms : List ℕ) → length ls ≤ length ms → picked (sets ms 0 (marksOf bound Nothing ls)) ls ≡ listed bound Nothing ls
 picked-sets bound ls ms h =
     let marks = marksOf bound Nothing ls in
     ap (λ (v : List ℕ). picked v ls) (sets-eq marks ms 0 (omega (arith, length-marksOf bound Nothing ls))) ∙ picked-marksOf bound Nothing ls (drop (0 + length marks) ms)
-
--- ---- lines and their bytes
-pub length-joined : (ls : List (List ℕ)) → length (joined ls) ≡ takenBy ls
-unfolding joined takenBy
-length-joined [] = refl
-length-joined (l ∷ ls) = omega (arith, length-append l (newline ∷ joined ls), length-joined ls)
-
-joined-ontoFirst : (b : ℕ) (s : List ℕ) (ls : List (List ℕ)) → joined ls ≡ take (takenBy ls) s → joined (ontoFirst b ls) ≡ take (takenBy (ontoFirst b ls)) (b ∷ s)
-unfolding joined takenBy
-joined-ontoFirst b s [] e = refl
-joined-ontoFirst b s (l ∷ ls) e =
-    let n : suc (length l + 1 + takenBy ls) ≡ suc (length l) + 1 + takenBy ls = omega arith in
-    ap (λ (t : List ℕ). b ∷ t) e ∙ ap (λ (k : ℕ). take k (b ∷ s)) n
-
-joined-take : (s : List ℕ) → joined (endedLines s) ≡ take (takenBy (endedLines s)) s
-unfolding endedLines joined takenBy
-joined-take [] = refl
-joined-take (b ∷ s) =
-    let n : suc (takenBy (endedLines s)) ≡ 0 + 1 + takenBy (endedLines s) = omega arith in
-    by-test (eqb b newline)
-    (λ e. rw e ((λ i. sym (eqb-true b newline e) i ∷ joined-take s i) ∙ ap (λ (k : ℕ). take k (b ∷ s)) n))
-    (λ e. rw e (joined-ontoFirst b s (endedLines s) (joined-take s)))
-
--- a text is its lines, and what is left behind them
-pub joined-endedLines : (s : List ℕ) → joined (endedLines s) ++ left s ≡ s
-unfolding left
-joined-endedLines s = ap (λ (t : List ℕ). t ++ drop (takenBy (endedLines s)) s) (joined-take s) ∙ take-append-drop (takenBy (endedLines s)) s
 
 -- ---- a good line has at least 10 bytes
 -- a field, its tab and what follows
@@ -126,7 +98,7 @@ hull-length l time g =
     omega (arith, length-take (firstPlace tab (rest (rest l))) (rest (rest l)), length-drop (firstPlace tab (rest l) + 1) (rest l), length-drop (firstPlace tab l + 1) l))
     (λ e. absurd (false≢true (rw e at g)))
 
-pub length-good : (bound : ℕ) (l : List ℕ) → isGood (lineOf bound l) ≡ true → 10 ≤ length l
+length-good : (bound : ℕ) (l : List ℕ) → isGood (lineOf bound l) ≡ true → 10 ≤ length l
 unfolding lineOf
 length-good bound l g =
     by-test (has newline l) (λ e. absurd (false≢true (rw e at g)))
@@ -137,24 +109,10 @@ length-good bound l g =
     (λ k. absurd (false≢true (rw (e, h, k) at g)))))
 
 -- so each takes at least 11 bytes of a book
-pub lines-fit : (bound : ℕ) (ls : List (List ℕ)) → areGood (judged bound ls) ≡ true → 11 * length ls ≤ takenBy ls
+lines-fit : (bound : ℕ) (ls : List (List ℕ)) → areGood (judged bound ls) ≡ true → 11 * length ls ≤ takenBy ls
 unfolding areGood judged takenBy
 lines-fit bound [] g = omega arith
 lines-fit bound (l ∷ ls) g = let p = both (isGood (lineOf bound l)) (areGood (judged bound ls)) g in omega (arith, length-good bound l (p .0), lines-fit bound ls (p .1))
-
-pub takenBy-le : (s : List ℕ) → takenBy (endedLines s) ≤ length s
-takenBy-le s = omega (arith, ap length (joined-endedLines s), length-append (joined (endedLines s)) (left s), length-joined (endedLines s))
-
--- no line is bad
-pub good-lines : (bound n : ℕ) (ls : List (List ℕ)) (end : List ℕ) → firstBad n (judged bound ls ++ lastPiece end) ≡ NoNumber → (areGood (judged bound ls) ≡ true) × (end ≡ [])
-unfolding judged areGood firstBad
-good-lines bound n [] [] e = (refl, refl)
-good-lines bound n [] (b ∷ s) e = let z : _≡_ {A = ℕ} 0 1 = cc in absurd (omega arith)
-good-lines bound n (l ∷ ls) end e =
-    let more = judged bound ls ++ lastPiece end in
-    by-test (isGood (lineOf bound l))
-    (λ g. rw g (good-lines bound (suc n) ls end (sym (firstBad-good n (lineOf bound l) more g) ∙ e)))
-    (λ g. let f = sym (firstBad-bad n (lineOf bound l) more g) ∙ e in let z : _≡_ {A = ℕ} 0 1 = cc in absurd (omega arith))
 
 -- the marks of a good book pick its listing
 pub marked-book : (bound : ℕ) (book was marks : List ℕ) → length book ≤ maxBook → 5957 ≤ length was → firstBad 1 (linesIn bound book) ≡ NoNumber
@@ -162,7 +120,7 @@ pub marked-book : (bound : ℕ) (book was marks : List ℕ) → length book ≤ 
 unfolding linesIn listing
 marked-book bound book was marks within places good is =
     let ls = endedLines book in
-    let p = good-lines bound 1 ls (left book) good in
+    let p = good-book bound book good in
     let h : length ls ≤ length was = omega (arith, lines-fit bound ls (p .0), takenBy-le book) in
     (p .1, ap (λ (ms : List ℕ). joined (picked ms ls)) is ∙ ap joined (picked-sets bound ls was h))
 
@@ -225,7 +183,7 @@ copying-start book marks room e h = record { within = omega arith; fewer = omega
 
 module _ {book marks was room : List ℕ} {at n w : ℕ} (k : Copying book marks was room at n w) where
   module _ (s part : List ℕ) (e size : ℕ) (marked : Bool) (is : s ≡ drop at book) (some : at < length book) (place : e ≡ firstPlace newline s)
-    (mark : marked ≡ eqb (getD marks n 0) 1) (size-is : size ≡ cond marked (e + 1) 0) (part-is : part ≡ take size s) where
+      (mark : marked ≡ eqb (getD marks n 0) 1) (size-is : size ≡ cond marked (e + 1) 0) (part-is : part ≡ take size s) where
     holds : has newline s ≡ true
     holds = has-newline-of-left s (omega (arith, ap length is, length-drop at book)) (ap left is ∙ k .ended)
 

@@ -1,6 +1,6 @@
 -- `stamps::book::next_line` meets its contract, by the kind of the line.
 -- Assumes nothing.
-use mathlib.Core.Path.{refl, sym, ap, _∙_}
+use mathlib.Core.Path.{sym, ap, _∙_}
 use mir.Syntax.{w64}
 use lib.IntN.{ℤ}
 use borrow.Author.Needs.{needs}
