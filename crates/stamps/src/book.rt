@@ -101,7 +101,7 @@ pub fn list_with(months: &[u32], book: &[u8], room: &mut [u8]) -> Listed
 }
 
 // A buffer for marks.
-fn no_marks() -> [u8; 5957]
+fn no_marks() -> [u8; MARKS]
     ensures { λ r. ⌜ 5957 ≡ length r ⌝ }
 {
     [0; MARKS]
@@ -216,7 +216,7 @@ fn size_if(listed: bool, size: usize) -> usize
     0
 }
 
-// The mark of line n, counted from 0, if there is a place for it.
+// Marks line n, counted from 0, if there is a place for its mark.
 fn put_mark(listed: bool, n: usize, marks: &mut [u8])
     ensures { λ _. ⌜ now (marks .exit) ≡ set (now (marks .entry)) n (markOf listed) ⌝ }
 {
@@ -248,6 +248,7 @@ fn copy_marked(book: &[u8], marks: &[u8], room: &mut [u8])
     while at < book.len() {
         let rest = places::from(book, at);
         let size = places::first_place(rest, b'\n') + 1;
+        // Of a line that is not marked no byte is copied.
         let line = places::up_to(rest, size_if(is_marked(marks, n), size));
         written = put::put_part(line, written, room);
         at += size;
