@@ -81,17 +81,17 @@ module _ (bound : ℕ) where
       by-test (isListed c x) (λ y. rw (y, hull-of-listed c x y, below)) (λ n. rw n below)
 
   -- without a `since` line all `hull` lines are listed
-  no-since : (x : Line) → isSinceLine x ≡ false → (isListed Nothing x ≡ isHullLine x) × (cutOffBelow Nothing x ≡ Nothing)
-  no-since (Hull h) e = (refl, refl)
-  no-since (Since x) e = absurd (false≢true (sym e))
-  no-since Bad e = (refl, refl)
+  isListed-of-not-since : (x : Line) → isSinceLine x ≡ false → (isListed Nothing x ≡ isHullLine x) × (cutOffBelow Nothing x ≡ Nothing)
+  isListed-of-not-since (Hull h) e = (refl, refl)
+  isListed-of-not-since (Since x) e = absurd (false≢true (sym e))
+  isListed-of-not-since Bad e = (refl, refl)
 
   pub no-since-lists-all-hulls : (ls : List (List ℕ)) → hasSince bound ls ≡ false → listed bound Nothing ls ≡ hullsOf bound ls
   unfolding listed hullsOf hasSince
   no-since-lists-all-hulls [] h = refl
   no-since-lists-all-hulls (l ∷ ls) h =
       by-test (isSinceLine (lineOf bound l)) (λ y. absurd (false≢true (sym (rw y at h))))
-      (λ n. let p = no-since (lineOf bound l) n in rw (p .0, p .1, no-since-lists-all-hulls ls (rw n at h)))
+      (λ n. let p = isListed-of-not-since (lineOf bound l) n in rw (p .0, p .1, no-since-lists-all-hulls ls (rw n at h)))
 
 -- ---- which books are good
 checked-good : (x : Number) → checkedAt x ≡ Good → x ≡ NoNumber
@@ -107,15 +107,15 @@ checkOf-within : (bound : ℕ) (book : List ℕ) → length book ≤ maxBook →
 unfolding checkOf
 checkOf-within bound book h = rw (le-leb (length book) maxBook h)
 
-within-of : (bound : ℕ) (book : List ℕ) (r : Checked) → checkOf bound book ≡ r → (Refused Book 0 ≡ r → ⊥) → length book ≤ maxBook
+le-maxBook-of-checkOf : (bound : ℕ) (book : List ℕ) (r : Checked) → checkOf bound book ≡ r → (Refused Book 0 ≡ r → ⊥) → length book ≤ maxBook
 unfolding checkOf
-within-of bound book r e not =
+le-maxBook-of-checkOf bound book r e not =
     by-test (leb (length book) maxBook) (λ y. leb-true (length book) maxBook y) (λ n. absurd (not (rw n at e)))
 
 pub good-book-iff : (bound : ℕ) (book : List ℕ) → (checkOf bound book ≡ Good) ↔ ((length book ≤ maxBook) × (left book ≡ []) × (areGood (judged bound (endedLines book)) ≡ true))
 good-book-iff bound book = (
   λ e.
-      let h = within-of bound book Good e (λ q. let z : _≡_ {A = ℕ} 0 1 = cc in omega arith) in
+      let h = le-maxBook-of-checkOf bound book Good e (λ q. let z : _≡_ {A = ℕ} 0 1 = cc in omega arith) in
       let p = good-book bound book (checked-good (firstBad 1 (linesIn bound book)) (sym (checkOf-within bound book h) ∙ e)) in
       (h, p .1, p .0),
   λ c. checkOf-within bound book (c .0) ∙ ap checkedAt (book-of-good bound book (c .2) (c .1)),
@@ -159,7 +159,7 @@ pub refused-at-line-iff : (bound n : ℕ) (book : List ℕ)
     ↔ ((length book ≤ maxBook) × (areGood (take n (linesIn bound book)) ≡ true) × (drop n (linesIn bound book) ≡ Bad ∷ drop (suc n) (linesIn bound book)))
 refused-at-line-iff bound n book = (
   λ e.
-      let h = within-of bound book (Refused Book (1 + n)) e (λ q. let z : 0 ≡ 1 + n = cc in omega arith) in
+      let h = le-maxBook-of-checkOf bound book (Refused Book (1 + n)) e (λ q. let z : 0 ≡ 1 + n = cc in omega arith) in
       let p = at-firstBad 1 n (linesIn bound book) (checked-at (firstBad 1 (linesIn bound book)) (1 + n) (sym (checkOf-within bound book h) ∙ e)) in
       (h, p .0, p .1),
   λ c. checkOf-within bound book (c .0) ∙ ap checkedAt (firstBad-at 1 n (linesIn bound book) (c .1, c .2)),
@@ -195,16 +195,16 @@ left-joined ls h =
     ap (λ (t : List (List ℕ)). drop (takenBy t) (joined ls)) (endedLines-joined ls h) ∙ ap (λ (n : ℕ). drop n (joined ls)) (sym (length-joined ls)) ∙ drop-length (joined ls)
 
 -- a line that is good holds no newline
-no-newline : (bound : ℕ) (l : List ℕ) → isGood (lineOf bound l) ≡ true → has newline l ≡ false
+not-has-newline-of-good : (bound : ℕ) (l : List ℕ) → isGood (lineOf bound l) ≡ true → has newline l ≡ false
 unfolding lineOf
-no-newline bound l g = by-test (has newline l) (λ y. absurd (false≢true (rw y at g))) (λ n. n)
+not-has-newline-of-good bound l g = by-test (has newline l) (λ y. absurd (false≢true (rw y at g))) (λ n. n)
 
 lacking-of-good : (bound : ℕ) (ls : List (List ℕ)) → areGood (judged bound ls) ≡ true → Lacking newline ls
 unfolding areGood judged
 lacking-of-good bound [] g = tt
 lacking-of-good bound (l ∷ ls) g =
     let p = both (isGood (lineOf bound l)) (areGood (judged bound ls)) g in
-    (no-newline bound l (p .0), lacking-of-good bound ls (p .1))
+    (not-has-newline-of-good bound l (p .0), lacking-of-good bound ls (p .1))
 
 lacking-append : (a b : List (List ℕ)) → Lacking newline a → Lacking newline b → Lacking newline (a ++ b)
 lacking-append [] b h k = k
