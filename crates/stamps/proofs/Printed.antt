@@ -141,6 +141,11 @@ pub printed-signed : (z : ℤ) → Seconds64 z → printed (signed z) ≡ Is z
 unfolding printed
 printed-signed z r = rw (fitSigned-value (2 ^ 63) (signedOf (signed z)) z (fitSigned-signed z r), same-self (signed z))
 
+-- in 64 bits
+pub fitSigned-printed-signed : (z : ℤ) → Seconds64 z → fitSigned (2 ^ 63) (printed (signed z)) ≡ Is z
+fitSigned-printed-signed z r =
+    ap (fitSigned (2 ^ 63)) (printed-signed z r ∙ sym (fitSigned-value (2 ^ 63) (signedOf (signed z)) z (fitSigned-signed z r))) ∙ fitSigned-signed z r
+
 printedAs-bytes : (x : Integer) (s : List ℕ) (z : ℤ) → printedAs x s ≡ Is z → s ≡ signed z
 printedAs-bytes (Is y) s z e =
     by-test (same s (signed y)) (λ k. let q : y ≡ z = cc (rw k at e) in eq-of-same s (signed y) k ∙ ap signed q)

@@ -40,33 +40,33 @@ use Rattle.stamps.proofs.Printed.{same-self, eq-of-same}
 
 -- ---- what a stamp says about its text
 -- it is read as that time, at whole minutes, and it is what is written for that time
-stampAs-told : (a : Answer) (s : List ℕ) (t : TimeValue) → stampAs a s ≡ At t → (a ≡ Time t) × (isWholeMinutes (t .offset) ≡ true) × (s ≡ headerBytes t)
-stampAs-told (Time u) s t e =
+time-of-stampAs : (a : Answer) (s : List ℕ) (t : TimeValue) → stampAs a s ≡ At t → (a ≡ Time t) × (isWholeMinutes (t .offset) ≡ true) × (s ≡ headerBytes t)
+time-of-stampAs (Time u) s t e =
     by-test (isWholeMinutes (u .offset) && same s (headerBytes u))
     (λ k.
     let q : u ≡ t = cc (rw k at e) in
     let p = both (isWholeMinutes (u .offset)) (same s (headerBytes u)) k in
     (ap Time q, ap (λ (v : TimeValue). isWholeMinutes (v .offset)) (sym q) ∙ p .0, eq-of-same s (headerBytes u) (p .1) ∙ ap headerBytes q))
     (λ k. let m = rw k at e in let q : _≡_ {A = ℕ} 0 1 = cc in absurd (omega arith))
-stampAs-told (Refused r) s t e = let q : _≡_ {A = ℕ} 0 1 = cc in absurd (omega arith)
+time-of-stampAs (Refused r) s t e = let q : _≡_ {A = ℕ} 0 1 = cc in absurd (omega arith)
 
 module _ (s : List ℕ) (t : TimeValue) (e : stampOf s ≡ At t) where
   pub stampOf-read : headerOf s ≡ Time t
   unfolding stampOf
-  stampOf-read = stampAs-told (headerOf s) s t e .0
+  stampOf-read = time-of-stampAs (headerOf s) s t e .0
 
   pub stampOf-whole : isWholeMinutes (t .offset) ≡ true
   unfolding stampOf
-  stampOf-whole = stampAs-told (headerOf s) s t e .1
+  stampOf-whole = time-of-stampAs (headerOf s) s t e .1
 
   pub stampOf-bytes : s ≡ headerBytes t
   unfolding stampOf
-  stampOf-bytes = stampAs-told (headerOf s) s t e .2
+  stampOf-bytes = time-of-stampAs (headerOf s) s t e .2
 
 -- ---- its seconds
-number64-in : (x : Integer) (z : ℤ) → fitSigned (2 ^ 63) x ≡ Is z → Seconds64 z
+pub Seconds64-of-fitSigned : (x : Integer) (z : ℤ) → fitSigned (2 ^ 63) x ≡ Is z → Seconds64 z
 unfolding fitSigned
-number64-in (Is y) z e =
+Seconds64-of-fitSigned (Is y) z e =
     let lo : ℤ = negℤ (pos (2 ^ 63)) in
     let hi : ℤ = pos (2 ^ 63) in
     by-test (leZ lo y && ltZ y hi)
@@ -75,15 +75,15 @@ number64-in (Is y) z e =
     let p = both (leZ lo y) (ltZ y hi) k in
     rw (← q) (record { low = le-yes (lit lo) (lit y) (p .0); high = lt-pred (lt-yes (lit y) (lit hi) (p .1)) }))
     (λ k. let m = rw k at e in let q : _≡_ {A = ℕ} 0 1 = cc in absurd (omega arith))
-number64-in NoInteger z e = let q : _≡_ {A = ℕ} 0 1 = cc in absurd (omega arith)
+Seconds64-of-fitSigned NoInteger z e = let q : _≡_ {A = ℕ} 0 1 = cc in absurd (omega arith)
 
 secondsOf-in : (w : List ℕ) (z : ℤ) → secondsOf w ≡ Is z → Seconds64 z
 unfolding secondsOf
 secondsOf-in w z e = go (number64 w) refl e
   where
     go : (x : Integer) → number64 w ≡ x → numberOr x (number64 (leading isDigit w)) ≡ Is z → Seconds64 z
-    go (Is y) k m = number64-in (signedOf w) z (k ∙ m)
-    go NoInteger k m = number64-in (signedOf (leading isDigit w)) z m
+    go (Is y) k m = Seconds64-of-fitSigned (signedOf w) z (k ∙ m)
+    go NoInteger k m = Seconds64-of-fitSigned (signedOf (leading isDigit w)) z m
 
 headerTime-in : (x : Integer) (p : Parsed) (t : TimeValue) → headerTime x p ≡ Time t → x ≡ Is (t .seconds)
 headerTime-in (Is z) (Offset f) t e = cc
@@ -96,9 +96,9 @@ headerOfWords-in [] t e = let q : _≡_ {A = ℕ} 0 1 = cc in absurd (omega arit
 headerOfWords-in (w ∷ ws) t e = secondsOf-in w (t .seconds) (headerTime-in (secondsOf w) (headerOffset (onlyWord ws)) t e)
 
 -- the seconds that a header is read as fit 64 bits, and it holds no `:`
-headerOf-told : (s : List ℕ) (t : TimeValue) → headerOf s ≡ Time t → Seconds64 (t .seconds) × (has 58 s ≡ false)
+seconds-no-colon-of-headerOf : (s : List ℕ) (t : TimeValue) → headerOf s ≡ Time t → Seconds64 (t .seconds) × (has 58 s ≡ false)
 unfolding headerOf
-headerOf-told s t e =
+seconds-no-colon-of-headerOf s t e =
     by-test (ascii s)
     (λ a.
     by-test (has 58 s) (λ h. let m = rw (a, h) at e in let q : _≡_ {A = ℕ} 0 1 = cc in absurd (omega arith))
@@ -120,14 +120,14 @@ has-colon t h k =
 
 pub stampOf-good : (s : List ℕ) (t : TimeValue) → stampOf s ≡ At t → (isWholeMinutes (t .offset) ≡ true) × (natAbs (t .offset) < 360000) × Seconds64 (t .seconds)
 stampOf-good s t e =
-    let told = headerOf-told s t (stampOf-read s t e) in
+    let header = seconds-no-colon-of-headerOf s t (stampOf-read s t e) in
     let r = header-offset-in s t (stampOf-read s t e) in
     let n : natAbs (t .offset) ≤ 362439 = omega (arith, le-parts (r .low), le-parts (r .high), natAbs-parts (t .offset), one-up (t .offset), one-dn (t .offset)) in (
       stampOf-whole s t e,
       by-test (leb 360000 (natAbs (t .offset)))
-          (λ k. absurd (false≢true (sym (told .1) ∙ ap (has 58) (stampOf-bytes s t e) ∙ has-colon t (leb-true 360000 (natAbs (t .offset)) k) n)))
+          (λ k. absurd (false≢true (sym (header .1) ∙ ap (has 58) (stampOf-bytes s t e) ∙ has-colon t (leb-true 360000 (natAbs (t .offset)) k) n)))
           (λ k. leb-false 360000 (natAbs (t .offset)) k),
-      told .0,
+      header .0,
     )
 
 -- ---- what is written at an offset of whole minutes

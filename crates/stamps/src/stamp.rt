@@ -3,7 +3,7 @@
 // has as many bytes as its plain decimal, so nothing is written and compared.
 ghost use mathlib.Core.Path.{_≡_};
 ghost use mathlib.Core.Bool.{true};
-ghost use Prim.Native.Nat.{_<_};
+ghost use Prim.Native.Nat.{_≤_, _<_};
 ghost use lib.ListN.{drop};
 ghost use Rattle.text.specs.Bytes.{isDigit};
 ghost use Rattle.text.specs.Places.{before};
@@ -116,10 +116,10 @@ fn are_digits(h: u8, hh: u8, m: u8, mm: u8) -> bool
     (bytes::is_digit(h) & bytes::is_digit(hh)) & (bytes::is_digit(m) & bytes::is_digit(mm))
 }
 
-// Two digits of hours and two of minutes, in seconds.
+// Two digits of hours and two of minutes, in seconds: at most 99 hours and 99 minutes.
 fn clock_size(h: u8, hh: u8, m: u8, mm: u8) -> u64
     requires { ⌜ fourDigits h hh m mm ≡ true ⌝ }
-    ensures { λ r. ⌜ (r ≡ clockSize h hh m mm) × (r < 362400) ⌝ }
+    ensures { λ r. ⌜ (r ≡ clockSize h hh m mm) × (r ≤ 362340) ⌝ }
 {
     two_digits(h, hh) * SECONDS_PER_HOUR + two_digits(m, mm) * SECONDS_PER_MINUTE
 }
@@ -133,7 +133,7 @@ fn two_digits(tens: u8, ones: u8) -> u64
 
 // An offset of this size. Offset 0 has no `-`.
 fn with_sign(minus: bool, size: u64) -> Integer
-    requires { ⌜ size < 362400 ⌝ }
+    requires { ⌜ size ≤ 362340 ⌝ }
     ensures { λ r. ⌜ r ≡ offsetWith minus size ⌝ }
 {
     if minus {
