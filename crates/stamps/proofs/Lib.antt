@@ -10,5 +10,6 @@ pub mod Reading
 pub mod Books
 pub mod Marks
 pub mod Listings
+pub mod WriteBack
 pub mod Examples
 pub mod BookExamples

@@ -5,13 +5,13 @@
 use mathlib.Core.Path.{_≡_, refl, sym, ap, _∙_}
 use mathlib.Core.Bool.{Bool, true, false, not, _&&_, _||_, false≢true, and-false}
 use mathlib.Core.List.{List, [], _∷_, _++_}
-use Prim.Native.Nat.{ℕ, zero, suc, _+_, _-_, _^_, _≤_, _<_}
+use Prim.Native.Nat.{ℕ, _+_, _-_, _^_, _≤_, _<_}
 use native.Mathlib.Omega.{arith}
 use native.Mathlib.Nat.{zero-add}
 use borrow.Author.Tests.{eqb-true, ltb-true, ltb-false, lt-ltb, le-ltb, leb-true, le-leb, eqb-false, ne-eqb, eq-eqb}
 use lib.Dec.{leb, ltb, eqb}
 use lib.IntN.{ℤ, pos, negsuc, negℤ}
-use lib.ListN.{length, getD, take, drop, length-drop}
+use lib.ListN.{length, take, drop, length-drop}
 use lib.Seq.{length-take-le, take-nil, drop-nil, take-all}
 use lib.Signed.{leZ, ltZ, _≤ℤ_, _<ℤ_}
 use Rattle.ints.specs.Range.{In, isIn}
@@ -30,7 +30,7 @@ use Rattle.text.proofs.Lists.{by-test, both}
 use Rattle.text.proofs.Runs.{run-le-length, has-nil}
 use Rattle.text.proofs.Texts.{not-has-cons}
 use Rattle.text.proofs.Numbers.{signedOf-of-numeral-lt}
-use Rattle.time.specs.Header.{headerBytes, sizeOf}
+use Rattle.time.specs.Header.{sizeOf}
 use Rattle.time.specs.Answers.{timeAt}
 use Rattle.time.specs.Range.{leastSeconds, mostSeconds, secondsInRange, leastOffset, mostOffset, offsetInRange, timeInRange}
 use Rattle.time.specs.declared.Time.{Time}
@@ -99,7 +99,7 @@ module _ (path key time : List ℕ) where
   unfolding hullOf
   hullOf-stamp e d = rw (e, d)
 
-sizeOf-pos : (z : ℤ) → 0 < sizeOf z
+pub sizeOf-pos : (z : ℤ) → 0 < sizeOf z
 unfolding sizeOf
 sizeOf-pos z = omega arith
 
@@ -250,8 +250,7 @@ fitSigned-of-either half z P y n = by-test (leZ (negℤ (pos half)) z && ltZ z (
 fits-of-timeInRange : (z o : ℤ) → timeInRange (timeAt z o) ≡ true → (fitSigned (2 ^ 63) (Is z) ≡ Is z) × (fitSigned (2 ^ 31) (Is o) ≡ Is o)
 unfolding timeInRange secondsInRange offsetInRange
 fits-of-timeInRange z o e =
-    let p = both (isIn leastSeconds mostSeconds z) (isIn leastOffset mostOffset o) e in
-    (
+    let p = both (isIn leastSeconds mostSeconds z) (isIn leastOffset mostOffset o) e in (
       fitSigned-of-In (2 ^ 63) (In-of-isIn leastSeconds mostSeconds z (p .0)) (omega arith) (omega arith),
       fitSigned-of-In (2 ^ 31) (In-of-isIn leastOffset mostOffset o (p .1)) (omega arith) (omega arith),
     )

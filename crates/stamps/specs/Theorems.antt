@@ -5,7 +5,9 @@ use mathlib.Core.Bool.{Bool, true, false, cond, _&&_, _||_}
 use mathlib.Core.List.{List, [], _∷_}
 use Rattle.text.specs.declared.number.Integer.{Integer}
 use Rattle.text.specs.declared.number.Integer.the-variants.{Is, Nothing}
+use Rattle.text.specs.Places.{part}
 use Rattle.stamps.specs.Lines.{lineOf, isGood}
+use Rattle.stamps.specs.Writing.{hullLine, sinceLine}
 use Rattle.stamps.specs.declared.line.Line.{Line}
 use Rattle.stamps.specs.declared.line.Line.the-variants.{Hull, Since, Bad}
 
@@ -50,3 +52,14 @@ orElse Nothing other = other
 unfoldable pub lastCutOff : ℕ → List (List ℕ) → Integer
 lastCutOff bound [] = Nothing
 lastCutOff bound (l ∷ ls) = orElse (lastCutOff bound ls) (cutOffIn (lineOf bound l))
+
+-- a line written from the values that were read from it. A bad line has no values and gives nothing
+abbrev pub rewritten : List ℕ → Line → List ℕ
+rewritten l (Hull h) = hullLine (part l (h .path)) (part l (h .key)) (h .time)
+rewritten l (Since x) = sinceLine (part l (x .text)) (x .current)
+rewritten l Bad = []
+
+-- these lines, each read and written again
+unfoldable pub rewrittenLines : ℕ → List (List ℕ) → List (List ℕ)
+rewrittenLines bound [] = []
+rewrittenLines bound (l ∷ ls) = rewritten l (lineOf bound l) ∷ rewrittenLines bound ls

@@ -6,7 +6,6 @@ use Prim.Native.Nat.{_^_}
 use native.Mathlib.Omega.{arith}
 use Rattle.text.specs.Lines.{tab}
 use Rattle.text.specs.Number.{fitSigned}
-use Rattle.text.specs.declared.number.Integer.{Integer}
 use Rattle.stamps.proofs.Fields.{opensWith-drop, lt-length-of-opensWith}
 use Rattle.stamps.proofs.Reading.{ends-bad, fitSigned-fitSigned, seconds-no-tab, offset-not-last, since-ends}
 use borrow.Author.Needs.{needs}

@@ -1,6 +1,6 @@
 -- `stamps::line::first_line` meets its contract: a text that opens with `hull` and a tab, with `since` and a tab, or otherwise.
 -- Assumes nothing.
-use mathlib.Core.Path.{_≡_, sym, ap, _∙_}
+use mathlib.Core.Path.{sym, ap, _∙_}
 use mathlib.Core.List.{List}
 use Prim.Native.Nat.{ℕ}
 use Rattle.text.specs.Bytes.{same}
