@@ -22,7 +22,7 @@ use Rattle.text.specs.declared.number.Number.the-variants.{Value, Nothing as No
 use Rattle.header.specs.Held.{twoDigits}
 use Rattle.stamps.specs.Stamps.{printed}
 use Rattle.stamps.specs.Lines.{isPathByte, isHexDigit, lineOf, isGood}
-use Rattle.stamps.specs.Listing.{isListed, cutOffBelow}
+use Rattle.stamps.specs.Listing.{isListed, cutOffIn, cutOffBelow}
 use Rattle.stamps.specs.declared.scan.Class.{Class}
 use Rattle.stamps.specs.declared.scan.Class.the-variants.{Path, Hex, Text}
 use Rattle.stamps.specs.declared.stamp.PrintedNumber.{PrintedNumber}
@@ -85,11 +85,11 @@ pub record FirstLine (bound : ℕ) (s : List ℕ) (r : First) : Type 0 where
   pub length-is : isGood (r .line) ≡ true → r .length ≡ firstPlace newline s
 
 -- the first line of s in a book, under the cut-off c: how many bytes it has with its newline, or 0 if it is bad or has none; whether it is
--- listed; the cut-off for the lines below it
+-- listed; the cut-off that it gives
 pub record NextLine (bound : ℕ) (s : List ℕ) (c : Integer) (r : Next) : Type 0 where
   pub size-is : r .size ≡ cond (isGood (lineOf bound (before newline s)) && has newline s) (firstPlace newline s + 1) 0
   pub listed-is : r .listed ≡ isListed c (lineOf bound (before newline s))
-  pub cut-off-is : r .«cut_off» ≡ cutOffBelow c (lineOf bound (before newline s))
+  pub cut-off-is : r .«cut_off» ≡ cutOffIn (lineOf bound (before newline s))
 
 -- ---- the marks of lines
 -- 1 for a line that is listed, 0 for any other
