@@ -1,10 +1,12 @@
--- The laws of books (RULES 13). In order: scans; printed numbers; tails of stamps; stamps, and stamps at the front of a longer text; books; the
--- marks of lines; listings; examples.
+-- The laws of books (RULES 13). In order: scans; printed numbers; tails of stamps; stamps, and stamps at the front of a longer text; fields;
+-- lines as they are read; books; the marks of lines; listings; examples.
 pub mod Scans
 pub mod Printed
 pub mod Tails
 pub mod Stamps
 pub mod Fronts
+pub mod Fields
+pub mod Reading
 pub mod Books
 pub mod Marks
 pub mod Listings
