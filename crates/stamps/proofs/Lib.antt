@@ -5,4 +5,6 @@ pub mod Printed
 pub mod Tails
 pub mod Stamps
 pub mod Fronts
+pub mod Fields
+pub mod Reading
 pub mod Examples

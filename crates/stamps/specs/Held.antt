@@ -1,8 +1,8 @@
 -- What the code holds on the way to an answer. Nothing here is needed to read what the public calls ensure. In order: the classes of bytes
--- that a scan passes; a number, and the tail of a stamp, at the front of a longer text; the first line of a text; the marks of the lines
--- that are listed.
+-- that a scan passes; a number, and the tail of a stamp, at the front of a longer text; the first line of a text; a line from one of its
+-- places on; the marks of the lines that are listed.
 -- Assumes nothing.
-use Prim.Native.Nat.{ℕ, _+_, _*_}
+use Prim.Native.Nat.{ℕ, _+_, _-_, _*_}
 use Prim.Native.Char.{code}
 use mathlib.Core.Path.{_≡_}
 use mathlib.Core.Bool.{Bool, true, cond, not, _&&_}
@@ -14,18 +14,19 @@ use Rattle.text.specs.Bytes.{isDigit, isSign}
 use Rattle.text.specs.Number.{fitSigned, numeral}
 use Rattle.text.specs.Decimal.{signed}
 use Rattle.text.specs.Places.{before, firstPlace, has}
-use Rattle.text.specs.Lines.{tab, newline}
+use Rattle.text.specs.Lines.{tab, newline, field, rest}
 use Rattle.text.specs.declared.number.Integer.{Integer}
 use Rattle.text.specs.declared.number.Integer.the-variants.{Is, Nothing as NoInteger}
 use Rattle.text.specs.declared.number.Number.{Number}
 use Rattle.text.specs.declared.number.Number.the-variants.{Value, Nothing as NoNumber}
 use Rattle.header.specs.Held.{twoDigits}
 use Rattle.stamps.specs.Stamps.{printed}
-use Rattle.stamps.specs.Lines.{isPathByte, isHexDigit, lineOf, isGood}
+use Rattle.stamps.specs.Lines.{isPathByte, isHexDigit, hullOf, sinceOf, lineOf, isGood}
 use Rattle.stamps.specs.Listing.{isListed, cutOffBelow}
 use Rattle.stamps.specs.declared.scan.Class.{Class}
 use Rattle.stamps.specs.declared.scan.Class.the-variants.{Path, Hex, Text}
 use Rattle.stamps.specs.declared.stamp.PrintedNumber.{PrintedNumber}
+use Rattle.stamps.specs.declared.line.Line.{Line}
 use Rattle.stamps.specs.declared.line.First.{First}
 use Rattle.stamps.specs.declared.book.Next.{Next}
 
@@ -90,6 +91,34 @@ pub record NextLine (bound : ℕ) (s : List ℕ) (c : Integer) (r : Next) : Type
   pub size-is : r .size ≡ cond (isGood (lineOf bound (before newline s)) && has newline s) (firstPlace newline s + 1) 0
   pub listed-is : r .listed ≡ isListed c (lineOf bound (before newline s))
   pub cut-off-is : r .«cut_off» ≡ cutOffBelow c (lineOf bound (before newline s))
+
+-- ---- a line from one of its places on
+-- the bytes of s from one place to another
+abbrev pub cut : List ℕ → ℕ → ℕ → List ℕ
+cut s start end = take (end - start) (drop start s)
+
+-- what is left at the place `at` of the line that goes on there
+abbrev pub leftAt : List ℕ → ℕ → List ℕ
+leftAt s at = before newline (drop at s)
+
+-- the line of `hull` that is left with these fields: path, key, time; key, time
+abbrev pub hullLeft : List ℕ → Line
+hullLeft m = hullOf (field m) (field (rest m)) (rest (rest m))
+
+abbrev pub keyLeft : List ℕ → List ℕ → Line
+keyLeft path m = hullOf path (field m) (rest m)
+
+-- the line of `since` that is left with these fields: text, current seconds, current offset; current seconds, current offset
+abbrev pub sinceLeft : ℕ → List ℕ → Line
+sinceLeft bound m = sinceOf bound (field m) (field (rest m)) (rest (rest m))
+
+abbrev pub currentLeft : ℕ → List ℕ → List ℕ → Line
+currentLeft bound text m = sinceOf bound text (field m) (rest m)
+
+-- a line that is read from the place `at` of s on, and, if it is good, the place where it ends
+pub record EndsLine (s : List ℕ) (at : ℕ) (line : Line) (r : First) : Type 0 where
+  pub line-is : r .line ≡ line
+  pub end-is : isGood (r .line) ≡ true → r .length ≡ at + firstPlace newline (drop at s)
 
 -- ---- the marks of lines
 -- 1 for a line that is listed, 0 for any other

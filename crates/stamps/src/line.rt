@@ -2,10 +2,16 @@
 // cut-off, or a bad line. A field is scanned once, up to its end, and nothing is copied: a path, a key
 // or a text is answered as its bounds in the line, for `text::words::within`.
 ghost use mathlib.Core.Path.{_≡_};
+ghost use mathlib.Core.Bool.{true};
+ghost use Prim.Native.Nat.{_+_, _^_, _≤_, _<_};
+ghost use lib.ListN.{length};
 ghost use Rattle.calendar.specs.Table.{IsMonths};
+ghost use Rattle.text.specs.Number.{fitSigned};
 ghost use Rattle.relative.specs.Relative.{maxPairs};
-ghost use Rattle.stamps.specs.Lines.{lineOf};
-ghost use Rattle.stamps.specs.Held.{FirstLine};
+ghost use Rattle.stamps.specs.Stamps.{stampOf};
+ghost use Rattle.stamps.specs.Lines.{isPath, hullAt, sinceWith, lineOf};
+ghost use Rattle.stamps.specs.Held.{FirstLine, EndsLine, cut, leftAt, hullLeft, keyLeft, sinceLeft, currentLeft};
+ghost use Rattle.stamps.specs.declared.line.Line.the-variants.{Bad};
 use crate::scan;
 use crate::scan::Class;
 use crate::stamp;
@@ -90,15 +96,20 @@ pub(crate) fn first_line(months: &[u32], s: &[u8]) -> First
     bad()
 }
 
-fn bad() -> First {
+// A bad line.
+fn bad() -> First
+    ensures { λ r. ⌜ r .line ≡ Bad ⌝ }
+{
     First {
         line: Line::Bad,
         length: 0,
     }
 }
 
-// Reads the first line of a text that opens with `hull` and a tab.
-fn first_hull(s: &[u8]) -> First {
+// Reads the first line of a text that opens with `hull` and a tab, from its path on.
+fn first_hull(s: &[u8]) -> First
+    ensures { λ r. ⌜ EndsLine (now (s .entry)) 5 (hullLeft (leftAt (now (s .entry)) 5)) r ⌝ }
+{
     let path_end = scan::past(s, PATH_START, Class::Path);
     let path = path_end - PATH_START;
     if (path == 0) | (MAX_PATH < path) {
@@ -110,8 +121,11 @@ fn first_hull(s: &[u8]) -> First {
     bad()
 }
 
-// The same, where the path ends at a tab.
-fn keyed_hull(s: &[u8], path_end: usize) -> First {
+// The same from its key on: the path ends at a tab.
+fn keyed_hull(s: &[u8], path_end: usize) -> First
+    requires { ⌜ (5 ≤ «path_end») × («path_end» < length (now s)) × (isPath (cut (now s) 5 «path_end») ≡ true) ⌝ }
+    ensures { λ r. ⌜ EndsLine (now (s .entry)) («path_end» + 1) (keyLeft (cut (now (s .entry)) 5 «path_end») (leftAt (now (s .entry)) («path_end» + 1))) r ⌝ }
+{
     let key_start = path_end + 1;
     let key_end = scan::past(s, key_start, Class::Hex);
     if key_end - key_start != KEY {
@@ -123,8 +137,11 @@ fn keyed_hull(s: &[u8], path_end: usize) -> First {
     bad()
 }
 
-// The same, where the key ends at a tab too.
-fn stamped_hull(s: &[u8], path_end: usize, key_end: usize) -> First {
+// The same from its time on: the key ends at a tab too.
+fn stamped_hull(s: &[u8], path_end: usize, key_end: usize) -> First
+    requires { ⌜ (5 ≤ «path_end») × («path_end» < «key_end») × («key_end» < length (now s)) ⌝ }
+    ensures { λ r. ⌜ EndsLine (now (s .entry)) («key_end» + 1) (hullAt (cut (now (s .entry)) 5 «path_end») (cut (now (s .entry)) («path_end» + 1) «key_end») (stampOf (leftAt (now (s .entry)) («key_end» + 1)))) r ⌝ }
+{
     let stamp = stamp::stamp_at(s, key_end + 1);
     let Stamp::At(time) = stamp else {
         return bad();
@@ -143,9 +160,10 @@ fn stamped_hull(s: &[u8], path_end: usize, key_end: usize) -> First {
     }
 }
 
-// Reads the first line of a text that opens with `since` and a tab.
+// Reads the first line of a text that opens with `since` and a tab, from its text on.
 fn first_since(months: &[u32], s: &[u8]) -> First
     requires { ⌜ IsMonths (now months) ⌝ }
+    ensures { λ r. ⌜ EndsLine (now (s .entry)) 6 (sinceLeft maxPairs (leftAt (now (s .entry)) 6)) r ⌝ }
 {
     let text_end = scan::past(s, TEXT_START, Class::Text);
     if scan::is_at(s, text_end, b'\t') {
@@ -154,9 +172,11 @@ fn first_since(months: &[u32], s: &[u8]) -> First
     bad()
 }
 
-// The same, where the text ends at a tab.
+// The same from its current seconds on: the text ends at a tab.
 fn dated_since(months: &[u32], s: &[u8], text_end: usize) -> First
     requires { ⌜ IsMonths (now months) ⌝ }
+    requires { ⌜ (6 ≤ «text_end») × («text_end» < length (now s)) ⌝ }
+    ensures { λ r. ⌜ EndsLine (now (s .entry)) («text_end» + 1) (currentLeft maxPairs (cut (now (s .entry)) 6 «text_end») (leftAt (now (s .entry)) («text_end» + 1))) r ⌝ }
 {
     let seconds = stamp::printed_at(s, text_end + 1, Width::Bits64);
     let seconds_end = seconds.end;
@@ -166,16 +186,19 @@ fn dated_since(months: &[u32], s: &[u8], text_end: usize) -> First
         if scan::ends_at(s, end) {
             let z = seconds.number;
             let o = offset.number;
-            let line = since_with(months, &s[TEXT_START..text_end], z, o);
+            let line = since_with(months, s, text_end, z, o);
             return First { line, length: end };
         }
+        return bad();
     }
     bad()
 }
 
-// The line with this text and these numbers.
-fn since_with(months: &[u32], text: &[u8], seconds: Integer, offset: Integer) -> Line
+// The line whose text ends at a place, with these numbers. 32 bits hold the offset.
+fn since_with(months: &[u32], s: &[u8], text_end: usize, seconds: Integer, offset: Integer) -> Line
     requires { ⌜ IsMonths (now months) ⌝ }
+    requires { ⌜ (6 ≤ «text_end») × («text_end» ≤ length (now s)) × (fitSigned (2 ^ 31) offset ≡ offset) ⌝ }
+    ensures { λ r. ⌜ r ≡ sinceWith maxPairs (cut (now (s .entry)) 6 «text_end») seconds offset ⌝ }
 {
     let Integer::Is(z) = seconds else {
         return Line::Bad;
@@ -184,21 +207,13 @@ fn since_with(months: &[u32], text: &[u8], seconds: Integer, offset: Integer) ->
         return Line::Bad;
     };
     let current = Time::new(z, o as i32);
-    since_at(
-        text.len(),
-        current,
-        relative::parse_with(months, text, Now::At(current)),
-    )
-}
-
-// The line whose text has this many bytes and this answer.
-fn since_at(length: usize, current: Time, answer: Answer) -> Line {
+    let answer = relative::parse_with(months, &s[TEXT_START..text_end], Now::At(current));
     let Answer::Time(cut_off) = answer else {
         return Line::Bad;
     };
     let text = Span {
         start: TEXT_START,
-        end: TEXT_START + length,
+        end: text_end,
     };
     Line::Since(Since {
         text,
