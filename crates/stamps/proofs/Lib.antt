@@ -7,4 +7,6 @@ pub mod Stamps
 pub mod Fronts
 pub mod Fields
 pub mod Reading
+pub mod Writing
+pub mod Putting
 pub mod Examples
