@@ -9,4 +9,5 @@ pub mod Fields
 pub mod Reading
 pub mod Writing
 pub mod Putting
+pub mod ReadBack
 pub mod Examples

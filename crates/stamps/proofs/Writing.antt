@@ -2,31 +2,30 @@
 -- `since` line, tested by a scan; what the tests say of a hull; how many bytes a line has with its newline; the three answers of a
 -- call that writes it.
 -- Assumes nothing.
-use mathlib.Core.Path.{_≡_, refl, sym, ap, _∙_}
+use mathlib.Core.Path.{_≡_, sym, ap, _∙_}
 use mathlib.Core.Bool.{Bool, true, false, not, _&&_, false≢true, and-true, and-false}
 use mathlib.Core.List.{List, [], _∷_, _++_}
 use Prim.Native.Nat.{ℕ, _+_, _≤_, _<_}
 use native.Mathlib.Omega.{arith}
-use borrow.Author.Tests.{eq-eqb, ne-eqb, le-leb, lt-leb, ltb-true, leb-true, eqb-true}
-use lib.Dec.{leb, ltb, eqb}
+use borrow.Author.Tests.{eq-eqb, ne-eqb, le-leb, lt-leb, ltb-true}
+use lib.Dec.{ltb, eqb}
 use lib.IntN.{natAbs}
 use lib.ListN.{length, take, drop, length-append}
 use lib.Seq.{take-length}
 use Rattle.text.specs.Decimal.{signed}
 use Rattle.text.specs.Lines.{tab, newline}
-use Rattle.text.specs.Places.{run, leading, past, has}
+use Rattle.text.specs.Places.{run, past, has}
 use Rattle.text.specs.Quote.{bytes}
 use Rattle.text.specs.Room.{roomAfter}
 use Rattle.text.proofs.Lists.{by-test, both}
 use Rattle.text.proofs.Runs.{past-le-length, has-cons, has-nil}
 use Rattle.time.specs.Answers.{isWritten}
-use Rattle.time.specs.Header.{headerBytes, sizeOf}
+use Rattle.time.specs.Header.{headerBytes}
 use Rattle.time.specs.declared.Time.{Time}
 use Rattle.time.specs.declared.Now.the-variants.{At as CurrentAt}
 use Rattle.time.specs.declared.Refusal.the-variants.{Room, Book}
 use Rattle.time.specs.declared.Written.{Written}
 use Rattle.time.specs.declared.Written.the-variants.{Length, Refused}
-use Rattle.time.proofs.Headers.{length-headerBytes}
 use Rattle.relative.specs.Relative.{relativeOf}
 use Rattle.stamps.specs.Stamps.{isWholeMinutes}
 use Rattle.stamps.specs.Lines.{every, isPathByte, isPath, isHexDigit, isKey}
@@ -99,14 +98,6 @@ goodHull path key t e =
     let b = both (isPath path) (isKey key) (a .0) in
     let c = both (isWholeMinutes (t .offset)) (ltb (natAbs (t .offset)) 360000) (a .1) in
     record { path-is = b .0; key-is = b .1; whole = c .0; narrow = ltb-true (natAbs (t .offset)) 360000 (c .1) }
-
-pub length-path : (s : List ℕ) → isPath s ≡ true → length s ≤ 255
-unfolding isPath
-length-path s e = leb-true (length s) 255 (both (ltb 0 (length s)) (leb (length s) 255) (both (ltb 0 (length s) && leb (length s) 255) (every isPathByte s) e .0) .1)
-
-pub length-key : (s : List ℕ) → isKey s ≡ true → length s ≡ 16
-unfolding isKey
-length-key s e = eqb-true (length s) 16 (both (eqb (length s) 16) (every isHexDigit s) e .0)
 
 -- ---- how many bytes a line has
 pub length-hullLine : (path key : List ℕ) (t : Time) → length (ended (hullLine path key t)) ≡ length path + (length key + (length (headerBytes t) + 8))

@@ -1,6 +1,6 @@
 -- `stamps::put::put_number` meets its contract: the number is written in front of its end.
 -- Assumes nothing.
-use mathlib.Core.Path.{_≡_, ap, _∙_}
+use mathlib.Core.Path.{ap, _∙_}
 use native.Mathlib.Omega.{arith}
 use Prim.Native.Nat.{ℕ, _+_}
 use lib.IntN.{ℤ}

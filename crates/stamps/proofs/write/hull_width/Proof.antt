@@ -2,7 +2,8 @@
 -- Assumes nothing.
 use native.Mathlib.Omega.{arith}
 use Rattle.time.proofs.Headers.{length-headerBytes}
-use Rattle.stamps.proofs.Writing.{goodHull, length-path, length-key, length-hullLine}
+use Rattle.stamps.proofs.Reading.{parts-of-isPath, parts-of-isKey}
+use Rattle.stamps.proofs.Writing.{goodHull, length-hullLine}
 use borrow.Author.Needs.{needs}
 use Rattle.stamps.proofs.write.hull_width.Statement.{statement}
 use Rattle.stamps.proofs.write.hull_width.Tie as tie
@@ -11,7 +12,7 @@ add-result-3 : tie.Need-add-result-3
 add-result-3 c =
     let start = c .before .before .before in
     let good = goodHull (start .args .path .now) (start .args .key .now) (start .args .time) (start .pre) in
-    record { fits = omega (arith, length-path (start .args .path .now) (good .path-is), length-key (start .args .key .now) (good .key-is), c .size .ensures .1) }
+    record { fits = omega (arith, parts-of-isPath (start .args .path .now) (good .path-is) .1, parts-of-isKey (start .args .key .now) (good .key-is) .0, c .size .ensures .1) }
 
 returns : tie.Need-returns
 returns c =

@@ -1,6 +1,5 @@
 -- `stamps::write::put_field` meets its contract: the part is put right behind the tab.
 -- Assumes nothing.
-use mathlib.Core.Path.{_∙_}
 use native.Mathlib.Omega.{arith}
 use mathlib.Core.List.{[], _∷_}
 use Rattle.text.specs.Lines.{tab}

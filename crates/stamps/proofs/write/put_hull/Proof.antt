@@ -1,8 +1,6 @@
 -- `stamps::write::put_hull` meets its contract: five parts, one behind the other.
 -- Assumes nothing.
-use mathlib.Core.Path.{_≡_}
 use mathlib.Core.List.{[], _∷_, _++_}
-use Prim.Native.Nat.{_≤_}
 use native.Mathlib.Omega.{arith}
 use lib.ListN.{length-append}
 use Rattle.text.specs.Lines.{tab, newline}

@@ -1,6 +1,6 @@
 -- `stamps::write::write_hull` meets its contract: its three answers, each with the room that it leaves.
 -- Assumes nothing.
-use mathlib.Core.Path.{_≡_, sym, _∙_}
+use mathlib.Core.Path.{sym, _∙_}
 use native.Mathlib.Omega.{arith}
 use Rattle.stamps.specs.Writing.{hullLine, hullWritten}
 use Rattle.stamps.proofs.Writing.{wrote-nothing, wrote-too-short, wrote-line}
