@@ -1,4 +1,4 @@
-/* Chowderbell: reads and writes the dates that Git writes and people type.
+/* Chowderbell: reads and writes the dates that Git writes and people type, and lists the hulls in a book of stamps.
  *
  * A time is signed 64-bit seconds since 1970 and a signed 32-bit offset from UTC in seconds. The library uses no heap, keeps no
  * state and no pointer, and never looks at the clock, the time zone or the locale of the machine: the current time is an argument.
@@ -17,12 +17,15 @@
  *                                 year outside 0 to 9999
  *   7  CHOWDERBELL_OFFSET         a writer is given an offset that is too wide
  *   8  CHOWDERBELL_ROOM           the room is shorter than the bytes to be written
+ *  10  CHOWDERBELL_BOOK           the book has more than 65536 bytes or a bad line
  *
- * Readers test 1, 2, 5, 3, 4, 6 in that order; writers 7, 6, 8. The range is seconds -377705023201 to 253402207200, and for a
- * current time an offset of -93599 to 93599. Header and raw dates may lie outside it.
+ * No function returns 9: by that number the program whenread refuses a line of the wrong layout.
  *
- * A text or a room of length 0 is never read or written, so its pointer may be NULL. No other pointer may be NULL. The text, the
- * room and the variables that results are stored in must not overlap.
+ * Readers test 1, 2, 5, 3, 4, 6 in that order; writers 7, 6, 8; the functions for a book 10, 8. The range is seconds -377705023201
+ * to 253402207200, and for a current time an offset of -93599 to 93599. Header and raw dates may lie outside it.
+ *
+ * A text, a book or a room of length 0 is never read or written, so its pointer may be NULL. No other pointer may be NULL. The
+ * text or the book, the room and the variables that results are stored in must not overlap.
  */
 #ifndef CHOWDERBELL_H
 #define CHOWDERBELL_H
@@ -43,10 +46,16 @@ extern "C" {
 #define CHOWDERBELL_RANGE 6
 #define CHOWDERBELL_OFFSET 7
 #define CHOWDERBELL_ROOM 8
+#define CHOWDERBELL_BOOK 10
 
 /* The bytes of the longest header, and of every ISO line. */
 #define CHOWDERBELL_HEADER_MAX 26
 #define CHOWDERBELL_ISO_LENGTH 25
+
+/* The most bytes that a book has, and that the path of a hull has. The bytes of every key. */
+#define CHOWDERBELL_BOOK_MAX 65536
+#define CHOWDERBELL_PATH_MAX 255
+#define CHOWDERBELL_KEY_LENGTH 16
 
 /* Readers. When they return 0, *seconds and *offset are the time; otherwise both are set to 0.
    They read text[0] to text[len - 1] and no other byte. */
@@ -85,6 +94,43 @@ uint8_t chowderbell_write_header(int64_t seconds, int32_t offset, uint8_t *room,
 /* An ISO line, "2008-02-14T20:30:45-05:00", 25 bytes. Returns 0; 7 for an offset of 86400 seconds (24 hours) or more either way;
    6 for seconds out of range or a local year outside 0 to 9999; or 8. */
 uint8_t chowderbell_write_iso(int64_t seconds, int32_t offset, uint8_t *room, size_t len, size_t *length);
+
+/* A book of stamps is a text of at most 65536 bytes in which each cooked hull has a line. The empty book is good. Every line ends
+   in a newline, the last one too, and has four fields with tabs between:
+
+     hull   PATH  KEY      TIME
+     since  TEXT  SECONDS  OFFSET
+
+   PATH     1 to 255 bytes from 32 to 126.
+   KEY      16 bytes, each "0" to "9" or "a" to "f".
+   TIME     exactly the bytes that chowderbell_write_header writes for some time at an offset of whole minutes, as
+            "1745582210 +0200". Not of that form are "+5 +0000", "05 +0000", "5 +0060" and "5 -0000".
+   TEXT     a relative date without tab and newline, for which chowderbell_relative returns 0 at the current time SECONDS, OFFSET.
+   SECONDS, OFFSET
+            plain decimals, as chowderbell_write_header prints seconds: "0", "-18000". Not of that form are "+5", "05" and "-0".
+
+   Any other line is bad, and so is an empty line, or one without its newline at the end of the book. Lines are counted from 1.
+
+   The time that a `since` line's text means is the cut-off for the `hull` lines below it, up to the next `since` line. The listing
+   of a good book has the `hull` lines whose seconds are at or after their cut-off, and all those that have no `since` line above
+   them, in the order of the book. Each is listed with its newline, byte for byte.
+
+   Both functions read book[0] to book[len - 1] and no other byte. */
+
+/* Checks a book.
+     0   The book is good. *line is set to 0.
+     10  The book is too long, which is tested first: *line is set to 0. Or a line is bad: *line is set to the number of the first
+         bad line. */
+uint8_t chowderbell_book_check(const uint8_t *book, size_t len, size_t *line);
+
+/* Writes the listing of a book to the front of a room of room_len bytes. A room of len bytes is always long enough, since a listing
+   has no more bytes than its book.
+     0   room[0] to room[*length - 1] are the listing, without a terminating zero. The bytes beyond them are as they were. *line is
+         set to 0.
+     10  The book is not good. *line is set as by chowderbell_book_check.
+     8   The book is good, and its listing is longer than the room. *line is set to 0.
+   If it returns 8 or 10, *length is set to 0, and every byte of the room is as it was. */
+uint8_t chowderbell_book_list(const uint8_t *book, size_t len, uint8_t *room, size_t room_len, size_t *length, size_t *line);
 
 #ifdef __cplusplus
 }

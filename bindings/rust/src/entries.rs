@@ -1,14 +1,14 @@
 //! The C entries themselves: numbers in, numbers out.
 //!
 //! Each function passes its arguments to an entry and does nothing else, so the caller sees what the entry left in
-//! `seconds`, `offset`, `length` and `room`. The number 0 is success; the others are those of
-//! [`Refusal`](crate::Refusal). On a refusal `seconds`, `offset` and `length` are 0, and `room` is not changed. Every text
-//! and every number has an answer.
+//! `seconds`, `offset`, `length`, `line` and `room`. The number 0 is success; the others are those of
+//! [`Refusal`](crate::Refusal). On a refusal `seconds`, `offset` and `length` are 0, and `room` is not changed. `line` is 0
+//! unless a book has a bad line. Every text, every book and every number has an answer.
 
 // SAFETY, for every call in this file: each pointer comes from a reference or a slice that lives as long as the call, so
 // it is not null; a slice's pointer comes with its length; and what is written is borrowed mutably, so nothing overlaps
-// it. An entry reads `text[0]` to `text[len - 1]`, writes at most `room[0]` to `room[len - 1]` and its outputs, touches no
-// other byte, keeps no pointer and always returns. All of that is proved.
+// it. An entry reads at most the bytes of its text or its book, writes at most the bytes of its room and its outputs,
+// touches no other byte, keeps no pointer and always returns. All of that is proved.
 mod c {
     extern "C" {
         pub fn chowderbell_header(text: *const u8, len: usize, seconds: *mut i64, offset: *mut i32) -> u8;
@@ -36,6 +36,15 @@ mod c {
         pub fn chowderbell_write_header(seconds: i64, offset: i32, room: *mut u8, len: usize, length: *mut usize)
             -> u8;
         pub fn chowderbell_write_iso(seconds: i64, offset: i32, room: *mut u8, len: usize, length: *mut usize) -> u8;
+        pub fn chowderbell_book_check(book: *const u8, len: usize, line: *mut usize) -> u8;
+        pub fn chowderbell_book_list(
+            book: *const u8,
+            len: usize,
+            room: *mut u8,
+            room_len: usize,
+            length: *mut usize,
+            line: *mut usize,
+        ) -> u8;
     }
 }
 
@@ -104,4 +113,22 @@ pub fn write_header(seconds: i64, offset: i32, room: &mut [u8], length: &mut usi
 #[must_use]
 pub fn write_iso(seconds: i64, offset: i32, room: &mut [u8], length: &mut usize) -> u8 {
     unsafe { c::chowderbell_write_iso(seconds, offset, room.as_mut_ptr(), room.len(), length) }
+}
+
+/// Checks a book of stamps. Returns 0 or 10.
+///
+/// `line` is the number, from 1, of the first bad line, and 0 for a book that is good or too long.
+#[inline]
+#[must_use]
+pub fn book_check(book: &[u8], line: &mut usize) -> u8 {
+    unsafe { c::chowderbell_book_check(book.as_ptr(), book.len(), line) }
+}
+
+/// Writes the listing of a book of stamps at the start of `room`. Returns 0, 8 or 10.
+///
+/// `line` is that of [`book_check`].
+#[inline]
+#[must_use]
+pub fn book_list(book: &[u8], room: &mut [u8], length: &mut usize, line: &mut usize) -> u8 {
+    unsafe { c::chowderbell_book_list(book.as_ptr(), book.len(), room.as_mut_ptr(), room.len(), length, line) }
 }

@@ -3,10 +3,11 @@
 //! # Panics
 //!
 //! No call panics when the crate is linked with the library that it was made for. Linked with another version, a call
-//! panics if an entry returns a number that [`Refusal`] does not have.
+//! may panic if an entry returns a number that it never returns in this one.
 #![no_std]
 #![deny(missing_docs)]
 
+pub mod book;
 pub mod entries;
 mod refusal;
 mod time;

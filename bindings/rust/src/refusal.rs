@@ -1,6 +1,7 @@
 use core::fmt;
 
-/// Why a text was not read or a time was not written. The numbers are those of the C entries (RULES 2).
+/// Why a text was not read, a time was not written or a book was not listed. The numbers are those of the C entries
+/// (RULES 2).
 #[derive(Clone, Copy, PartialEq, Eq, Hash, Debug)]
 #[non_exhaustive]
 #[repr(u8)]
@@ -23,6 +24,8 @@ pub enum Refusal {
     Offset = 7,
     /// 8: the room is shorter than the bytes to be written.
     Room = 8,
+    /// 10: the book has more than 65536 bytes or a bad line.
+    Book = 10,
 }
 
 impl Refusal {
@@ -54,6 +57,7 @@ impl TryFrom<u8> for Refusal {
             6 => Refusal::Range,
             7 => Refusal::Offset,
             8 => Refusal::Room,
+            10 => Refusal::Book,
             _ => return Err(UnknownNumber(number)),
         })
     }
@@ -70,6 +74,7 @@ impl fmt::Display for Refusal {
             Refusal::Range => "the time is out of range",
             Refusal::Offset => "the offset is too wide to be written",
             Refusal::Room => "the room is shorter than the bytes to be written",
+            Refusal::Book => "the book is too long or has a bad line",
         })
     }
 }

@@ -1,7 +1,7 @@
 -- RULES 12.5: two answers that meet the contract of a public call are equal. Each statement is about the contract itself: `Post` is what
 -- the `ensures` lines of a call say, in the form that the proofs of its callers use. At exit `e .0` is the first parameter, `e .1 .0` the
--- second, `e .1 .1 .0` the third. In order: times; writers; readers; the entries for C; the calendar; the number at the start of a text.
--- Not here: the other calls of `text`, each of which has an equation for its result, and `lines`.
+-- second, `e .1 .1 .0` the third. In order: times; writers; readers; books of stamps; the entries for C; the calendar; the number at the
+-- start of a text. Not here: the other calls of `text`, each of which has an equation for its result, and `lines`.
 -- Assumes nothing.
 use mathlib.Core.Path.{_≡_}
 use mathlib.Core.List.{List}
@@ -11,9 +11,11 @@ use denote.Ref.{now}
 use Rattle.calendar.proofs.Walk.{IsMonths-unique}
 use Rattle.time.specs.declared.Answer.{Answer}
 use Rattle.time.specs.declared.Written.{Written}
+use Rattle.stamps.specs.declared.book.Checked.{Checked}
+use Rattle.stamps.specs.declared.book.Listed.{Listed}
 use Rattle.dates.specs.Contracts.{OneAnswer, OneAnswerAnd}
 use Rattle.dates.proofs.Contracts.{one-answer}
-use Rattle.chowderbell.specs.Entries.{HandedOut, HandedLength}
+use Rattle.chowderbell.specs.Entries.{HandedOut, HandedLength, HandedCheck, HandedListing}
 use Rattle.time.proofs.Time.new.Reads as time-new
 use Rattle.time.proofs.Time.smallest.Reads as smallest
 use Rattle.time.proofs.Time.largest.Reads as largest
@@ -37,6 +39,15 @@ use Rattle.relative.proofs.parse.Reads as relative-parse
 use Rattle.relative.proofs.parse_with.Reads as relative-parse-with
 use Rattle.dates.proofs.parse.Reads as dates-parse
 use Rattle.dates.proofs.parse_with.Reads as dates-parse-with
+use Rattle.stamps.proofs.line.read.Reads as line-read
+use Rattle.stamps.proofs.line.read_with.Reads as line-read-with
+use Rattle.stamps.proofs.write.write_hull.Reads as write-hull
+use Rattle.stamps.proofs.write.write_since.Reads as write-since
+use Rattle.stamps.proofs.write.write_since_with.Reads as write-since-with
+use Rattle.stamps.proofs.book.check.Reads as book-check
+use Rattle.stamps.proofs.book.check_with.Reads as book-check-with
+use Rattle.stamps.proofs.book.list.Reads as book-list
+use Rattle.stamps.proofs.book.list_with.Reads as book-list-with
 use Rattle.chowderbell.proofs.times.chowderbell_header.Reads as chowderbell-header
 use Rattle.chowderbell.proofs.times.chowderbell_raw.Reads as chowderbell-raw
 use Rattle.chowderbell.proofs.times.chowderbell_iso.Reads as chowderbell-iso
@@ -45,6 +56,8 @@ use Rattle.chowderbell.proofs.times.chowderbell_any.Reads as chowderbel
 use Rattle.chowderbell.proofs.times.chowderbell_size.Reads as chowderbell-size
 use Rattle.chowderbell.proofs.times.chowderbell_write_header.Reads as chowderbell-write-header
 use Rattle.chowderbell.proofs.times.chowderbell_write_iso.Reads as chowderbell-write-iso
+use Rattle.chowderbell.proofs.book.chowderbell_book_check.Reads as chowderbell-book-check
+use Rattle.chowderbell.proofs.book.chowderbell_book_list.Reads as chowderbell-book-list
 use Rattle.calendar.proofs.months.Reads as months
 use Rattle.calendar.proofs.first_day.Reads as first-day
 use Rattle.calendar.proofs.month_length.Reads as month-length
@@ -126,6 +139,34 @@ dates-parse-unique κ a r s e f = one-answer
 pub dates-parse-with-unique : OneAnswer dates-parse-with.Post
 dates-parse-with-unique κ a r s e f = one-answer
 
+-- ---- books of stamps: a line read, a line written with every byte of the room, a book checked, a book listed with every byte of the room
+pub line-read-unique : OneAnswer line-read.Post
+line-read-unique κ a r s e f = one-answer
+
+pub line-read-with-unique : OneAnswer line-read-with.Post
+line-read-with-unique κ a r s e f = one-answer
+
+pub write-hull-unique : OneAnswerAnd write-hull.Post (List ℕ) (λ κ e. now (e .1 .1 .1 .0))
+write-hull-unique κ a r s e f p q = (one-answer (p .0) (q .0), one-answer (p .1) (q .1))
+
+pub write-since-unique : OneAnswerAnd write-since.Post (List ℕ) (λ κ e. now (e .1 .1 .0))
+write-since-unique κ a r s e f p q = (one-answer (p .0) (q .0), one-answer (p .1) (q .1))
+
+pub write-since-with-unique : OneAnswerAnd write-since-with.Post (List ℕ) (λ κ e. now (e .1 .1 .1 .0))
+write-since-with-unique κ a r s e f p q = (one-answer (p .0) (q .0), one-answer (p .1) (q .1))
+
+pub book-check-unique : OneAnswer book-check.Post
+book-check-unique κ a r s e f = one-answer
+
+pub book-check-with-unique : OneAnswer book-check-with.Post
+book-check-with-unique κ a r s e f = one-answer
+
+pub book-list-unique : OneAnswerAnd book-list.Post (List ℕ) (λ κ e. now (e .1 .0))
+book-list-unique κ a r s e f p q = (one-answer (p .0) (q .0), one-answer (p .1) (q .1))
+
+pub book-list-with-unique : OneAnswerAnd book-list-with.Post (List ℕ) (λ κ e. now (e .1 .1 .0))
+book-list-with-unique κ a r s e f p q = (one-answer (p .0) (q .0), one-answer (p .1) (q .1))
+
 -- ---- the readers for C: the number returned, and the seconds and the offset stored
 HandedOut-unique : {a : Answer} {n m : ℕ} {s t o u : ℤ} → HandedOut a n s o → HandedOut a m t u → (n ≡ m) × _≡_ {A = ℤ × ℤ} (s, o) (t, u)
 HandedOut-unique p q =
@@ -159,6 +200,20 @@ chowderbell-write-header-unique κ a r s e f = written-unique
 
 pub chowderbell-write-iso-unique : OneAnswerAnd chowderbell-write-iso.Post (ℕ × List ℕ) (λ κ e. (now (e .1 .1 .1 .0), now (e .1 .1 .0)))
 chowderbell-write-iso-unique κ a r s e f = written-unique
+
+-- ---- a book for C: the number returned, the length and the line stored, and every byte of the room
+HandedCheck-unique : {c : Checked} {n m k l : ℕ} → HandedCheck c n k → HandedCheck c m l → (n ≡ m) × (k ≡ l)
+HandedCheck-unique p q = (one-answer (p .number-is) (q .number-is), one-answer (p .line-is) (q .line-is))
+
+HandedListing-unique : {w : Listed} {n m k l i j : ℕ} {t u b : List ℕ} → HandedListing w n k i × (t ≡ b) → HandedListing w m l j × (u ≡ b) → (n ≡ m) × _≡_ {A = (ℕ × ℕ) × List ℕ} ((k, i), t) ((l, j), u)
+HandedListing-unique p q =
+    (one-answer (p .0 .number-is) (q .0 .number-is), λ i. ((one-answer (p .0 .length-is) (q .0 .length-is) i, one-answer (p .0 .line-is) (q .0 .line-is) i), one-answer (p .1) (q .1) i))
+
+pub chowderbell-book-check-unique : OneAnswerAnd chowderbell-book-check.Post ℕ (λ κ e. now (e .1 .0))
+chowderbell-book-check-unique κ a r s e f = HandedCheck-unique
+
+pub chowderbell-book-list-unique : OneAnswerAnd chowderbell-book-list.Post ((ℕ × ℕ) × List ℕ) (λ κ e. ((now (e .1 .1 .0), now (e .1 .1 .1 .0)), now (e .1 .0)))
+chowderbell-book-list-unique κ a r s e f = HandedListing-unique
 
 -- ---- the calendar
 pub months-unique : OneAnswer months.Post

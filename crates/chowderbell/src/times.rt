@@ -17,7 +17,7 @@ use time::Now;
 use time::Time;
 use time::Written;
 
-const SUCCESS: u8 = 0;
+pub(crate) const SUCCESS: u8 = 0;
 
 #[no_mangle]
 pub extern "C" fn chowderbell_header(text: &[u8], seconds: &mut i64, offset: &mut i32) -> u8

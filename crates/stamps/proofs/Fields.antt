@@ -2,25 +2,27 @@
 -- whose bytes are of one class; the fields of the first line of a text, read from a place of the text on; a number that is the next
 -- field, or the last.
 -- Assumes nothing.
-use mathlib.Core.Path.{_≡_, refl, sym, ap, _∙_}
-use mathlib.Core.Bool.{Bool, true, false, _&&_, false≢true}
-use mathlib.Core.List.{List, [], _∷_, _++_}
+use mathlib.Core.Path.{_≡_, refl, sym, ap, _∙_, subst}
+use mathlib.Core.Bool.{Bool, true, false, not, _&&_, false≢true}
+use mathlib.Core.List.{List, [], _∷_, _++_, append-assoc}
 use Prim.Native.Nat.{ℕ, suc, _+_, _-_, _≤_, _<_}
 use native.Mathlib.Omega.{arith}
 use native.Mathlib.Numerals.{add-one}
 use borrow.Author.Tests.{eqb-true, ltb-true, ltb-false, lt-ltb, leb-true, ne-eqb}
 use lib.Dec.{leb, ltb, eqb}
-use lib.ListN.{length, getD, take, drop, length-drop, drop-of-length-le}
-use lib.Seq.{drop-cons, drop-drop, length-take-le}
-use Rattle.text.specs.Bytes.{isDigit, isSign}
+use lib.ListN.{length, getD, take, drop, length-drop, drop-of-length-le, take-append-drop}
+use lib.Seq.{drop-cons, drop-drop, length-take-le, take-suc, take-append-seam, drop-append-seam}
+use Rattle.text.specs.Bytes.{isDigit, isSign, same}
 use Rattle.text.specs.Places.{run, leading, past, firstPlace, before, has, opensWith}
 use Rattle.text.specs.Lines.{tab, newline, field, rest}
+use Rattle.text.specs.Number.{numeral}
 use Rattle.text.proofs.Lists.{by-test, both}
 use Rattle.text.proofs.Runs.{run-le-length, run-drop, run-le-run, run-leading, length-leading}
 use Rattle.text.proofs.FirstPlaces.{Free}
-use Rattle.text.proofs.Numbers.{digit-range}
+use Rattle.text.proofs.Numbers.{digit-range, numeral-le-run, numeral-leading}
 use Rattle.stamps.specs.Lines.{every, isPathByte, isHexDigit}
-use Rattle.stamps.specs.Held.{isTextByte, cut, leftAt}
+use Rattle.stamps.specs.Held.{isTextByte, endsHere, cut, leftAt}
+use Rattle.stamps.proofs.Printed.{same-self, eq-of-same}
 
 -- ---- a text cut at its first tab
 pub field-append : (p r : List ℕ) → Free tab p → field (p ++ tab ∷ r) ≡ p
@@ -85,7 +87,7 @@ isTextByte-of-isSign b =
 
 -- ---- the first field of the first line of a text
 -- it ends at the first tab or newline
-field-before : (s : List ℕ) → field (before newline s) ≡ leading isTextByte s
+pub field-before : (s : List ℕ) → field (before newline s) ≡ leading isTextByte s
 unfolding firstPlace run isTextByte
 field-before [] = refl
 field-before (b ∷ s) =
@@ -108,12 +110,36 @@ firstPlace-before (b ∷ s) h =
     (λ d. by-test (eqb b newline) (λ e. absurd (false≢true (rw (d, e, d) at h))) (λ e. rw (e, d) (omega (arith, firstPlace-before s (rw (d, e) at h)))))
 
 -- if none is there, nothing follows
-rest-before-nil : (s : List ℕ) → opensWith tab (drop (run isTextByte s) s) ≡ false → rest (before newline s) ≡ []
+pub rest-before-nil : (s : List ℕ) → opensWith tab (drop (run isTextByte s) s) ≡ false → rest (before newline s) ≡ []
 unfolding firstPlace run isTextByte
 rest-before-nil [] h = refl
 rest-before-nil (b ∷ s) h =
     by-test (eqb b tab) (λ d. absurd (false≢true (sym (rw (d, d) at h))))
     (λ d. by-test (eqb b newline) (λ e. rw e) (λ e. rw (e, d, add-one) (rw add-one at (rest-before-nil s (rw (d, e) at h)))))
+
+-- ---- the bytes before a newline
+abbrev noNewline : ℕ → Bool
+noNewline b = not (eqb b newline)
+
+noNewline-of-isTextByte : (b : ℕ) → isTextByte b ≡ true → noNewline b ≡ true
+unfolding isTextByte
+noNewline-of-isTextByte b e = both (not (eqb b tab)) (not (eqb b newline)) e .1
+
+noNewline-of-isSign : (b : ℕ) → isSign b ≡ true → noNewline b ≡ true
+noNewline-of-isSign b e = noNewline-of-isTextByte b (isTextByte-of-isSign b e)
+
+noNewline-of-isDigit : (b : ℕ) → isDigit b ≡ true → noNewline b ≡ true
+noNewline-of-isDigit b e = noNewline-of-isTextByte b (isTextByte-of-isDigit b e)
+
+run-of-endsHere : (s : List ℕ) → endsHere s ≡ true → run noNewline s ≡ 0
+unfolding run endsHere
+run-of-endsHere [] e = refl
+run-of-endsHere (b ∷ s) e = rw e
+
+run-of-not-endsHere : (s : List ℕ) → endsHere s ≡ false → 0 < run noNewline s
+unfolding run endsHere
+run-of-not-endsHere [] e = absurd (false≢true (sym e))
+run-of-not-endsHere (b ∷ s) e = rw e (omega arith)
 
 -- ---- a field that begins at a place
 pub opensWith-drop : (b : ℕ) (s : List ℕ) (i : ℕ) → opensWith b (drop i s) ≡ (ltb i (length s) && eqb (getD s i 0) b)
@@ -189,3 +215,85 @@ module _ (s : List ℕ) (at : ℕ) where
     rest-nil-of-every e o =
         let d = drop at s in
         rest-before-nil d (ap (λ (v : ℕ). opensWith tab (drop v d)) (sym (run-of-every-field e)) ∙ ap (opensWith tab) (drop-drop (run p d) at s) ∙ o)
+
+  pub every-field : every isTextByte (field (leftAt s at)) ≡ true
+  every-field = ap (every isTextByte) (field-before (drop at s)) ∙ every-leading isTextByte (drop at s)
+
+  -- of a number: if no tab follows its sign and digits, the field holds another byte, or it is the last
+  pub field-ends-numeral : opensWith tab (drop (at + numeral (drop at s)) s) ≡ true → FieldEnds s at (at + numeral (drop at s))
+  field-ends-numeral t = field-ends (numeral (drop at s)) (numeral-le-run isTextByte isTextByte-of-isSign isTextByte-of-isDigit (drop at s)) t
+
+  pub rest-nil-of-numeral : opensWith tab (drop (at + numeral (drop at s)) s) ≡ false → length (field (leftAt s at)) ≤ numeral (field (leftAt s at)) → rest (leftAt s at) ≡ []
+  rest-nil-of-numeral o h =
+      let d = drop at s in
+      let n : run isTextByte d ≡ numeral d =
+          omega (
+            arith,
+            h,
+            ap length (field-before d),
+            length-take-le (run isTextByte d) d (run-le-length isTextByte d),
+            ap numeral (field-before d),
+            numeral-leading isTextByte isTextByte-of-isSign isTextByte-of-isDigit d,
+            numeral-le-run isTextByte isTextByte-of-isSign isTextByte-of-isDigit d,
+          )
+      in
+      rest-before-nil d (ap (λ (v : ℕ). opensWith tab (drop v d)) n ∙ ap (opensWith tab) (drop-drop (numeral d) at s) ∙ o)
+
+  -- ---- the last field
+  -- a number: the line ends behind its sign and digits, or the field holds another byte
+  pub firstPlace-of-numeral : endsHere (drop (at + numeral (drop at s)) s) ≡ true → firstPlace newline (drop at s) ≡ numeral (drop at s)
+  unfolding firstPlace
+  firstPlace-of-numeral e =
+      let d = drop at s in
+      let n = numeral d in
+      omega (arith, run-drop noNewline n d (numeral-le-run noNewline noNewline-of-isSign noNewline-of-isDigit d), run-of-endsHere (drop n d) (ap endsHere (drop-drop n at s) ∙ e))
+
+  pub numeral-last : endsHere (drop (at + numeral (drop at s)) s) ≡ false → numeral (leftAt s at) < length (leftAt s at)
+  unfolding firstPlace
+  numeral-last e =
+      let d = drop at s in
+      let n = numeral d in
+      omega (
+        arith,
+        run-drop noNewline n d (numeral-le-run noNewline noNewline-of-isSign noNewline-of-isDigit d),
+        run-of-not-endsHere (drop n d) (ap endsHere (drop-drop n at s) ∙ e),
+        numeral-leading noNewline noNewline-of-isSign noNewline-of-isDigit d,
+        length-take-le (run noNewline d) d (run-le-length noNewline d),
+      )
+
+-- ---- a text that opens with a name and a tab
+length-le-run : (p : ℕ → Bool) (w t : List ℕ) → every p w ≡ true → length w ≤ run p (w ++ t)
+unfolding every run
+length-le-run p [] t e = omega arith
+length-le-run p (b ∷ w) t e = let k = both (p b) (every p w) e in rw (k .0) (omega (arith, length-le-run p w t (k .1)))
+
+module _ (w s : List ℕ) where
+  split-name : same (take (length w + 1) s) (w ++ tab ∷ []) ≡ true → s ≡ w ++ tab ∷ drop (length w + 1) s
+  split-name e =
+      sym (take-append-drop (length w + 1) s) ∙ ap (λ (t : List ℕ). t ++ drop (length w + 1) s) (eq-of-same _ _ e)
+      ∙ append-assoc w (tab ∷ []) (drop (length w + 1) s)
+
+  -- the name is its first field
+  pub name-ends : every isTextByte w ≡ true → same (take (length w + 1) s) (w ++ tab ∷ []) ≡ true → FieldEnds s 0 (length w)
+  name-ends h e =
+      let r = drop (length w + 1) s in
+      let z : 0 + length w ≡ length w = omega arith in
+      let f : FieldEnds (w ++ tab ∷ r) 0 (0 + length w) = field-ends (w ++ tab ∷ r) 0 (length w) (length-le-run isTextByte w (tab ∷ r) h) (rw (z, drop-append-seam w (tab ∷ r))) in
+      subst (λ (t : List ℕ). FieldEnds t 0 (length w)) (sym (split-name e)) (rw z at f)
+
+  pub take-name : same (take (length w + 1) s) (w ++ tab ∷ []) ≡ true → take (length w) s ≡ w
+  take-name e = ap (take (length w)) (split-name e) ∙ take-append-seam w (tab ∷ drop (length w + 1) s)
+
+  -- if it does not open so, and its first field is the name, nothing follows
+  pub name-no-tab : same (field (before newline s)) w ≡ true → same (take (length w + 1) s) (w ++ tab ∷ []) ≡ false → rest (before newline s) ≡ []
+  name-no-tab e d =
+      let n = run isTextByte s in
+      let f : leading isTextByte s ≡ w = sym (field-before s) ∙ eq-of-same _ _ e in
+      let l : length w + 1 ≡ suc n = omega (arith, length-take-le n s (run-le-length isTextByte s), ap length f) in
+      by-test (opensWith tab (drop n s))
+      (λ o.
+      let p = both (ltb n (length s)) (eqb (getD s n 0) tab) (sym (opensWith-drop tab s n) ∙ o) in
+      let g : getD s n 0 ≡ tab = eqb-true _ _ (p .1) in
+      let k : take (length w + 1) s ≡ w ++ tab ∷ [] = ap (λ (i : ℕ). take i s) l ∙ take-suc s n 0 (ltb-true _ _ (p .0)) ∙ (λ i. f i ++ (g i ∷ [])) in
+      absurd (false≢true (sym d ∙ ap (λ (t : List ℕ). same t (w ++ tab ∷ [])) k ∙ same-self _)))
+      (λ o. rest-before-nil s o)

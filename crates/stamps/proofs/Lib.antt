@@ -1,5 +1,5 @@
 -- The laws of books (RULES 13). In order: scans; printed numbers; tails of stamps; stamps, and stamps at the front of a longer text; fields;
--- lines; lines written; books; listings; examples.
+-- lines as they are read; lines as they are written, part behind part, and read back; books; the marks of lines; listings; examples.
 pub mod Scans
 pub mod Printed
 pub mod Tails
@@ -10,4 +10,8 @@ pub mod Reading
 pub mod Writing
 pub mod Putting
 pub mod ReadBack
+pub mod Books
+pub mod Marks
+pub mod Listings
 pub mod Examples
+pub mod BookExamples

@@ -9,7 +9,7 @@ use mathlib.Core.Bool.{Bool, true, cond, not, _&&_}
 use mathlib.Core.List.{List, [], _∷_, _++_}
 use lib.Dec.{ltb, eqb}
 use lib.IntN.{pos, negℤ}
-use lib.ListN.{length, take, drop, getD, set}
+use lib.ListN.{length, take, drop, getD}
 use Rattle.text.specs.Bytes.{isDigit, isSign}
 use Rattle.text.specs.Number.{fitSigned, numeral}
 use Rattle.text.specs.Decimal.{signed}
@@ -128,16 +128,6 @@ markOf b = cond b 1 0
 unfoldable pub marksOf : ℕ → Integer → List (List ℕ) → List ℕ
 marksOf bound c [] = []
 marksOf bound c (l ∷ ls) = markOf (isListed c (lineOf bound l)) ∷ marksOf bound (cutOffBelow c (lineOf bound l)) ls
-
--- the mark m put at place n of a buffer, if it has that place
-abbrev pub markedAt : ℕ → ℕ → List ℕ → List ℕ
-markedAt n m ms = cond (ltb n (length ms)) (set ms n m) ms
-
--- these marks laid over the front of a buffer, as many as it has places for
-unfoldable pub laid : List ℕ → List ℕ → List ℕ
-laid [] ms = ms
-laid (x ∷ xs) [] = []
-laid (x ∷ xs) (m ∷ ms) = x ∷ laid xs ms
 
 -- the lines whose mark is 1
 unfoldable pub picked : List ℕ → List (List ℕ) → List (List ℕ)

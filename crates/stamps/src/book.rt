@@ -7,7 +7,8 @@ ghost use mathlib.Core.Bool.{cond};
 ghost use mathlib.Core.List.{[], _++_};
 ghost use Prim.Native.Nat.{_+_, _≤_};
 ghost use lib.Dec.{ltb, eqb};
-ghost use lib.ListN.{length, drop, getD};
+ghost use lib.ListN.{length, drop, getD, set};
+ghost use lib.Seq.{sets};
 ghost use Rattle.calendar.specs.Table.{IsMonths};
 ghost use Rattle.relative.specs.Relative.{maxPairs};
 ghost use Rattle.text.specs.Lines.{endedLines, left};
@@ -15,7 +16,7 @@ ghost use Rattle.text.specs.Room.{roomAfter};
 ghost use Rattle.text.specs.declared.number.Integer.the-variants.{Nothing};
 ghost use Rattle.stamps.specs.Book.{maxBook, linesIn, firstBad, checkOf};
 ghost use Rattle.stamps.specs.Listing.{isAfter, joined, listing, listOf, isWritten};
-ghost use Rattle.stamps.specs.Held.{NextLine, markOf, marksOf, markedAt, laid, picked, badNumber};
+ghost use Rattle.stamps.specs.Held.{NextLine, markOf, marksOf, picked, badNumber};
 use crate::line;
 use crate::line::Line;
 use crate::put;
@@ -26,8 +27,8 @@ use time::Refusal;
 // The most bytes that a book has.
 pub const MAX_BOOK: usize = 65536;
 
-// Marks for the lines of a book: no good line has fewer than 14 bytes with its newline.
-const MARKS: usize = 4682;
+// Marks for the lines of a good book: each has at least 10 bytes and its newline.
+const MARKS: usize = 5957;
 
 // What a check returns: a refusal has its reason and the number, from 1, of the first bad line, or 0
 // if the book is too long.
@@ -100,8 +101,8 @@ pub fn list_with(months: &[u32], book: &[u8], room: &mut [u8]) -> Listed
 }
 
 // A buffer for marks.
-fn no_marks() -> [u8; 4682]
-    ensures { λ r. ⌜ 4682 ≡ length r ⌝ }
+fn no_marks() -> [u8; MARKS]
+    ensures { λ r. ⌜ 5957 ≡ length r ⌝ }
 {
     [0; MARKS]
 }
@@ -118,7 +119,7 @@ fn judge_lines(months: &[u32], book: &[u8], marks: &mut [u8]) -> Survey
     requires { ⌜ IsMonths (now months) ⌝ }
     ensures { λ r. ⌜ r .bad ≡ badNumber (firstBad 1 (linesIn maxPairs (now (book .entry)))) ⌝ }
     ensures { λ r. ⌜ (r .bad ≡ 0 → r .length ≡ length (listing maxPairs (now (book .entry)))) ⌝ }
-    ensures { λ r. ⌜ (r .bad ≡ 0 → now (marks .exit) ≡ laid (marksOf maxPairs Nothing (endedLines (now (book .entry)))) (now (marks .entry))) ⌝ }
+    ensures { λ r. ⌜ (r .bad ≡ 0 → now (marks .exit) ≡ sets (now (marks .entry)) 0 (marksOf maxPairs Nothing (endedLines (now (book .entry))))) ⌝ }
 {
     let mut at: usize = 0;
     let mut n: usize = 0;
@@ -205,7 +206,7 @@ fn is_after(cut_off: Integer, seconds: i64) -> bool
     }
 }
 
-// The size of a line that is listed; any other adds nothing to the listing.
+// How many bytes a line adds to the listing: its size if it is listed, else none.
 fn size_if(listed: bool, size: usize) -> usize
     ensures { λ r. ⌜ r ≡ cond listed size 0 ⌝ }
 {
@@ -215,9 +216,9 @@ fn size_if(listed: bool, size: usize) -> usize
     0
 }
 
-// The mark of line n, counted from 0, if there is a place for it.
+// Marks line n, counted from 0, if there is a place for its mark.
 fn put_mark(listed: bool, n: usize, marks: &mut [u8])
-    ensures { λ _. ⌜ now (marks .exit) ≡ markedAt n (markOf listed) (now (marks .entry)) ⌝ }
+    ensures { λ _. ⌜ now (marks .exit) ≡ set (now (marks .entry)) n (markOf listed) ⌝ }
 {
     if marks.len() <= n {
         return;
@@ -247,10 +248,9 @@ fn copy_marked(book: &[u8], marks: &[u8], room: &mut [u8])
     while at < book.len() {
         let rest = places::from(book, at);
         let size = places::first_place(rest, b'\n') + 1;
-        if is_marked(marks, n) {
-            put::put_part(places::up_to(rest, size), written, room);
-            written += size;
-        }
+        // Of a line that is not marked no byte is copied.
+        let line = places::up_to(rest, size_if(is_marked(marks, n), size));
+        written = put::put_part(line, written, room);
         at += size;
         n += 1;
     }

@@ -1,6 +1,6 @@
 // The arguments: `-h`, `--help` and `--version`. Only the first one is looked at.
 use crate::help;
-use crate::streams;
+use crate::write_out;
 use libc::STDERR_FILENO;
 use text::bytes;
 
@@ -23,7 +23,7 @@ fn answer(word: &[u8]) {
         return;
     }
     if bytes::same(word, b"--version") {
-        streams::write_out(b"whenread 0.1.0\n");
+        write_out(b"whenread 0.1.0\n");
         return;
     }
     io::write_all(STDERR_FILENO, b"whenread: unknown argument '");

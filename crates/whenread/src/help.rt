@@ -1,8 +1,8 @@
 // The text that `whenread --help` writes. `.ci/help` tests that docs/whenread.1 has each of its lines.
-use crate::streams;
+use crate::write_out;
 
 pub fn write_help() {
-    streams::write_out(
+    write_out(
         b"Usage: whenread < LINES
        whenread -h | --help
        whenread --version

@@ -10,7 +10,6 @@
 // reported on standard error.
 mod arguments;
 mod help;
-mod streams;
 
 ghost use Prim.Native.Nat.{_≤_, _<_};
 ghost use lib.ListN.{length};
@@ -66,7 +65,7 @@ fn read_and_answer(months: &[u32], buffer: &mut [u8], held: usize, out: &mut [u8
 {
     let got = libc::read(STDIN_FILENO, &mut buffer[held..]);
     if streams::has_failed(got) {
-        os::fail(b"whenread: standard input");
+        streams::fail(b"whenread", b"standard input");
         return Turn {
             held: 0,
             is_last: true,
@@ -97,7 +96,7 @@ fn answer_last(months: &[u32], line: &[u8], out: &mut [u8])
         return;
     }
     let n = lines::answer_with(months, line, out);
-    streams::write_out(places::up_to(out, n));
+    write_out(places::up_to(out, n));
 }
 
 // Answers the lines of the first `end` bytes, as many at a time as have answers that fit into `out`,
@@ -118,7 +117,7 @@ fn answer_held(months: &[u32], buffer: &mut [u8], end: usize, out: &mut [u8]) ->
             };
         }
         let answers = places::up_to(out, step.written);
-        if streams::write_out(answers) {
+        if write_out(answers) {
             from += taken;
         } else {
             return Turn {
@@ -131,4 +130,9 @@ fn answer_held(months: &[u32], buffer: &mut [u8], end: usize, out: &mut [u8]) ->
         held: 0,
         is_last: false,
     }
+}
+
+// Writes all of `s` to standard output and returns true, or false if a write fails.
+fn write_out(s: &[u8]) -> bool {
+    streams::write_out(b"whenread", s)
 }

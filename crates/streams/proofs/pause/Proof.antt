@@ -1,4 +1,4 @@
--- `whenread::streams::pause` is safe and ends: a walk of its MIR, by hand, since it lends two local structs. All that it knows of
+-- `streams::pause` is safe and ends: a walk of its MIR, by hand, since it lends two local structs. All that it knows of
 -- `nanosleep` is that it meets its contract. In order: a timespec in memory; the call's contract, at the two references; the walk.
 -- Both structs are lent, each for a lifetime of its own, and come back when the call has returned and the lifetimes are ended. What the
 -- call leaves in the second struct does not matter.
@@ -49,10 +49,10 @@ use Rattle.libc.proofs.nanosleep as nanosleep
 use Rattle.libc.proofs.nanosleep.Symbol as nanosleep-def
 use Rattle.libc.proofs.nanosleep.Symbol.{name as #libc·nanosleep}
 use Rattle.libc.proofs.nanosleep.Met as nanosleep-thm
-use Rattle.whenread.proofs.streams.pause.Key.{name as #whenread·streams·pause}
-use Rattle.whenread.proofs.streams.pause as f
-use Rattle.whenread.proofs.streams.pause.Statement as stated
-use Rattle.whenread.proofs.streams.pause.Code as code
+use Rattle.streams.proofs.pause.Key.{name as #streams·pause}
+use Rattle.streams.proofs.pause as f
+use Rattle.streams.proofs.pause.Statement as stated
+use Rattle.streams.proofs.pause.Code as code
 
 abbrev stayed : Stays (f.ended .signature .params) (f.ended .kept)
 stayed = tt
@@ -162,6 +162,6 @@ pub pause-spec : {M : Type 1} → stated.statement M
 unfolding code.routine tablesOf
 pause-spec 𝓤 H 𝓜 𝓖 𝓡 =
     entered 𝓤 H (tripleOf 𝓤 H (𝓖 .A) f.signature (f.spec 𝓤 H (𝓖 .A) (𝓜 .mem) (𝓡 .run)))
-    (tables 𝓤 H 𝓜 𝓡 code.env .C) (tables 𝓤 H 𝓜 𝓡 code.env .Λ) #whenread·streams·pause code.function (code.unfolded 𝓤 H 𝓜 𝓡)
+    (tables 𝓤 H 𝓜 𝓡 code.env .C) (tables 𝓤 H 𝓜 𝓡 code.env .Λ) #streams·pause code.function (code.unfolded 𝓤 H 𝓜 𝓡)
     (pause-meets 𝓤 H (𝓖 .A) (givenOf 𝓤 H 𝓜 𝓖) (𝓜 .mem) (𝓡 .run) (tablesOf 𝓤 H 𝓜 (tables 𝓤 H 𝓜 𝓡 code.env))
     (cited 𝓤 H (Nanosleep 𝓤 H (𝓖 .A) (𝓜 .mem) (𝓡 .run)) 𝓜 𝓡 code.env #libc·nanosleep nanosleep-def.routine code.calls-libc·nanosleep (nanosleep-thm.met 𝓤 H 𝓜 𝓖 𝓡)))

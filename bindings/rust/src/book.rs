@@ -1,0 +1,154 @@
+//! A book of stamps: a text in which each cooked hull has a line, and the listing of the hulls that its cut-offs keep.
+//!
+//! A book has at most [`MAX`] bytes. The empty book is good. Every line ends in a newline, the last one too, and has four
+//! fields with tabs between:
+//!
+//! ```text
+//! hull   PATH  KEY      TIME
+//! since  TEXT  SECONDS  OFFSET
+//! ```
+//!
+//! - PATH is 1 to 255 bytes from 32 to 126.
+//! - KEY is 16 bytes, each `0` to `9` or `a` to `f`.
+//! - TIME is exactly what [`Time::write_to`](crate::Time::write_to) writes for some time at an offset of whole minutes:
+//!   `1745582210 +0200`, and not `+5 +0000`, `05 +0000`, `5 +0060` or `5 -0000`.
+//! - TEXT is a relative date without tab and newline that [`parse_relative`](crate::parse_relative) reads at the current
+//!   time SECONDS, OFFSET. These two are plain decimals: `0`, `-18000`, and not `+5`, `05` or `-0`.
+//!
+//! Any other line is bad, and so is an empty line, or one without its newline at the end of the book.
+//!
+//! The time that a `since` line's text means is the cut-off for the `hull` lines below it, up to the next `since` line.
+//! The listing has the `hull` lines whose seconds are at or after their cut-off, and all those that have no `since` line
+//! above them, in the order of the book. Each is listed with its newline, byte for byte. So the listing of a good book is a
+//! good book too, and has no more bytes.
+
+use crate::{entries, refusal, Refusal};
+use core::fmt;
+
+/// The most bytes that a book has.
+pub const MAX: usize = 65536;
+
+/// Checks that a book is good.
+///
+/// # Errors
+/// [`BookError::TooLong`], which is tested first; [`BookError::BadLine`].
+///
+/// ```
+/// use chowderbell::book::{self, BookError};
+///
+/// assert_eq!(book::check("hull\tships/whaler\t00112233445566ff\t1745582210 +0200\n"), Ok(()));
+/// assert_eq!(book::check(""), Ok(()));
+/// // the second line has no newline
+/// assert_eq!(book::check("since\tyesterday\t86400\t0\nsince\tnow\t0\t0"), Err(BookError::BadLine(2)));
+/// ```
+pub fn check(book: impl AsRef<[u8]>) -> Result<(), BookError> {
+    let mut line = 0;
+    let number = entries::book_check(book.as_ref(), &mut line);
+    refusal::answer(number, ()).map_err(|why| BookError::new(why, line))
+}
+
+/// Writes the listing of a book at the start of `room` and returns its length. The bytes after it are not changed. A room of
+/// as many bytes as the book is always long enough.
+///
+/// # Errors
+/// Those of [`check`], then [`BookError::Room`]. `room` is not changed then.
+///
+/// ```
+/// use chowderbell::book;
+///
+/// let mut room = [b'.'; 36];
+/// assert_eq!(book::list("hull\tcog\t00112233445566ff\t5 +0000\n", &mut room), Ok(34));
+/// assert_eq!(&room, b"hull\tcog\t00112233445566ff\t5 +0000\n..");
+/// ```
+pub fn list(book: impl AsRef<[u8]>, room: &mut [u8]) -> Result<usize, BookError> {
+    let (mut length, mut line) = (0, 0);
+    let number = entries::book_list(book.as_ref(), room, &mut length, &mut line);
+    refusal::answer(number, length).map_err(|why| BookError::new(why, line))
+}
+
+/// The listing of a book, written into `room`. A listing is ASCII.
+///
+/// # Errors
+/// Those of [`list`].
+///
+/// ```
+/// use chowderbell::{book, Time};
+///
+/// let text = "since\t1 hour ago\t1745582210\t7200\n\
+///             hull\tships/cog\t00112233445566ff\t1745578609 +0200\n\
+///             hull\tships/whaler\t8899aabbccddeeff\t1745578610 +0200\n";
+/// let mut room = [0; book::MAX];
+/// let listing = book::listing(text, &mut room).unwrap();
+/// for line in listing.lines() {
+///     let mut fields = line.split('\t').skip(1);
+///     assert_eq!(fields.next(), Some("ships/whaler"));
+///     assert_eq!(fields.next(), Some("8899aabbccddeeff"));
+///     assert_eq!(fields.next().map(str::parse), Some(Ok(Time::new(1745578610, 7200))));
+/// }
+/// ```
+pub fn listing(book: impl AsRef<[u8]>, room: &mut [u8]) -> Result<&str, BookError> {
+    let length = list(book, room)?;
+    Ok(core::str::from_utf8(&room[..length]).expect("a listing is ASCII"))
+}
+
+/// Why a book was not listed.
+#[derive(Clone, Copy, PartialEq, Eq, Hash, Debug)]
+#[non_exhaustive]
+pub enum BookError {
+    /// The book has more than [`MAX`] bytes.
+    TooLong,
+    /// The book has a bad line. This is the number of the first one, counted from 1.
+    BadLine(usize),
+    /// The book is good, and its listing is longer than the room.
+    Room,
+}
+
+impl BookError {
+    /// The error for a refusal by an entry, with the line that it stored.
+    ///
+    /// # Panics
+    /// Panics for a refusal that is neither of a book nor of a room: see [`refusal::answer`].
+    fn new(why: Refusal, line: usize) -> BookError {
+        match (why, line) {
+            (Refusal::Book, 0) => BookError::TooLong,
+            (Refusal::Book, line) => BookError::BadLine(line),
+            (Refusal::Room, _) => BookError::Room,
+            _ => panic!("an entry for a book refuses by 8 or 10"),
+        }
+    }
+
+    /// The refusal: [`Refusal::Book`] or [`Refusal::Room`].
+    #[must_use]
+    pub const fn refusal(self) -> Refusal {
+        match self {
+            BookError::TooLong | BookError::BadLine(_) => Refusal::Book,
+            BookError::Room => Refusal::Room,
+        }
+    }
+
+    /// The number of the first bad line, counted from 1, or 0 if the refusal is for another reason.
+    #[must_use]
+    pub const fn line(self) -> usize {
+        match self {
+            BookError::BadLine(line) => line,
+            BookError::TooLong | BookError::Room => 0,
+        }
+    }
+}
+
+/// ```
+/// use chowderbell::book::BookError;
+///
+/// assert_eq!(BookError::BadLine(3).to_string(), "line 3 of the book is bad");
+/// ```
+impl fmt::Display for BookError {
+    fn fmt(&self, f: &mut fmt::Formatter<'_>) -> fmt::Result {
+        match self {
+            BookError::TooLong => write!(f, "the book has more than {MAX} bytes"),
+            BookError::BadLine(line) => write!(f, "line {line} of the book is bad"),
+            BookError::Room => f.write_str("the room is shorter than the listing"),
+        }
+    }
+}
+
+impl core::error::Error for BookError {}

@@ -1,0 +1,70 @@
+// The entries for a book of stamps (RULES 13): one checks a book, the other lists the hulls that its
+// cut-offs keep. C passes a slice as a pointer and a length, and a result as a pointer to where it is
+// to be stored. Each entry returns 0, 8 or 10 (RULES 2). They keep no pointer and no state.
+// `include/chowderbell.h` is the manual for callers.
+ghost use mathlib.Core.Path.{_≡_};
+ghost use Rattle.text.specs.Room.{roomAfter};
+ghost use Rattle.relative.specs.Relative.{maxPairs};
+ghost use Rattle.stamps.specs.Book.{checkOf};
+ghost use Rattle.stamps.specs.Listing.{listing, listOf, isWritten};
+ghost use Rattle.chowderbell.specs.Entries.{HandedCheck, HandedListing};
+use crate::times::SUCCESS;
+use stamps::book;
+use stamps::book::Checked;
+use stamps::book::Listed;
+
+#[no_mangle]
+pub extern "C" fn chowderbell_book_check(book: &[u8], line: &mut usize) -> u8
+    ensures { λ r. ⌜ HandedCheck (checkOf maxPairs (now (book .entry))) r (now (line .exit)) ⌝ }
+{
+    hand_check(book::check(book), line)
+}
+
+#[no_mangle]
+pub extern "C" fn chowderbell_book_list(
+    book: &[u8],
+    room: &mut [u8],
+    length: &mut usize,
+    line: &mut usize,
+) -> u8
+    ensures answer { λ r. ⌜ HandedListing (listOf maxPairs (now (book .entry)) (now (room .entry))) r (now (length .exit)) (now (line .exit)) ⌝ }
+    ensures room { λ _. ⌜ now (room .exit) ≡ roomAfter (isWritten (listOf maxPairs (now (book .entry)) (now (room .entry)))) (listing maxPairs (now (book .entry))) (now (room .entry)) ⌝ }
+{
+    hand_listing(book::list(book, room), length, line)
+}
+
+// Returns the number of a check and stores the number of the first bad line. It is 0 for a good book,
+// and for one that is too long.
+fn hand_check(c: Checked, line: &mut usize) -> u8
+    ensures { λ r. ⌜ HandedCheck c r (now (line .exit)) ⌝ }
+{
+    match c {
+        Checked::Good => {
+            *line = 0;
+            SUCCESS
+        }
+        Checked::Refused(r, n) => {
+            *line = n;
+            time::number_of(r)
+        }
+    }
+}
+
+// Returns the number of a listing and stores its length, which is 0 for a refusal, and the number of
+// the first bad line. That is 0 for a good book, and for one that is too long.
+fn hand_listing(l: Listed, length: &mut usize, line: &mut usize) -> u8
+    ensures { λ r. ⌜ HandedListing l r (now (length .exit)) (now (line .exit)) ⌝ }
+{
+    match l {
+        Listed::Length(n) => {
+            *length = n;
+            *line = 0;
+            SUCCESS
+        }
+        Listed::Refused(r, at) => {
+            *length = 0;
+            *line = at;
+            time::number_of(r)
+        }
+    }
+}

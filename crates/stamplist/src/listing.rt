@@ -1,0 +1,66 @@
+// A book is read whole, and then listed. A book of more than 65,536 bytes is not read to its end: the
+// room for it has one byte more than a book may have, and that byte shows that it is too long.
+ghost use mathlib.Core.Path.{_≡_};
+ghost use lib.ListN.{length};
+use crate::write_out;
+use libc::STDERR_FILENO;
+use stamps::book;
+use stamps::book::Listed;
+use text::bytes;
+use text::places;
+
+const ROOM: usize = book::MAX_BOOK + 1;
+
+// Lists the book in a file; `-` is standard input.
+pub fn list_file(path: &[u8]) {
+    if bytes::same(path, b"-") {
+        list_input();
+        return;
+    }
+    let mut room = book_room();
+    let reading = streams::read_file(b"stamplist", path, &mut room);
+    if reading.failed {
+        return;
+    }
+    list(path, places::up_to(&room, reading.length));
+}
+
+// Lists the book on standard input.
+pub fn list_input() {
+    let mut room = book_room();
+    let reading = streams::read_input(b"stamplist", &mut room);
+    if reading.failed {
+        return;
+    }
+    list(b"standard input", places::up_to(&room, reading.length));
+}
+
+fn book_room() -> [u8; 65537]
+    ensures { λ r. ⌜ 65537 ≡ length r ⌝ }
+{
+    [0; ROOM]
+}
+
+// Writes the listing of a book. A bad book is reported by its name. No listing is longer than its book,
+// so a buffer of 65,536 bytes has room for it, and a refusal at line 0 says that the book is too long.
+fn list(name: &[u8], book: &[u8]) {
+    let months = calendar::months();
+    let mut out = io::large_buffer();
+    let listed = book::list_with(&months, book, &mut out);
+    match listed {
+        Listed::Length(n) => {
+            write_out(places::up_to(&out, n));
+        }
+        Listed::Refused(_, line) => refuse(name, line),
+    }
+}
+
+// Says where a book is bad: at line 0 if it is too long.
+fn refuse(name: &[u8], line: usize) {
+    if line == 0 {
+        io::write_all(STDERR_FILENO, name);
+        io::write_all(STDERR_FILENO, b": too long: more than 65,536 bytes\n");
+        return;
+    }
+    streams::bad_line(name, line);
+}

@@ -1,0 +1,254 @@
+/* Runs the book entries of the library on records from standard input and says which answers differ from those wanted.
+ *
+ * compare.py starts it, makes the books, knows what is wanted and reads what differs. Input is a sequence of batches: two 32-bit
+ * numbers, the records and the bytes that follow; then the records, each five 32-bit numbers (length of the book, number wanted,
+ * line wanted, length of the listing wanted, room that the listing needs) and the bytes of the book and of the listing. The
+ * answer to a batch is a 32-bit number, the records that differ, and for each of them, at most MOST_TOLD, its place in the
+ * batch and a text with its length. All numbers are as the machine stores them.
+ *
+ * With an argument, the number of a mistake below, every answer has that mistake, and differences must be found.
+ *
+ * A book lies against a page that cannot be read, in front or behind, and a room against one that cannot be written: a call
+ * that goes beyond ends the program, and compare.py sees that it did.
+ */
+#define _DEFAULT_SOURCE
+#include <stdarg.h>
+#include <stdint.h>
+#include <stdio.h>
+#include <stdlib.h>
+#include <string.h>
+#include <sys/mman.h>
+#include <unistd.h>
+
+#include "chowderbell.h"
+
+/* As the request gives them; the compiler refuses a header that declares them otherwise. */
+uint8_t chowderbell_book_check(const uint8_t *book, size_t len, size_t *line);
+uint8_t chowderbell_book_list(const uint8_t *book, size_t len, uint8_t *room, size_t room_len, size_t *length, size_t *line);
+
+enum { PAGE = 4096, LARGEST = 1 << 18, FRONT = 64, MOST_TOLD = 64, TEXT = 200, SECONDS_FOR_A_BATCH = 120 };
+
+/* Mistakes that the library might make with memory. compare.py has their names, in this order. */
+enum { NONE, CHANGES_BEHIND, CHANGES_ON_REFUSAL, CHANGES_IN_FRONT, CHANGES_BOOK, LEAVES_LENGTH, LEAVES_LINE, LEAVES_CHECK_LINE,
+       READS_BEHIND, READS_IN_FRONT, WRITES_BEHIND, MISTAKES };
+static int mistake = NONE;
+
+/* What `*line` and `*length` hold before a call. */
+static const size_t LEFT_OVER = (size_t)0x5aa55aa55aa55aa5u;
+
+typedef struct {
+    uint32_t book, number, line, listing, need;
+} record;
+
+typedef struct {
+    uint32_t place, length;
+    char text[TEXT];
+} told;
+
+static uint8_t *book_pages, *room_pages;
+static uint8_t pattern[LARGEST], wanted_room[LARGEST];
+static told differences[MOST_TOLD];
+static uint32_t differing;
+
+static void give_up(const char *why)
+{
+    fprintf(stderr, "compare: %s\n", why);
+    exit(2);
+}
+
+/* LARGEST bytes between two pages that cannot be touched. */
+static uint8_t *fenced(void)
+{
+    uint8_t *pages = mmap(NULL, LARGEST + 2 * PAGE, PROT_NONE, MAP_PRIVATE | MAP_ANONYMOUS, -1, 0);
+    if (pages == MAP_FAILED || mprotect(pages + PAGE, LARGEST, PROT_READ | PROT_WRITE) != 0)
+        give_up("no memory");
+    return pages + PAGE;
+}
+
+/* Tells the first difference of a record. Always answers 1. */
+static int differ(const char *format, ...)
+{
+    if (differing < MOST_TOLD) {
+        va_list values;
+        va_start(values, format);
+        vsnprintf(differences[differing].text, TEXT, format, values);
+        va_end(values);
+    }
+    differing++;
+    return 1;
+}
+
+static uint8_t check(const uint8_t *book, size_t len, size_t *line)
+{
+    const size_t held = *line;
+    const uint8_t number = chowderbell_book_check(book, len, line);
+    if (mistake == LEAVES_CHECK_LINE && number == 0)
+        *line = held;
+    if (mistake == READS_BEHIND && len > 0)
+        (void)((const volatile uint8_t *)book)[len];
+    if (mistake == READS_IN_FRONT && len > 0)
+        (void)((const volatile uint8_t *)book)[-1];
+    return number;
+}
+
+static uint8_t list(const uint8_t *book, size_t len, uint8_t *room, size_t room_len, size_t *length, size_t *line)
+{
+    const size_t held_length = *length, held_line = *line;
+    const uint8_t number = chowderbell_book_list(book, len, room, room_len, length, line);
+    if (mistake == CHANGES_BEHIND && number == 0 && *length < room_len)
+        room[*length] ^= 1;
+    if (mistake == CHANGES_ON_REFUSAL && number != 0 && room_len > 0)
+        room[room_len - 1] ^= 1;
+    if (mistake == CHANGES_IN_FRONT && room_len > 0)
+        room[-1] ^= 1;
+    if (mistake == CHANGES_BOOK && len > 0)
+        ((uint8_t *)(uintptr_t)book)[len / 2] ^= 1;
+    if (mistake == LEAVES_LENGTH && number != 0)
+        *length = held_length;
+    if (mistake == LEAVES_LINE && number != 10)
+        *line = held_line;
+    if (mistake == WRITES_BEHIND && room_len > 0)
+        room[room_len] = 0;
+    return number;
+}
+
+static int check_differs(const char *where, const uint8_t *book, const record *want)
+{
+    size_t line = LEFT_OVER;
+    unsigned number = check(book, want->book, &line);
+    if (number != want->number || line != want->line)
+        return differ("check, book %s: number %u, line %zu; wanted %u, %u", where, number, line, want->number, want->line);
+    return 0;
+}
+
+/* One listing into a room of `len` bytes, behind which or in front of which the fence stands. */
+static int list_differs(const char *where, const uint8_t *book, const record *want, const uint8_t *listing, size_t len, int at_end)
+{
+    const size_t front = at_end ? FRONT : 0;
+    uint8_t *front_of_room = at_end ? room_pages + LARGEST - len - FRONT : room_pages;
+    uint8_t *room = front_of_room + front;
+    size_t length = LEFT_OVER, line = LEFT_OVER, wanted_length = 0, wanted_line = 0, wanted = want->number, i;
+
+    memcpy(front_of_room, pattern, front + len);
+    memcpy(wanted_room, pattern, front + len);
+    if (wanted != 0)
+        wanted_line = want->line;
+    else if (len < want->need)
+        wanted = CHOWDERBELL_ROOM;
+    else {
+        wanted_length = want->listing;
+        memcpy(wanted_room + front, listing, wanted_length < len ? wanted_length : len);
+    }
+
+    size_t number = list(book, want->book, room, len, &length, &line);
+    if (number != wanted || length != wanted_length || line != wanted_line)
+        return differ("list, book %s, room of %zu: number %zu, length %zu, line %zu; wanted %zu, %zu, %zu", where, len, number,
+                      length, line, wanted, wanted_length, wanted_line);
+    if (memcmp(front_of_room, wanted_room, front + len) == 0)
+        return 0;
+    for (i = 0; front_of_room[i] == wanted_room[i];)
+        i++;
+    return differ("list, book %s, room of %zu, number %zu: byte %ld of the room is %u; wanted %u", where, len, number,
+                  (long)i - (long)front, front_of_room[i], wanted_room[i]);
+}
+
+/* A pointer may be NULL where its length is 0. */
+static int nulls_differ(const uint8_t *book, const record *want)
+{
+    size_t length = LEFT_OVER, line = LEFT_OVER, wanted = want->number;
+    if (wanted == 0 && want->need > 0)
+        wanted = CHOWDERBELL_ROOM;
+    size_t number = list(want->book == 0 ? NULL : book, want->book, NULL, 0, &length, &line);
+    if (number != wanted || length != 0 || line != want->line)
+        return differ("list, room NULL: number %zu, length %zu, line %zu; wanted %zu, 0, %u", number, length, line, wanted,
+                      want->line);
+    return want->book == 0 && check_differs("NULL", NULL, want);
+}
+
+static int record_differs(const record *want, const uint8_t *book, const uint8_t *listing)
+{
+    uint8_t *first = book_pages, *last = book_pages + LARGEST - want->book;
+    size_t rooms[8], count = 0, i;
+
+    memcpy(first, book, want->book);
+    memcpy(last, book, want->book);
+    rooms[count++] = 0;
+    rooms[count++] = want->need;
+    rooms[count++] = want->need + 1 + want->book % 61;
+    if (want->need > 0)
+        rooms[count++] = want->need - 1;
+    if (want->need > 2)
+        rooms[count++] = want->need / 2;
+    rooms[count++] = want->book;
+
+    if (check_differs("at the end", last, want) || check_differs("at the start", first, want))
+        return 1;
+    for (i = 0; i < count; i++)
+        if (list_differs("at the end", last, want, listing, rooms[i], (i & 1) == 0) ||
+            list_differs("at the start", first, want, listing, rooms[i], (i & 1) == 1))
+            return 1;
+    if (nulls_differ(last, want))
+        return 1;
+    if (memcmp(first, book, want->book) != 0 || memcmp(last, book, want->book) != 0)
+        return differ("the book was changed");
+    return 0;
+}
+
+/* Reads `len` bytes. Answers 0 at the end of the input. */
+static int take(void *to, size_t len)
+{
+    size_t got = fread(to, 1, len, stdin);
+    if (got != 0 && got != len)
+        give_up("the input ends inside a batch");
+    return got == len;
+}
+
+static void give(const void *from, size_t len)
+{
+    if (fwrite(from, 1, len, stdout) != len)
+        give_up("cannot write");
+}
+
+int main(int count, char **arguments)
+{
+    uint32_t head[2], i;
+    if (count > 1)
+        mistake = atoi(arguments[1]);
+    if (mistake < NONE || mistake >= MISTAKES)
+        give_up("there is no such mistake");
+    book_pages = fenced();
+    room_pages = fenced();
+    for (i = 0; i < LARGEST; i++)
+        pattern[i] = (uint8_t)(i * 167 + (i >> 8) + 128);
+
+    while (take(head, sizeof head)) {
+        uint8_t *batch = malloc(head[1] + 1), *at = batch, *end = batch + head[1];
+        if (batch == NULL || (head[1] > 0 && !take(batch, head[1])))
+            give_up("no batch");
+        alarm(SECONDS_FOR_A_BATCH);
+        differing = 0;
+        for (i = 0; i < head[0]; i++) {
+            record want;
+            memcpy(&want, at, sizeof want);
+            at += sizeof want;
+            if (want.book > LARGEST / 2 || want.need > LARGEST / 2 || want.listing > want.book)
+                give_up("a book is too long for this program");
+            if (record_differs(&want, at, at + want.book) && differing <= MOST_TOLD)
+                differences[differing - 1].place = i;
+            at += want.book + want.listing;
+        }
+        alarm(0);
+        if (at != end)
+            give_up("a batch is not what its numbers say");
+        free(batch);
+
+        give(&differing, sizeof differing);
+        for (i = 0; i < differing && i < MOST_TOLD; i++) {
+            differences[i].length = (uint32_t)strlen(differences[i].text);
+            give(&differences[i], 2 * sizeof(uint32_t) + differences[i].length);
+        }
+        if (fflush(stdout) != 0)
+            give_up("cannot write");
+    }
+    return 0;
+}
