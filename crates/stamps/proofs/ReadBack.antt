@@ -3,21 +3,21 @@
 -- one good line. In order: texts without tab and newline; four such texts with tabs between; a line with its newline; the room; a line of a
 -- hull; a line of a cut-off.
 -- Assumes nothing.
-use mathlib.Core.Path.{_≡_, refl, sym, ap, subst, _∙_}
-use mathlib.Core.Bool.{Bool, true, false, cond, not, _&&_, _||_, false≢true}
+use mathlib.Core.Path.{_≡_, refl, sym, ap, _∙_}
+use mathlib.Core.Bool.{Bool, true, false, not, _&&_, _||_, false≢true}
 use mathlib.Core.List.{List, [], _∷_, _++_, append-assoc}
-use Prim.Native.Nat.{ℕ, _+_, _≤_, _<_}
+use Prim.Native.Nat.{ℕ, _<_}
 use native.Mathlib.Omega.{arith}
 use borrow.Author.Tests.{ne-eqb, le-ltb}
 use lib.Dec.{leb, ltb}
 use lib.IntN.{ℤ}
-use lib.ListN.{length, take, drop, length-append, drop-of-length-le}
+use lib.ListN.{length, take, drop}
 use lib.Seq.{take-append-seam}
 use Rattle.ints.proofs.Machine.{In-of-isIn}
 use Rattle.ints.proofs.Parts.{ints}
-use Rattle.text.specs.Bytes.{ascii, same}
+use Rattle.text.specs.Bytes.{ascii}
 use Rattle.text.specs.Decimal.{signed}
-use Rattle.text.specs.Lines.{tab, newline, field, rest, endedLines, takenBy, left}
+use Rattle.text.specs.Lines.{tab, newline, field, rest}
 use Rattle.text.specs.Places.{has}
 use Rattle.text.specs.Quote.{bytes}
 use Rattle.text.specs.Room.{fits, roomAfter}
@@ -39,15 +39,16 @@ use Rattle.relative.specs.Relative.{relativeOf, byName, byPairs, from, namedOf}
 use Rattle.stamps.specs.Lines.{every, isPathByte, isHexDigit, hullAt, hullOf, sinceAt, sinceWith, sinceOf, lineOf}
 use Rattle.stamps.specs.Writing.{hullLine, sinceLine, ended, isHull, isRead, isSince, lineWritten, hullWritten, sinceWritten}
 use Rattle.stamps.specs.Book.{judged, linesIn, lastPiece}
+use Rattle.stamps.specs.Listing.{joined}
 use Rattle.stamps.specs.Held.{isTextByte}
 use Rattle.stamps.specs.declared.line.Line.{Line}
-use Rattle.stamps.specs.declared.line.Line.the-variants.{Bad}
 use Rattle.stamps.specs.declared.stamp.Stamp.the-variants.{At}
 use Rattle.stamps.proofs.Printed.{printed-signed}
 use Rattle.stamps.proofs.Stamps.{stampOf-headerBytes}
 use Rattle.stamps.proofs.Fronts.{headerBytes-between}
 use Rattle.stamps.proofs.Fields.{field-append, rest-append, isTextByte-of-isPathByte, isTextByte-of-isHexDigit}
-use Rattle.stamps.proofs.Reading.{parts-of-isPath, parts-of-isKey, hullOf-stamp}
+use Rattle.stamps.proofs.Reading.{parts-of-isPath, parts-of-isKey, hullOf-stamp, lineOf-hull, lineOf-since}
+use Rattle.stamps.proofs.Listings.{endedLines-joined, left-joined}
 use Rattle.stamps.proofs.Writing.{every-isTextByte, goodHull}
 
 -- ---- texts without tab and newline
@@ -84,9 +85,13 @@ Free-append : (c : ℕ) (s t : List ℕ) → Free c s → Free c t → Free c (s
 Free-append c [] t f g = g
 Free-append c (b ∷ s) t f g = (f .0, Free-append c s t (f .1) g)
 
+has-of-Free : (c : ℕ) (s : List ℕ) → Free c s → has c s ≡ false
+unfolding has
+has-of-Free c s f = rw (firstPlace-of-Free c s f) (le-ltb (length s) (length s) (omega arith))
+
 -- ---- four such texts with tabs between
 record FourFields (l first second third fourth : List ℕ) : Type 0 where
-  one-line : Free newline l
+  one-line : has newline l ≡ false
   first-is : field l ≡ first
   second-is : field (rest l) ≡ second
   third-is : field (rest (rest l)) ≡ third
@@ -102,39 +107,18 @@ fourFields w a b c tw ta tb tc =
     let r₂ : rest (rest l) ≡ from-third = ap rest r₁ ∙ rest-append a from-third (no-tab a ta) in
     let g : (s t : List ℕ) → Text s → Free newline t → Free newline (s ++ tab ∷ t) = λ s t ts ft. Free-append newline s (tab ∷ t) (no-newline s ts) (refl, ft) in
     record {
-      one-line = subst (Free newline) (sym l-is) (g w from-second tw (g a from-third ta (g b c tb (no-newline c tc))));
+      one-line = ap (has newline) l-is ∙ has-of-Free newline (w ++ tab ∷ from-second) (g w from-second tw (g a from-third ta (g b c tb (no-newline c tc))));
       first-is = ap field l-is ∙ field-append w from-second (no-tab w tw);
       second-is = ap field r₁ ∙ field-append a from-third (no-tab a ta);
       third-is = ap field r₂ ∙ field-append b c (no-tab b tb);
       fourth-is = ap rest r₂ ∙ rest-append b c (no-tab b tb);
     }
 
-has-of-Free : (c : ℕ) (s : List ℕ) → Free c s → has c s ≡ false
-unfolding has
-has-of-Free c s f = rw (firstPlace-of-Free c s f) (le-ltb (length s) (length s) (omega arith))
-
-lineOf-fourFields : (bound : ℕ) {l w a b c : List ℕ} → FourFields l w a b c
-    → lineOf bound l ≡ cond (same w (bytes "hull")) (hullOf a b c) (cond (same w (bytes "since")) (sinceOf bound a b c) Bad)
-unfolding lineOf
-lineOf-fourFields bound {l} {w} {a} {b} {c} f =
-    λ i. cond (has-of-Free newline l (f .one-line) i) Bad
-    (cond (same (f .first-is i) (bytes "hull")) (hullOf (f .second-is i) (f .third-is i) (f .fourth-is i))
-    (cond (same (f .first-is i) (bytes "since")) (sinceOf bound (f .second-is i) (f .third-is i) (f .fourth-is i)) Bad))
-
 -- ---- a line with its newline
 -- it is the only line of its text, and nothing is left behind it
-endedLines-ended : (l : List ℕ) → Free newline l → endedLines (ended l) ≡ l ∷ []
-unfolding endedLines
-endedLines-ended [] f = refl
-endedLines-ended (b ∷ l) f = rw (f .0, endedLines-ended l (f .1))
-
-linesIn-ended : (bound : ℕ) (l : List ℕ) → Free newline l → linesIn bound (ended l) ≡ lineOf bound l ∷ []
-unfolding linesIn judged left takenBy
-linesIn-ended bound l f =
-    let e = endedLines-ended l f in
-    let h : length (ended l) ≤ length l + 1 + 0 = omega (arith, length-append l (newline ∷ [])) in
-    let d : left (ended l) ≡ [] = ap (λ (ls : List (List ℕ)). drop (takenBy ls) (ended l)) e ∙ drop-of-length-le (ended l) h in
-    λ i. judged bound (e i) ++ lastPiece (d i)
+linesIn-ended : (bound : ℕ) (l : List ℕ) → has newline l ≡ false → linesIn bound (ended l) ≡ lineOf bound l ∷ []
+unfolding linesIn judged joined
+linesIn-ended bound l h = λ i. judged bound (endedLines-joined (l ∷ []) (h, tt) i) ++ lastPiece (left-joined (l ∷ []) (h, tt) i)
 
 -- ---- the room
 -- a line is written only if its values are good, and then it is at the front of the room
@@ -163,10 +147,11 @@ hull-fields path key t e =
 
 -- the line of good values is read as these values
 pub hull-read-back : (bound : ℕ) (path key : List ℕ) (t : Time) → isHull path key t ≡ true → Seconds64 (t .seconds) → lineOf bound (hullLine path key t) ≡ hullAt path key (At t)
-unfolding same
 hull-read-back bound path key t e r =
     let good = goodHull path key t e in
-    lineOf-fourFields bound (hull-fields path key t e) ∙ hullOf-stamp path key (headerBytes t) (good .path-is) (good .key-is)
+    let f = hull-fields path key t e in
+    lineOf-hull bound (hullLine path key t) (f .one-line) (f .first-is) ∙ (λ i. hullOf (f .second-is i) (f .third-is i) (f .fourth-is i))
+    ∙ hullOf-stamp path key (headerBytes t) (good .path-is) (good .key-is)
     ∙ ap (hullAt path key) (stampOf-headerBytes t r (good .narrow) (good .whole))
 
 module _ (path key : List ℕ) (t : Time) (room : List ℕ) (n : ℕ) (e : hullWritten path key t room ≡ Length n) where
@@ -229,10 +214,11 @@ since-fields bound text current e =
 -- the line of good values is read as these values, and its cut-off is the time that the text means at that current time
 pub since-read-back : (bound : ℕ) (text : List ℕ) (current : Time) → isSince bound text current ≡ true
     → lineOf bound (sinceLine text current) ≡ sinceAt text current (relativeOf bound text (CurrentAt current))
-unfolding same sinceOf
+unfolding sinceOf
 since-read-back bound text current e =
     let good = goodSince bound text current e in
-    lineOf-fourFields bound (since-fields bound text current e)
+    let f = since-fields bound text current e in
+    lineOf-since bound (sinceLine text current) (f .one-line) (f .first-is) ∙ (λ i. sinceOf bound (f .second-is i) (f .third-is i) (f .fourth-is i))
     ∙ (λ i. sinceWith bound text (printed-signed (current .seconds) (good .seconds-in) i) (printed-signed (current .offset) (good .offset-in) i))
 
 module _ (bound : ℕ) (text : List ℕ) (current : Time) (room : List ℕ) (n : ℕ) (e : sinceWritten bound text current room ≡ Length n) where
