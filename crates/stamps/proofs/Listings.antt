@@ -179,12 +179,12 @@ unfolding endedLines
 endedLines-line [] t h = refl
 endedLines-line (b ∷ l) t h = let p = not-has-of-cons newline b l h in rw (p .0, endedLines-line l t (p .1))
 
-endedLines-joined : (ls : List (List ℕ)) → Lacking newline ls → endedLines (joined ls) ≡ ls
+pub endedLines-joined : (ls : List (List ℕ)) → Lacking newline ls → endedLines (joined ls) ≡ ls
 unfolding joined endedLines
 endedLines-joined [] h = refl
 endedLines-joined (l ∷ ls) h = endedLines-line l (joined ls) (h .0) ∙ ap (λ (t : List (List ℕ)). l ∷ t) (endedLines-joined ls (h .1))
 
-left-joined : (ls : List (List ℕ)) → Lacking newline ls → left (joined ls) ≡ []
+pub left-joined : (ls : List (List ℕ)) → Lacking newline ls → left (joined ls) ≡ []
 unfolding left
 left-joined ls h =
     ap (λ (t : List (List ℕ)). drop (takenBy t) (joined ls)) (endedLines-joined ls h) ∙ ap (λ (n : ℕ). drop n (joined ls)) (sym (length-joined ls)) ∙ drop-length (joined ls)
