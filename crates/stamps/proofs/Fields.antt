@@ -227,15 +227,15 @@ module _ (s : List ℕ) (at : ℕ) where
   rest-nil-of-numeral o h =
       let d = drop at s in
       let n : run isTextByte d ≡ numeral d =
-          omega (
-            arith,
-            h,
-            ap length (field-before d),
-            length-take-le (run isTextByte d) d (run-le-length isTextByte d),
-            ap numeral (field-before d),
-            numeral-leading isTextByte isTextByte-of-isSign isTextByte-of-isDigit d,
-            numeral-le-run isTextByte isTextByte-of-isSign isTextByte-of-isDigit d,
-          )
+      omega (
+        arith,
+        h,
+        ap length (field-before d),
+        length-take-le (run isTextByte d) d (run-le-length isTextByte d),
+        ap numeral (field-before d),
+        numeral-leading isTextByte isTextByte-of-isSign isTextByte-of-isDigit d,
+        numeral-le-run isTextByte isTextByte-of-isSign isTextByte-of-isDigit d,
+      )
       in
       rest-before-nil d (ap (λ (v : ℕ). opensWith tab (drop v d)) n ∙ ap (opensWith tab) (drop-drop (numeral d) at s) ∙ o)
 

@@ -250,8 +250,7 @@ fitSigned-of-either half z P y n = by-test (leZ (negℤ (pos half)) z && ltZ z (
 fits-of-timeInRange : (z o : ℤ) → timeInRange (timeAt z o) ≡ true → (fitSigned (2 ^ 63) (Is z) ≡ Is z) × (fitSigned (2 ^ 31) (Is o) ≡ Is o)
 unfolding timeInRange secondsInRange offsetInRange
 fits-of-timeInRange z o e =
-    let p = both (isIn leastSeconds mostSeconds z) (isIn leastOffset mostOffset o) e in
-    (
+    let p = both (isIn leastSeconds mostSeconds z) (isIn leastOffset mostOffset o) e in (
       fitSigned-of-In (2 ^ 63) (In-of-isIn leastSeconds mostSeconds z (p .0)) (omega arith) (omega arith),
       fitSigned-of-In (2 ^ 31) (In-of-isIn leastOffset mostOffset o (p .1)) (omega arith) (omega arith),
     )
