@@ -14,4 +14,5 @@ pub mod Marks
 pub mod Listings
 pub mod ReadBack
 pub mod Examples
+pub mod WritingExamples
 pub mod BookExamples

@@ -24,19 +24,19 @@ use Rattle.time.proofs.Theorems.{header-written-if-it-fits}
 use Rattle.stamps.specs.Held.{putAt}
 
 -- the room up to the end of what is put
-length-front : (x l : List ℕ) (at : ℕ) → at ≤ length l → length (take at l ++ x) ≡ at + length x
-length-front x l at h = length-append (take at l) x ∙ ap (λ (n : ℕ). n + length x) (length-take-le at l h)
+length-take-append : (x l : List ℕ) (at : ℕ) → at ≤ length l → length (take at l ++ x) ≡ at + length x
+length-take-append x l at h = length-append (take at l) x ∙ ap (λ (n : ℕ). n + length x) (length-take-le at l h)
 
 pub length-putAt : (x l : List ℕ) (at : ℕ) → at + length x ≤ length l → length (putAt x at l) ≡ length l
 length-putAt x l at h =
-    omega (arith, length-append (take at l ++ x) (drop (at + length x) l), length-front x l at (omega arith), length-drop (at + length x) l)
+    omega (arith, length-append (take at l ++ x) (drop (at + length x) l), length-take-append x l at (omega arith), length-drop (at + length x) l)
 
 -- two puts, the second right behind the first, are one
-pub putAt-append : (x y l : List ℕ) (at : ℕ) → at ≤ length l → putAt y (at + length x) (putAt x at l) ≡ putAt (x ++ y) at l
+putAt-append : (x y l : List ℕ) (at : ℕ) → at ≤ length l → putAt y (at + length x) (putAt x at l) ≡ putAt (x ++ y) at l
 putAt-append x y l at h =
     let front = take at l ++ x in
     let behind = drop (at + length x) l in
-    let n = length-front x l at h in
+    let n = length-take-append x l at h in
     let e : at + length x + length y ≡ at + length (x ++ y) = omega (arith, length-append x y) in
     let t : take (at + length x) (front ++ behind) ≡ front = take-at front behind (at + length x) n in
     let d : drop (at + length x + length y) (front ++ behind) ≡ drop (at + length (x ++ y)) l =

@@ -100,15 +100,15 @@ goodHull path key t e =
     record { path-is = b .0; key-is = b .1; whole = c .0; narrow = ltb-true (natAbs (t .offset)) 360000 (c .1) }
 
 -- ---- how many bytes a line has
-pub length-hullLine : (path key : List ℕ) (t : Time) → length (ended (hullLine path key t)) ≡ length path + (length key + (length (headerBytes t) + 8))
+pub length-ended-hullLine : (path key : List ℕ) (t : Time) → length (ended (hullLine path key t)) ≡ length path + (length key + (length (headerBytes t) + 8))
 unfolding hullLine
-length-hullLine path key t =
+length-ended-hullLine path key t =
     let h = bytes "hull" ++ tab ∷ path in
     omega (arith, length-append (h ++ tab ∷ key ++ tab ∷ headerBytes t) (newline ∷ []), length-append (h ++ tab ∷ key) (tab ∷ headerBytes t), length-append h (tab ∷ key), length-append (bytes "hull") (tab ∷ path))
 
-pub length-sinceLine : (text : List ℕ) (t : Time) → length (ended (sinceLine text t)) ≡ length text + (length (signed (t .seconds)) + length (signed (t .offset)) + 9)
+pub length-ended-sinceLine : (text : List ℕ) (t : Time) → length (ended (sinceLine text t)) ≡ length text + (length (signed (t .seconds)) + length (signed (t .offset)) + 9)
 unfolding sinceLine
-length-sinceLine text t =
+length-ended-sinceLine text t =
     let h = bytes "since" ++ tab ∷ text in
     let s = signed (t .seconds) in
     let o = signed (t .offset) in

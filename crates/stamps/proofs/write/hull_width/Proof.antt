@@ -3,7 +3,7 @@
 use native.Mathlib.Omega.{arith}
 use Rattle.time.proofs.Headers.{length-headerBytes}
 use Rattle.stamps.proofs.Reading.{parts-of-isPath, parts-of-isKey}
-use Rattle.stamps.proofs.Writing.{goodHull, length-hullLine}
+use Rattle.stamps.proofs.Writing.{goodHull, length-ended-hullLine}
 use borrow.Author.Needs.{needs}
 use Rattle.stamps.proofs.write.hull_width.Statement.{statement}
 use Rattle.stamps.proofs.write.hull_width.Tie as tie
@@ -17,7 +17,7 @@ add-result-3 c =
 returns : tie.Need-returns
 returns c =
     let start = c .before .before .before in
-    omega (arith, length-hullLine (start .args .path .now) (start .args .key .now) (start .args .time), length-headerBytes (start .args .time), c .size .ensures .0)
+    omega (arith, length-ended-hullLine (start .args .path .now) (start .args .key .now) (start .args .time), length-headerBytes (start .args .time), c .size .ensures .0)
 
 pub hull-width-spec : {M : Type 1} → statement M
 hull-width-spec = tie.close (tie.spec (λ c κs. search needs) (λ c. search needs) (λ c. search needs) add-result-3 returns)

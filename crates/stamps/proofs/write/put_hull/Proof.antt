@@ -8,7 +8,7 @@ use Rattle.text.specs.Quote.{bytes}
 use Rattle.time.specs.Header.{headerBytes}
 use Rattle.stamps.specs.Writing.{hullLine}
 use Rattle.stamps.proofs.Putting.{Front, front-append, front-room, front-whole}
-use Rattle.stamps.proofs.Writing.{goodHull, length-hullLine}
+use Rattle.stamps.proofs.Writing.{goodHull, length-ended-hullLine}
 use borrow.Author.Needs.{needs}
 use Rattle.stamps.proofs.write.put_hull.Statement.{statement}
 use Rattle.stamps.proofs.write.put_hull.Tie as tie
@@ -43,14 +43,14 @@ time-put c = front-append (tab ∷ headerBytes (from-time c .args .time)) (key-p
 put-part-requires : tie.Need-put-part-requires
 put-part-requires c κs =
     let start = c .before .before .before .before .before in
-    omega (arith, start .pre .1, length-hullLine (start .args .path .now) (start .args .key .now) (start .args .time))
+    omega (arith, start .pre .1, length-ended-hullLine (start .args .path .now) (start .args .key .now) (start .args .time))
 
 put-field-requires : tie.Need-put-field-requires
 put-field-requires c κs =
     let at-hull = c .before .before .before in
     let start = from-hull at-hull in
     front-room (tab ∷ start .args .path .now) (hull-put at-hull)
-    (omega (arith, start .pre .1, length-hullLine (start .args .path .now) (start .args .key .now) (start .args .time), length-append (bytes "hull") (tab ∷ start .args .path .now)))
+    (omega (arith, start .pre .1, length-ended-hullLine (start .args .path .now) (start .args .key .now) (start .args .time), length-append (bytes "hull") (tab ∷ start .args .path .now)))
 
 put-field-requires-2 : tie.Need-put-field-requires-2
 put-field-requires-2 c κs =
@@ -58,7 +58,7 @@ put-field-requires-2 c κs =
     let start = from-path at-path in
     let path = bytes "hull" ++ tab ∷ start .args .path .now in
     front-room (tab ∷ start .args .key .now) (path-put at-path)
-    (omega (arith, start .pre .1, length-hullLine (start .args .path .now) (start .args .key .now) (start .args .time), length-append path (tab ∷ start .args .key .now), length-append (bytes "hull") (tab ∷ start .args .path .now)))
+    (omega (arith, start .pre .1, length-ended-hullLine (start .args .path .now) (start .args .key .now) (start .args .time), length-append path (tab ∷ start .args .key .now), length-append (bytes "hull") (tab ∷ start .args .path .now)))
 
 put-time-field-requires : tie.Need-put-time-field-requires
 unfolding hullLine

@@ -11,7 +11,7 @@ use borrow.Author.Needs.{sfits-of}
 use Rattle.ints.proofs.Machine.{back}
 use Rattle.text.specs.Decimal.{signed}
 use Rattle.stamps.specs.Writing.{sinceLine, ended}
-use Rattle.stamps.proofs.Writing.{length-sinceLine, wrote-too-short, wrote-line}
+use Rattle.stamps.proofs.Writing.{length-ended-sinceLine, wrote-too-short, wrote-line}
 use borrow.Author.Needs.{needs}
 use Rattle.stamps.proofs.write.put_if_fits.Statement.{statement}
 use Rattle.stamps.proofs.write.put_if_fits.Tie as tie
@@ -26,13 +26,13 @@ width-is c =
     let t = start .args .current in
     let seconds-is = back w64 (t .seconds) (at-seconds .before .struct-told .given .0 .1) in
     let offset-is = toZ-ofZ {w = w64} {z = at-cast .as-i64 .result} (sfits-of (at-cast .as-i64 .ok)) ∙ at-cast .as-i64 .ensures ∙ back w32 (t .offset) (at-cast .before .struct-told2 .given .1 .0 .1) in
-    omega (arith, length-sinceLine (start .args .text .now) t, at-seconds .signed-width .ensures .0, c .signed-width2 .ensures .0, ap (λ (z : ℤ). length (signed z)) seconds-is, ap (λ (z : ℤ). length (signed z)) offset-is)
+    omega (arith, length-ended-sinceLine (start .args .text .now) t, at-seconds .signed-width .ensures .0, c .signed-width2 .ensures .0, ap (λ (z : ℤ). length (signed z)) seconds-is, ap (λ (z : ℤ). length (signed z)) offset-is)
 
 returns : tie.Need-returns
 returns c =
     let start = c .before .before .before in
     wrote-too-short (sinceLine (start .args .text .now) (start .args .current)) (start .args .room .now) refl
-    (omega (arith, c .if1 .taken, length-sinceLine (start .args .text .now) (start .args .current)))
+    (omega (arith, c .if1 .taken, length-ended-sinceLine (start .args .text .now) (start .args .current)))
 
 returns-2 : tie.Need-returns-2
 returns-2 c =

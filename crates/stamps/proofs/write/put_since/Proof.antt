@@ -15,7 +15,7 @@ use Rattle.text.specs.Lines.{tab, newline}
 use Rattle.text.specs.Quote.{bytes}
 use Rattle.stamps.specs.Writing.{sinceLine}
 use Rattle.stamps.proofs.Putting.{Front, front-append, front-room, front-whole}
-use Rattle.stamps.proofs.Writing.{length-sinceLine}
+use Rattle.stamps.proofs.Writing.{length-ended-sinceLine}
 use borrow.Author.Needs.{needs}
 use Rattle.stamps.proofs.write.put_since.Statement.{statement}
 use Rattle.stamps.proofs.write.put_since.Tie as tie
@@ -61,14 +61,14 @@ offset-put c =
 put-part-requires : tie.Need-put-part-requires
 put-part-requires c κs =
     let start = c .before .before .before .before in
-    omega (arith, start .pre, length-sinceLine (start .args .text .now) (start .args .current))
+    omega (arith, start .pre, length-ended-sinceLine (start .args .text .now) (start .args .current))
 
 put-field-requires : tie.Need-put-field-requires
 put-field-requires c κs =
     let at-since = c .before .before .before in
     let start = from-since at-since in
     front-room (tab ∷ start .args .text .now) (since-put at-since)
-    (omega (arith, start .pre, length-sinceLine (start .args .text .now) (start .args .current), length-append (bytes "since") (tab ∷ start .args .text .now)))
+    (omega (arith, start .pre, length-ended-sinceLine (start .args .text .now) (start .args .current), length-append (bytes "since") (tab ∷ start .args .text .now)))
 
 put-number-field-requires : tie.Need-put-number-field-requires
 put-number-field-requires c κs =
@@ -77,7 +77,7 @@ put-number-field-requires c κs =
     let text = bytes "since" ++ tab ∷ start .args .text .now in
     let z = toZ w64 (ofZ w64 (start .args .current .seconds)) in
     front-room (tab ∷ signed z) (text-put at-text)
-    (omega (arith, start .pre, ap (λ (z : ℤ). length (signed z)) (seconds-is c), length-sinceLine (start .args .text .now) (start .args .current), length-append text (tab ∷ signed z), length-append (bytes "since") (tab ∷ start .args .text .now)))
+    (omega (arith, start .pre, ap (λ (z : ℤ). length (signed z)) (seconds-is c), length-ended-sinceLine (start .args .text .now) (start .args .current), length-append text (tab ∷ signed z), length-append (bytes "since") (tab ∷ start .args .text .now)))
 
 put-number-field-requires-2 : tie.Need-put-number-field-requires-2
 unfolding sinceLine
