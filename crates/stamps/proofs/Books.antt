@@ -23,7 +23,7 @@ use Rattle.text.proofs.Lists.{by-test, both}
 use Rattle.text.proofs.Lines.{endedLines-none, endedLines-cut}
 use Rattle.stamps.specs.Lines.{lineOf, isGood}
 use Rattle.stamps.specs.Book.{maxBook, judged, linesIn, lastPiece, firstBad, checkedAt, checkOf}
-use Rattle.stamps.specs.Listing.{isListed, cutOffBelow, listed, joined, listing}
+use Rattle.stamps.specs.Listing.{isListed, orAbove, cutOffBelow, listed, joined, listing}
 use Rattle.stamps.specs.Theorems.{areGood}
 use Rattle.stamps.specs.Held.{FirstLine, NextLine, markOf, marksOf, badNumber}
 use Rattle.stamps.specs.declared.line.Line.{Line}
@@ -278,9 +278,9 @@ module _ {bound : ℕ} {book was marks : List ℕ} {at n size : ℕ} {c : Intege
 
     -- the next line is good
     pub judging-again : (marks′ : List ℕ) (k : ℕ) → marks′ ≡ set marks n (markOf (next .listed)) → k ≡ cond (next .listed) (next .size) 0 → (next .size ≡ 0 → ⊥)
-        → Judging bound book was marks′ (at + next .size) (n + 1) (size + k) (next .«cut_off»)
+        → (below : Integer) → below ≡ orAbove (next .«cut_off») c → Judging bound book was marks′ (at + next .size) (n + 1) (size + k) below
     unfolding marksOf
-    judging-again marks′ k set-is k-is z =
+    judging-again marks′ k set-is k-is z below below-is =
         by-test (isGood (lineOf bound (before newline s)) && has newline s)
         (λ e.
         let h = both (isGood (lineOf bound (before newline s))) (has newline s) e .1 in
@@ -291,6 +291,7 @@ module _ {bound : ℕ} {book was marks : List ℕ} {at n size : ℕ} {c : Intege
         let rest = endedLines (drop (at + next .size) book) in
         let cut : endedLines (drop at book) ≡ l ∷ rest = ap endedLines (sym is) ∙ endedLines-first s h ∙ ap (λ (t : List ℕ). l ∷ endedLines t) d in
         let m : suc (n + 1) ≡ n + 1 + 1 = omega arith in
+        let e-c : below ≡ cutOffBelow c (lineOf bound l) = below-is ∙ ap (λ (x : Integer). orAbove x c) (f .cut-off-is) in
         let added : k ≡ cond (isListed c (lineOf bound l)) (length l + 1) 0 = k-is ∙ (λ i. cond (f .listed-is i) (e-l i) 0) in
         record {
           within = omega (arith, firstPlace-lt s h, ap length is, length-drop at book, j .within);
@@ -303,11 +304,11 @@ module _ {bound : ℕ} {book was marks : List ℕ} {at n size : ℕ} {c : Intege
             j .length-is,
             ap (λ (ls : List (List ℕ)). length (joined (listed bound c ls))) cut,
             length-listed-cons bound c l rest,
-            ap (λ (x : Integer). length (joined (listed bound x rest))) (f .cut-off-is),
+            ap (λ (x : Integer). length (joined (listed bound x rest))) e-c,
           );
           marked = j .marked ∙ ap (λ (ls : List (List ℕ)). sets marks n (marksOf bound c ls)) cut
-              ∙ (λ i. sets (set marks n (markOf (sym (f .listed-is) i))) (sym (add-one n) i) (marksOf bound (sym (f .cut-off-is) i) rest))
-              ∙ ap (λ (ms : List ℕ). sets ms (n + 1) (marksOf bound (next .«cut_off») rest)) (sym set-is);
+              ∙ (λ i. sets (set marks n (markOf (sym (f .listed-is) i))) (sym (add-one n) i) (marksOf bound (sym e-c i) rest))
+              ∙ ap (λ (ms : List ℕ). sets ms (n + 1) (marksOf bound below rest)) (sym set-is);
           places = ap length set-is ∙ length-set marks n (markOf (next .listed)) ∙ j .places;
         })
         (λ e. absurd (z (rw e at (f .size-is))))

@@ -1,5 +1,6 @@
 -- The laws of books (RULES 13). In order: scans; printed numbers; tails of stamps; stamps, and stamps at the front of a longer text; fields;
--- lines as they are read; books; the marks of lines; listings; examples.
+-- lines as they are read; lines as they are written, part behind part; books; the marks of lines; listings; lines read back and
+-- written back; examples.
 pub mod Scans
 pub mod Printed
 pub mod Tails
@@ -7,9 +8,13 @@ pub mod Stamps
 pub mod Fronts
 pub mod Fields
 pub mod Reading
+pub mod Writing
+pub mod Putting
 pub mod Books
 pub mod Marks
 pub mod Listings
+pub mod ReadBack
 pub mod WriteBack
 pub mod Examples
+pub mod WritingExamples
 pub mod BookExamples

@@ -25,8 +25,8 @@ use Rattle.text.proofs.Texts.{not-has-of-cons, Lacking}
 use Rattle.time.specs.declared.Refusal.the-variants.{Book}
 use Rattle.stamps.specs.Lines.{lineOf, isGood}
 use Rattle.stamps.specs.Book.{maxBook, judged, linesIn, firstBad, checkedAt, checkOf}
-use Rattle.stamps.specs.Listing.{isListed, cutOffBelow, listed, joined, listing}
-use Rattle.stamps.specs.Theorems.{areGood, isHullLine, isSinceLine, hullsOf, hasSince, cutOffIn, orElse, lastCutOff}
+use Rattle.stamps.specs.Listing.{isListed, cutOffIn, orAbove, cutOffBelow, listed, joined, listing}
+use Rattle.stamps.specs.Theorems.{areGood, isHullLine, isSinceLine, hullsOf, hasSince, lastCutOff}
 use Rattle.stamps.specs.declared.line.Line.{Line}
 use Rattle.stamps.specs.declared.line.Line.the-variants.{Hull, Since, Bad}
 use Rattle.stamps.specs.declared.book.Checked.{Checked}
@@ -34,26 +34,21 @@ use Rattle.stamps.specs.declared.book.Checked.the-variants.{Good, Refuse
 use Rattle.stamps.proofs.Books.{length-joined, takenBy-le, firstBad-good, firstBad-bad, le-firstBad, areGood-append, good-book, book-of-good, checkOf-long}
 
 -- ---- a line is listed exactly if it is a `hull` line whose seconds are at or after the last cut-off above it
-orElse-assoc : (a b c : Integer) → orElse (orElse a b) c ≡ orElse a (orElse b c)
-orElse-assoc (Is z) b c = refl
-orElse-assoc Nothing b c = refl
+orAbove-assoc : (a b c : Integer) → orAbove (orAbove a b) c ≡ orAbove a (orAbove b c)
+orAbove-assoc (Is z) b c = refl
+orAbove-assoc Nothing b c = refl
 
-orElse-nothing : (a : Integer) → orElse a Nothing ≡ a
-orElse-nothing (Is z) = refl
-orElse-nothing Nothing = refl
-
-cutOffBelow-orElse : (c : Integer) (l : Line) → cutOffBelow c l ≡ orElse (cutOffIn l) c
-cutOffBelow-orElse c (Hull h) = refl
-cutOffBelow-orElse c (Since x) = refl
-cutOffBelow-orElse c Bad = refl
+orAbove-nothing : (a : Integer) → orAbove a Nothing ≡ a
+orAbove-nothing (Is z) = refl
+orAbove-nothing Nothing = refl
 
 module _ (bound : ℕ) where
-  listed-append : (c : Integer) (above below : List (List ℕ)) → listed bound c (above ++ below) ≡ listed bound c above ++ listed bound (orElse (lastCutOff bound above) c) below
+  listed-append : (c : Integer) (above below : List (List ℕ)) → listed bound c (above ++ below) ≡ listed bound c above ++ listed bound (orAbove (lastCutOff bound above) c) below
   unfolding listed lastCutOff
   listed-append c [] below = refl
   listed-append c (l ∷ above) below =
       let x = lineOf bound l in
-      let e : orElse (lastCutOff bound above) (cutOffBelow c x) ≡ orElse (orElse (lastCutOff bound above) (cutOffIn x)) c = ap (orElse (lastCutOff bound above)) (cutOffBelow-orElse c x) ∙ sym (orElse-assoc (lastCutOff bound above) (cutOffIn x) c) in
+      let e : orAbove (lastCutOff bound above) (cutOffBelow c x) ≡ orAbove (orAbove (lastCutOff bound above) (cutOffIn x)) c = sym (orAbove-assoc (lastCutOff bound above) (cutOffIn x) c) in
       by-test (isListed c x) (λ y. rw (y, listed-append (cutOffBelow c x) above below, e)) (λ n. rw (n, listed-append (cutOffBelow c x) above below, e))
 
   pub listed-exactly-if : (above : List (List ℕ)) (l : List ℕ) (below : List (List ℕ))
@@ -63,7 +58,7 @@ module _ (bound : ℕ) where
   unfolding listed
   listed-exactly-if above l below =
       let c = lastCutOff bound above in
-      listed-append Nothing above (l ∷ below) ∙ ap (λ (x : Integer). listed bound Nothing above ++ listed bound x (l ∷ below)) (orElse-nothing c)
+      listed-append Nothing above (l ∷ below) ∙ ap (λ (x : Integer). listed bound Nothing above ++ listed bound x (l ∷ below)) (orAbove-nothing c)
       ∙ by-test (isListed c (lineOf bound l)) (λ y. rw y) (λ n. rw n)
 
   -- every listed line is a `hull` line
@@ -184,12 +179,12 @@ unfolding endedLines
 endedLines-line [] t h = refl
 endedLines-line (b ∷ l) t h = let p = not-has-of-cons newline b l h in rw (p .0, endedLines-line l t (p .1))
 
-endedLines-joined : (ls : List (List ℕ)) → Lacking newline ls → endedLines (joined ls) ≡ ls
+pub endedLines-joined : (ls : List (List ℕ)) → Lacking newline ls → endedLines (joined ls) ≡ ls
 unfolding joined endedLines
 endedLines-joined [] h = refl
 endedLines-joined (l ∷ ls) h = endedLines-line l (joined ls) (h .0) ∙ ap (λ (t : List (List ℕ)). l ∷ t) (endedLines-joined ls (h .1))
 
-left-joined : (ls : List (List ℕ)) → Lacking newline ls → left (joined ls) ≡ []
+pub left-joined : (ls : List (List ℕ)) → Lacking newline ls → left (joined ls) ≡ []
 unfolding left
 left-joined ls h =
     ap (λ (t : List (List ℕ)). drop (takenBy t) (joined ls)) (endedLines-joined ls h) ∙ ap (λ (n : ℕ). drop n (joined ls)) (sym (length-joined ls)) ∙ drop-length (joined ls)
@@ -263,7 +258,8 @@ module _ (bound : ℕ) where
       let e : length (l ++ newline ∷ joined ls) ≡ length l + suc (length (joined ls)) = length-append l (newline ∷ joined ls) in
       by-test (isListed c x) (λ y. rw y (omega (arith, length-append l (newline ∷ below)))) (λ n. rw n (omega arith))
 
-  length-listing-le : (book : List ℕ) → length (listing bound book) ≤ length book
+  -- so a room that is as long as the book is always long enough
+  pub length-listing-le : (book : List ℕ) → length (listing bound book) ≤ length book
   unfolding listing
   length-listing-le book = omega (arith, length-listed-le Nothing (endedLines book), length-joined (endedLines book), takenBy-le book)
 

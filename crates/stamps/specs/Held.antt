@@ -1,12 +1,12 @@
 -- What the code holds on the way to an answer. Nothing here is needed to read what the public calls ensure. In order: the classes of bytes
 -- that a scan passes; a number, and the tail of a stamp, at the front of a longer text; the first line of a text; a line from one of its
--- places on; the marks of the lines that are listed.
+-- places on; the marks of the lines that are listed; a room in which bytes are put.
 -- Assumes nothing.
 use Prim.Native.Nat.{ℕ, _+_, _-_, _*_}
 use Prim.Native.Char.{code}
 use mathlib.Core.Path.{_≡_}
 use mathlib.Core.Bool.{Bool, true, cond, not, _&&_}
-use mathlib.Core.List.{List, [], _∷_}
+use mathlib.Core.List.{List, [], _∷_, _++_}
 use lib.Dec.{ltb, eqb}
 use lib.IntN.{pos, negℤ}
 use lib.ListN.{length, take, drop, getD}
@@ -22,7 +22,7 @@ use Rattle.text.specs.declared.number.Number.the-variants.{Value, Nothing as No
 use Rattle.header.specs.Held.{twoDigits}
 use Rattle.stamps.specs.Stamps.{printed}
 use Rattle.stamps.specs.Lines.{isPathByte, isHexDigit, hullOf, sinceOf, lineOf, isGood}
-use Rattle.stamps.specs.Listing.{isListed, cutOffBelow}
+use Rattle.stamps.specs.Listing.{isListed, cutOffIn, cutOffBelow}
 use Rattle.stamps.specs.declared.scan.Class.{Class}
 use Rattle.stamps.specs.declared.scan.Class.the-variants.{Path, Hex, Text}
 use Rattle.stamps.specs.declared.stamp.PrintedNumber.{PrintedNumber}
@@ -86,11 +86,11 @@ pub record FirstLine (bound : ℕ) (s : List ℕ) (r : First) : Type 0 where
   pub length-is : isGood (r .line) ≡ true → r .length ≡ firstPlace newline s
 
 -- the first line of s in a book, under the cut-off c: how many bytes it has with its newline, or 0 if it is bad or has none; whether it is
--- listed; the cut-off for the lines below it
+-- listed; the cut-off that it gives
 pub record NextLine (bound : ℕ) (s : List ℕ) (c : Integer) (r : Next) : Type 0 where
   pub size-is : r .size ≡ cond (isGood (lineOf bound (before newline s)) && has newline s) (firstPlace newline s + 1) 0
   pub listed-is : r .listed ≡ isListed c (lineOf bound (before newline s))
-  pub cut-off-is : r .«cut_off» ≡ cutOffBelow c (lineOf bound (before newline s))
+  pub cut-off-is : r .«cut_off» ≡ cutOffIn (lineOf bound (before newline s))
 
 -- ---- a line from one of its places on
 -- the bytes of s from one place to another
@@ -139,3 +139,8 @@ picked (m ∷ ms) (l ∷ ls) = let below = picked ms ls in cond (eqb m 1) (l ∷
 abbrev pub badNumber : Number → ℕ
 badNumber (Value n) = n
 badNumber NoNumber = 0
+
+-- ---- a room in which bytes are put
+-- the room with these bytes from place `at` on, and all others as they were
+abbrev pub putAt : List ℕ → ℕ → List ℕ → List ℕ
+putAt bytes at room = take at room ++ bytes ++ drop (at + length bytes) room

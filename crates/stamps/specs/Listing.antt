@@ -33,11 +33,20 @@ isListed c (Hull h) = isAfter c (h .time .seconds)
 isListed c (Since x) = false
 isListed c Bad = false
 
+-- the cut-off that a line gives
+abbrev pub cutOffIn : Line → Integer
+cutOffIn (Hull h) = Nothing
+cutOffIn (Since x) = Is (x .«cut_off» .seconds)
+cutOffIn Bad = Nothing
+
+-- a cut-off, or, where there is none, the one above it
+abbrev pub orAbove : Integer → Integer → Integer
+orAbove (Is c) above = Is c
+orAbove Nothing above = above
+
 -- the cut-off for the lines below this one
 abbrev pub cutOffBelow : Integer → Line → Integer
-cutOffBelow c (Hull h) = c
-cutOffBelow c (Since x) = Is (x .«cut_off» .seconds)
-cutOffBelow c Bad = c
+cutOffBelow c l = orAbove (cutOffIn l) c
 
 -- the lines that are listed
 unfoldable pub listed : ℕ → Integer → List (List ℕ) → List (List ℕ)

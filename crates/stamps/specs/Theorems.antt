@@ -4,10 +4,11 @@ use Prim.Native.Nat.{ℕ}
 use mathlib.Core.Bool.{Bool, true, false, cond, _&&_, _||_}
 use mathlib.Core.List.{List, [], _∷_}
 use Rattle.text.specs.declared.number.Integer.{Integer}
-use Rattle.text.specs.declared.number.Integer.the-variants.{Is, Nothing}
+use Rattle.text.specs.declared.number.Integer.the-variants.{Nothing}
 use Rattle.text.specs.Places.{part}
 use Rattle.stamps.specs.Lines.{lineOf, isGood}
 use Rattle.stamps.specs.Writing.{hullLine, sinceLine}
+use Rattle.stamps.specs.Listing.{cutOffIn, orAbove}
 use Rattle.stamps.specs.declared.line.Line.{Line}
 use Rattle.stamps.specs.declared.line.Line.the-variants.{Hull, Since, Bad}
 
@@ -37,21 +38,10 @@ unfoldable pub hasSince : ℕ → List (List ℕ) → Bool
 hasSince bound [] = false
 hasSince bound (l ∷ ls) = isSinceLine (lineOf bound l) || hasSince bound ls
 
--- the cut-off that a line gives
-abbrev pub cutOffIn : Line → Integer
-cutOffIn (Hull h) = Nothing
-cutOffIn (Since x) = Is (x .«cut_off» .seconds)
-cutOffIn Bad = Nothing
-
--- the first if there is one, else the other
-abbrev pub orElse : Integer → Integer → Integer
-orElse (Is c) other = Is c
-orElse Nothing other = other
-
 -- the cut-off of the last `since` line among these
 unfoldable pub lastCutOff : ℕ → List (List ℕ) → Integer
 lastCutOff bound [] = Nothing
-lastCutOff bound (l ∷ ls) = orElse (lastCutOff bound ls) (cutOffIn (lineOf bound l))
+lastCutOff bound (l ∷ ls) = orAbove (lastCutOff bound ls) (cutOffIn (lineOf bound l))
 
 -- a line written from the values that were read from it. A bad line has no values and gives nothing
 abbrev pub rewritten : List ℕ → Line → List ℕ

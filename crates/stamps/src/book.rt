@@ -15,7 +15,7 @@ ghost use Rattle.text.specs.Lines.{endedLines, left};
 ghost use Rattle.text.specs.Room.{roomAfter};
 ghost use Rattle.text.specs.declared.number.Integer.the-variants.{Nothing};
 ghost use Rattle.stamps.specs.Book.{maxBook, linesIn, firstBad, checkOf};
-ghost use Rattle.stamps.specs.Listing.{isAfter, joined, listing, listOf, isWritten};
+ghost use Rattle.stamps.specs.Listing.{isAfter, orAbove, joined, listing, listOf, isWritten};
 ghost use Rattle.stamps.specs.Held.{NextLine, markOf, marksOf, picked, badNumber};
 use crate::line;
 use crate::line::Line;
@@ -136,8 +136,9 @@ fn judge_lines(months: &[u32], book: &[u8], marks: &mut [u8]) -> Survey
         }
         let listed = next.listed;
         put_mark(listed, n, marks);
+        let own = next.cut_off;
+        cut_off = or_above(own, cut_off);
         length += size_if(listed, size);
-        cut_off = next.cut_off;
         at += size;
         n += 1;
     }
@@ -145,7 +146,7 @@ fn judge_lines(months: &[u32], book: &[u8], marks: &mut [u8]) -> Survey
 }
 
 // What the next line of a book is: how many bytes it has with its newline, or 0 if it is bad; whether
-// it is listed; and the cut-off for the lines below it.
+// it is listed; and the cut-off that it gives.
 struct Next {
     size: usize,
     listed: bool,
@@ -167,7 +168,7 @@ fn next_line(months: &[u32], s: &[u8], cut_off: Integer) -> Next
             Next {
                 size: size_with_newline(s, size),
                 listed: is_after(cut_off, time.seconds),
-                cut_off,
+                cut_off: Integer::Nothing,
             }
         }
         Line::Since(since) => {
@@ -181,7 +182,7 @@ fn next_line(months: &[u32], s: &[u8], cut_off: Integer) -> Next
         Line::Bad => Next {
             size: 0,
             listed: false,
-            cut_off,
+            cut_off: Integer::Nothing,
         },
     }
 }
@@ -194,6 +195,16 @@ fn size_with_newline(s: &[u8], size: usize) -> usize
         return 0;
     }
     size + 1
+}
+
+// A line's own cut-off, or, where it gives none, the one above it.
+fn or_above(own: Integer, above: Integer) -> Integer
+    ensures { λ r. ⌜ r ≡ orAbove own above ⌝ }
+{
+    match own {
+        Integer::Is(c) => Integer::Is(c),
+        Integer::Nothing => above,
+    }
 }
 
 // Whether seconds are at or after a cut-off. Without a cut-off all are.

@@ -1,12 +1,12 @@
 // Bytes put into a room at a place, one part behind the other. Each call returns the place past the
 // bytes that it put, and leaves all other bytes as they were.
 ghost use mathlib.Core.Path.{_≡_};
-ghost use mathlib.Core.List.{_++_};
 ghost use Prim.Native.Nat.{_+_, _≤_, _<_};
 ghost use lib.IntN.{natAbs};
-ghost use lib.ListN.{length, take, drop};
+ghost use lib.ListN.{length};
 ghost use Rattle.text.specs.Decimal.{signed};
 ghost use Rattle.time.specs.Header.{headerBytes};
+ghost use Rattle.stamps.specs.Held.{putAt};
 use text::decimal;
 use time::Time;
 
@@ -14,7 +14,7 @@ use time::Time;
 pub fn put_part(part: &[u8], at: usize, room: &mut [u8]) -> usize
     requires { ⌜ at + length (now part) ≤ length (now room) ⌝ }
     ensures { λ r. ⌜ r ≡ at + length (now (part .entry)) ⌝ }
-    ensures { λ _. ⌜ now (room .exit) ≡ take at (now (room .entry)) ++ now (part .entry) ++ drop (at + length (now (part .entry))) (now (room .entry)) ⌝ }
+    ensures { λ _. ⌜ now (room .exit) ≡ putAt (now (part .entry)) at (now (room .entry)) ⌝ }
 {
     let mut i = 0;
     while i < part.len() {
@@ -28,7 +28,7 @@ pub fn put_part(part: &[u8], at: usize, room: &mut [u8]) -> usize
 pub fn put_time(t: Time, at: usize, room: &mut [u8]) -> usize
     requires { ⌜ (natAbs (t .offset) < 360000) × (at + length (headerBytes t) ≤ length (now room)) ⌝ }
     ensures { λ r. ⌜ r ≡ at + length (headerBytes t) ⌝ }
-    ensures { λ _. ⌜ now (room .exit) ≡ take at (now (room .entry)) ++ headerBytes t ++ drop (at + length (headerBytes t)) (now (room .entry)) ⌝ }
+    ensures { λ _. ⌜ now (room .exit) ≡ putAt (headerBytes t) at (now (room .entry)) ⌝ }
 {
     t.write_to(&mut room[at..]);
     at + t.size()
@@ -38,7 +38,7 @@ pub fn put_time(t: Time, at: usize, room: &mut [u8]) -> usize
 pub fn put_number(z: i64, at: usize, room: &mut [u8]) -> usize
     requires { ⌜ at + length (signed z) ≤ length (now room) ⌝ }
     ensures { λ r. ⌜ r ≡ at + length (signed z) ⌝ }
-    ensures { λ _. ⌜ now (room .exit) ≡ take at (now (room .entry)) ++ signed z ++ drop (at + length (signed z)) (now (room .entry)) ⌝ }
+    ensures { λ _. ⌜ now (room .exit) ≡ putAt (signed z) at (now (room .entry)) ⌝ }
 {
     let end = at + decimal::signed_width(z);
     decimal::put_signed(z, end, room);

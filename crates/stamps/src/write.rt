@@ -2,18 +2,22 @@
 // refused by 10, then a room that is too short by 8. A refusal changes nothing in the room.
 ghost use mathlib.Core.Path.{_≡_};
 ghost use mathlib.Core.Bool.{true, _&&_};
-ghost use mathlib.Core.List.{_++_};
-ghost use Prim.Native.Nat.{_≤_};
+ghost use mathlib.Core.List.{_∷_, _++_};
+ghost use Prim.Native.Nat.{_+_, _≤_, _<_};
 ghost use lib.Dec.{ltb};
 ghost use lib.IntN.{natAbs};
 ghost use lib.ListN.{length, drop};
 ghost use Rattle.calendar.specs.Table.{IsMonths};
-ghost use Rattle.text.specs.Room.{fits, roomAfter};
+ghost use Rattle.text.specs.Decimal.{signed};
+ghost use Rattle.text.specs.Lines.{tab};
+ghost use Rattle.text.specs.Room.{roomAfter};
 ghost use Rattle.time.specs.Answers.{isWritten};
+ghost use Rattle.time.specs.Header.{headerBytes};
 ghost use Rattle.relative.specs.Relative.{maxPairs};
 ghost use Rattle.stamps.specs.Writing.{isHull, isSince, isRead, hullLine, sinceLine, ended, lineWritten, hullWritten, sinceWritten};
 ghost use Rattle.stamps.specs.Stamps.{isWholeMinutes};
 ghost use Rattle.stamps.specs.Lines.{isPath, isKey};
+ghost use Rattle.stamps.specs.Held.{putAt};
 use crate::line::KEY;
 use crate::line::MAX_PATH;
 use crate::put;
@@ -76,7 +80,7 @@ fn is_key(s: &[u8]) -> bool
 fn is_whole(offset: i32) -> bool
     ensures { λ r. ⌜ r ≡ (isWholeMinutes offset && ltb (natAbs offset) 360000) ⌝ }
 {
-    let size = decimal::magnitude(offset as i64);
+    let size = decimal::magnitude(as_i64(offset));
     (size % 60 == 0) & (size < OFFSET_LIMIT)
 }
 
@@ -94,13 +98,31 @@ fn put_hull(path: &[u8], key: &[u8], time: Time, room: &mut [u8])
     requires { ⌜ length (ended (hullLine (now path) (now key) time)) ≤ length (now room) ⌝ }
     ensures { λ _. ⌜ now (room .exit) ≡ ended (hullLine (now (path .entry)) (now (key .entry)) time) ++ drop (length (ended (hullLine (now (path .entry)) (now (key .entry)) time))) (now (room .entry)) ⌝ }
 {
-    let at = put::put_part(b"hull\t", 0, room);
-    let at = put::put_part(path, at, room);
-    let at = put::put_part(b"\t", at, room);
-    let at = put::put_part(key, at, room);
-    let at = put::put_part(b"\t", at, room);
-    let at = put::put_time(time, at, room);
+    let at = put::put_part(b"hull", 0, room);
+    let at = put_field(path, at, room);
+    let at = put_field(key, at, room);
+    let at = put_time_field(time, at, room);
     put::put_part(b"\n", at, room);
+}
+
+// Puts a tab and the bytes of `part` from place `at` on.
+fn put_field(part: &[u8], at: usize, room: &mut [u8]) -> usize
+    requires { ⌜ at + length (tab ∷ now part) ≤ length (now room) ⌝ }
+    ensures { λ r. ⌜ r ≡ at + length (tab ∷ now (part .entry)) ⌝ }
+    ensures { λ _. ⌜ now (room .exit) ≡ putAt (tab ∷ now (part .entry)) at (now (room .entry)) ⌝ }
+{
+    let next = put::put_part(b"\t", at, room);
+    put::put_part(part, next, room)
+}
+
+// Puts a tab and the header of a time from place `at` on.
+fn put_time_field(time: Time, at: usize, room: &mut [u8]) -> usize
+    requires { ⌜ (natAbs (time .offset) < 360000) × (at + length (tab ∷ headerBytes time) ≤ length (now room)) ⌝ }
+    ensures { λ r. ⌜ r ≡ at + length (tab ∷ headerBytes time) ⌝ }
+    ensures { λ _. ⌜ now (room .exit) ≡ putAt (tab ∷ headerBytes time) at (now (room .entry)) ⌝ }
+{
+    let next = put::put_part(b"\t", at, room);
+    put::put_time(time, next, room)
 }
 
 // Writes the line of a cut-off to the front of `room` and returns how many bytes that took. The bytes
@@ -128,13 +150,13 @@ pub fn write_since_with(months: &[u32], text: &[u8], current: Time, room: &mut [
 // long to be measured: its length is compared before anything is added to it.
 fn put_if_fits(text: &[u8], current: Time, room: &mut [u8]) -> Written
     ensures { λ r. ⌜ r ≡ lineWritten true (sinceLine (now (text .entry)) current) (now (room .entry)) ⌝ }
-    ensures { λ _. ⌜ now (room .exit) ≡ roomAfter (fits (ended (sinceLine (now (text .entry)) current)) (now (room .entry))) (ended (sinceLine (now (text .entry)) current)) (now (room .entry)) ⌝ }
+    ensures { λ _. ⌜ now (room .exit) ≡ roomAfter (isWritten (lineWritten true (sinceLine (now (text .entry)) current) (now (room .entry)))) (ended (sinceLine (now (text .entry)) current)) (now (room .entry)) ⌝ }
 {
     if room.len() < text.len() {
         return Written::Refused(Refusal::Room);
     }
     let numbers = decimal::signed_width(current.seconds)
-        + decimal::signed_width(current.offset as i64)
+        + decimal::signed_width(as_i64(current.offset))
         + 9;
     if room.len() - text.len() < numbers {
         return Written::Refused(Refusal::Room);
@@ -169,11 +191,25 @@ fn put_since(text: &[u8], current: Time, room: &mut [u8])
     requires { ⌜ length (ended (sinceLine (now text) current)) ≤ length (now room) ⌝ }
     ensures { λ _. ⌜ now (room .exit) ≡ ended (sinceLine (now (text .entry)) current) ++ drop (length (ended (sinceLine (now (text .entry)) current))) (now (room .entry)) ⌝ }
 {
-    let at = put::put_part(b"since\t", 0, room);
-    let at = put::put_part(text, at, room);
-    let at = put::put_part(b"\t", at, room);
-    let at = put::put_number(current.seconds, at, room);
-    let at = put::put_part(b"\t", at, room);
-    let at = put::put_number(current.offset as i64, at, room);
+    let at = put::put_part(b"since", 0, room);
+    let at = put_field(text, at, room);
+    let at = put_number_field(current.seconds, at, room);
+    let at = put_number_field(as_i64(current.offset), at, room);
     put::put_part(b"\n", at, room);
+}
+
+// Puts a tab and a number in plain decimal from place `at` on.
+fn put_number_field(z: i64, at: usize, room: &mut [u8]) -> usize
+    requires { ⌜ at + length (tab ∷ signed z) ≤ length (now room) ⌝ }
+    ensures { λ r. ⌜ r ≡ at + length (tab ∷ signed z) ⌝ }
+    ensures { λ _. ⌜ now (room .exit) ≡ putAt (tab ∷ signed z) at (now (room .entry)) ⌝ }
+{
+    let next = put::put_part(b"\t", at, room);
+    put::put_number(z, next, room)
+}
+
+fn as_i64(offset: i32) -> i64
+    ensures { λ r. ⌜ r ≡ offset ⌝ }
+{
+    offset as i64
 }

@@ -28,12 +28,13 @@ returns c = let at-next = c .before in
 
 -- a good line
 loop-again : tie.Need-loop-again Inv-loop μ-loop
-loop-again c = let at-mark = c .before .before .before in
+loop-again c = let at-below = c .before in
+    let at-mark = at-below .before .before .before in
     let at-next = at-mark .before .before .before in
     let at-rest = at-next .before in
     let at-loop = at-rest .before .before in
     judging-again (at-loop .loop .inv) _ _ (at-rest .from .ensures) (at-rest .before .loop-test .taken) (at-next .next-line .ensures) _ _
-    (at-mark .put-mark .ensures) (c .size-if .ensures) (at-mark .before .before .if1 .left)
+    (at-mark .put-mark .ensures) (c .size-if .ensures) (at-mark .before .before .if1 .left) _ (at-below .or-above .ensures)
 
 pub judge-lines-spec : {M : Type 1} → statement M
 judge-lines-spec =
@@ -47,6 +48,7 @@ judge-lines-spec =
     (λ c. record { fits = omega (arith, c .before .before .before .before .loop .inv .fewer) })
     (λ c. c .before .before .before .before .loop .inv .places)
     returns
+    (λ c κs. search needs)
     (λ c κs. search needs)
     (λ c κs. search needs)
     (λ c. let again = loop-again c in record { fits = omega (arith, again .shorter, again .within) })

@@ -7,7 +7,7 @@ use borrow.Author.Needs.{needs}
 use Rattle.ints.proofs.Machine.{back}
 use Rattle.text.specs.declared.number.Integer.the-variants.{Is}
 use Rattle.stamps.specs.Lines.{isGood}
-use Rattle.stamps.specs.Listing.{isAfter, isListed, cutOffBelow}
+use Rattle.stamps.specs.Listing.{isAfter, isListed, cutOffIn}
 use Rattle.stamps.proofs.Books.{next-size, next-none}
 use Rattle.stamps.proofs.book.next_line.Statement.{statement}
 use Rattle.stamps.proofs.book.next_line.Tie as tie
@@ -25,7 +25,7 @@ returns c =
       size-is = next-size first _ (ap isGood hull) (at-size .size-with-newline .ensures);
       listed-is = c .is-after .ensures ∙ ap (λ (z : ℤ). isAfter cut-off z) (back w64 _ (c .before .struct-told .given .0 .1))
           ∙ ap (isListed cut-off) (sym hull ∙ first .line-is);
-      cut-off-is = ap (cutOffBelow cut-off) (sym hull ∙ first .line-is);
+      cut-off-is = ap cutOffIn (sym hull ∙ first .line-is);
     }
 
 -- a cut-off
@@ -40,7 +40,7 @@ returns-2 c =
     record {
       size-is = next-size first _ (ap isGood since) (at-size .size-with-newline2 .ensures);
       listed-is = ap (isListed cut-off) (sym since ∙ first .line-is);
-      cut-off-is = ap Is (back w64 _ (c .struct-told2 .given .0 .1)) ∙ ap (cutOffBelow cut-off) (sym since ∙ first .line-is);
+      cut-off-is = ap Is (back w64 _ (c .struct-told2 .given .0 .1)) ∙ ap cutOffIn (sym since ∙ first .line-is);
     }
 
 -- a bad line
@@ -53,7 +53,7 @@ returns-3 c =
     record {
       size-is = next-none first bad;
       listed-is = ap (isListed cut-off) (sym bad ∙ first .line-is);
-      cut-off-is = ap (cutOffBelow cut-off) (sym bad ∙ first .line-is);
+      cut-off-is = ap cutOffIn (sym bad ∙ first .line-is);
     }
 
 pub next-line-spec : {M : Type 1} → statement M
