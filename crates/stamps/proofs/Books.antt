@@ -11,7 +11,7 @@ use native.Mathlib.Numerals.{add-one}
 use borrow.Author.Tests.{ltb-true, ltb-false, le-leb, lt-leb, eqb-true}
 use lib.Dec.{ltb, eqb}
 use lib.ListN.{length, take, drop, set, length-drop, length-set, length-append, drop-of-length-le, take-append-drop}
-use lib.Seq.{drop-drop, length-take-le, sets}
+use lib.Seq.{drop-drop, sets}
 use Rattle.text.specs.Places.{firstPlace, before, has}
 use Rattle.text.specs.Lines.{newline, ontoFirst, endedLines, takenBy, left}
 use Rattle.text.specs.declared.number.Integer.{Integer}
@@ -31,6 +31,7 @@ use Rattle.stamps.specs.declared.line.Line.the-variants.{Hull, Since, Ba
 use Rattle.stamps.specs.declared.line.First.{First}
 use Rattle.stamps.specs.declared.book.Checked.the-variants.{Good, Refused}
 use Rattle.stamps.specs.declared.book.Next.{Next}
+use Rattle.stamps.proofs.Fields.{length-before}
 
 -- what follows the first newline
 abbrev pub behind : List ℕ → List ℕ
@@ -42,9 +43,6 @@ module _ (s : List ℕ) (h : has newline s ≡ true) where
   unfolding has
   firstPlace-lt = ltb-true _ _ h
 
-  length-before : length (before newline s) ≡ firstPlace newline s
-  length-before = length-take-le (firstPlace newline s) s (omega (arith, firstPlace-lt))
-
   pub endedLines-first : endedLines s ≡ before newline s ∷ endedLines (behind s)
   endedLines-first = rw add-one (endedLines-cut s (firstPlace newline s) refl firstPlace-lt)
 
@@ -52,7 +50,7 @@ module _ (s : List ℕ) (h : has newline s ≡ true) where
   unfolding left takenBy
   left-first =
       let n = takenBy (endedLines (behind s)) in
-      let e : length (before newline s) + 1 + n ≡ firstPlace newline s + 1 + n = omega (arith, length-before) in
+      let e : length (before newline s) + 1 + n ≡ firstPlace newline s + 1 + n = omega (arith, length-before newline s) in
       ap (λ (ls : List (List ℕ)). drop (takenBy ls) s) endedLines-first ∙ ap (λ (k : ℕ). drop k s) e ∙ sym (drop-drop n (firstPlace newline s + 1) s)
 
   linesIn-first : (bound : ℕ) → linesIn bound s ≡ lineOf bound (before newline s) ∷ linesIn bound (behind s)
@@ -286,7 +284,7 @@ module _ {bound : ℕ} {book was marks : List ℕ} {at n size : ℕ} {c : Intege
         let h = both (isGood (lineOf bound (before newline s))) (has newline s) e .1 in
         let l = before newline s in
         let e-s : next .size ≡ firstPlace newline s + 1 = rw e at (f .size-is) in
-        let e-l : next .size ≡ length l + 1 = omega (arith, length-before s h) in
+        let e-l : next .size ≡ length l + 1 = omega (arith, length-before newline s) in
         let d : behind s ≡ drop (at + next .size) book = (λ i. drop (sym e-s i) (is i)) ∙ drop-drop (next .size) at book in
         let rest = endedLines (drop (at + next .size) book) in
         let cut : endedLines (drop at book) ≡ l ∷ rest = ap endedLines (sym is) ∙ endedLines-first s h ∙ ap (λ (t : List ℕ). l ∷ endedLines t) d in

@@ -1,30 +1,51 @@
--- Fields, with tabs between them. In order: a text cut at its first tab, and two texts with a tab between; texts
--- whose bytes are of one class; the fields of the first line of a text, read from a place of the text on; a number that is the next
--- field, or the last.
+-- Fields, with tabs between them. In order: a text cut at its first tab, and two texts with a tab between; texts whose bytes are of one
+-- class; the first field of a line in front of a newline; the field that begins at a place of a text, and the line that goes on behind
+-- it; a field that is a number, and such a field at the end of a line.
 -- Assumes nothing.
-use mathlib.Core.Path.{_≡_, refl, sym, ap, _∙_, subst}
+use mathlib.Core.Path.{_≡_, refl, sym, ap, _∙_}
 use mathlib.Core.Bool.{Bool, true, false, not, _&&_, false≢true}
-use mathlib.Core.List.{List, [], _∷_, _++_, append-assoc}
+use mathlib.Core.List.{List, [], _∷_, _++_}
 use Prim.Native.Nat.{ℕ, suc, _+_, _-_, _≤_, _<_}
 use native.Mathlib.Omega.{arith}
 use native.Mathlib.Numerals.{add-one}
 use borrow.Author.Tests.{eqb-true, ltb-true, ltb-false, lt-ltb, leb-true, ne-eqb}
 use lib.Dec.{leb, ltb, eqb}
-use lib.ListN.{length, getD, take, drop, length-drop, drop-of-length-le, take-append-drop}
-use lib.Seq.{drop-cons, drop-drop, length-take-le, take-suc, take-append-seam, drop-append-seam}
-use Rattle.text.specs.Bytes.{isDigit, isSign, same}
+use lib.ListN.{length, getD, take, drop, length-drop, drop-of-length-le}
+use lib.Seq.{take-nil, drop-nil, drop-cons, drop-drop, length-take-le}
+use Rattle.text.specs.Bytes.{isDigit, isSign}
 use Rattle.text.specs.Places.{run, leading, past, firstPlace, before, has, opensWith}
 use Rattle.text.specs.Lines.{tab, newline, field, rest}
 use Rattle.text.specs.Number.{numeral}
 use Rattle.text.proofs.Lists.{by-test, both}
-use Rattle.text.proofs.Runs.{run-le-length, run-drop, run-le-run, run-leading, length-leading}
+use Rattle.text.proofs.Runs.{has-nil, run-le-length, run-drop, run-le-run, run-leading, length-leading}
 use Rattle.text.proofs.FirstPlaces.{Free}
+use Rattle.text.proofs.Texts.{not-has-cons}
 use Rattle.text.proofs.Numbers.{digit-range, numeral-le-run, numeral-leading}
-use Rattle.stamps.specs.Lines.{every, isPathByte, isHexDigit}
-use Rattle.stamps.specs.Held.{isTextByte, endsHere, cut, leftAt}
-use Rattle.stamps.proofs.Printed.{same-self, eq-of-same}
+use Rattle.stamps.specs.Lines.{every, isPathByte, isHexDigit, isGood}
+use Rattle.stamps.specs.Held.{isTextByte, endsHere, cut, leftAt, EndsLine}
+use Rattle.stamps.specs.declared.line.Line.{Line}
+use Rattle.stamps.specs.declared.line.Line.the-variants.{Bad}
+use Rattle.stamps.specs.declared.line.First.{First}
 
--- ---- a text cut at its first tab
+-- ---- a text cut at its first b, and at its first tab
+pub firstPlace-le-length : (b : ℕ) (s : List ℕ) → firstPlace b s ≤ length s
+unfolding firstPlace
+firstPlace-le-length b s = run-le-length (λ x. not (eqb x b)) s
+
+pub length-before : (b : ℕ) (s : List ℕ) → length (before b s) ≡ firstPlace b s
+length-before b s = length-take-le (firstPlace b s) s (firstPlace-le-length b s)
+
+pub has-before : (b : ℕ) (s : List ℕ) → has b (before b s) ≡ false
+unfolding firstPlace run
+has-before b [] = has-nil b
+has-before b (x ∷ s) = by-test (eqb x b) (λ e. rw e (has-nil b)) (λ e. rw e (not-has-cons b x _ e (has-before b s)))
+
+pub field-nil : field [] ≡ []
+field-nil = take-nil (firstPlace tab [])
+
+pub rest-nil : rest [] ≡ []
+rest-nil = drop-nil (firstPlace tab [] + 1)
+
 pub field-append : (p r : List ℕ) → Free tab p → field (p ++ tab ∷ r) ≡ p
 unfolding firstPlace run
 field-append [] r f = refl
@@ -165,6 +186,13 @@ pub record FieldEnds (s : List ℕ) (at e : ℕ) : Type 0 where
   pub rest-is : rest (leftAt s at) ≡ leftAt s (e + 1)
   pub line-is : at + firstPlace newline (drop at s) ≡ e + 1 + firstPlace newline (drop (e + 1) s)
 
+-- a line that goes on behind that tab, and a bad line
+pub ends-behind : {s : List ℕ} {at e : ℕ} {line behind : Line} {r : First} → FieldEnds s at e → line ≡ behind → EndsLine s (e + 1) behind r → EndsLine s at line r
+ends-behind f e h = record { line-is = h .line-is ∙ sym e; end-is = λ g. h .end-is g ∙ sym (f .line-is) }
+
+pub ends-bad : {s : List ℕ} {at : ℕ} {line : Line} {r : First} → r .line ≡ Bad → line ≡ Bad → EndsLine s at line r
+ends-bad e f = record { line-is = e ∙ sym f; end-is = λ g. absurd (false≢true (sym (ap isGood e) ∙ g)) }
+
 module _ (s : List ℕ) (at : ℕ) where
   pub field-ends : (n : ℕ) → n ≤ run isTextByte (drop at s) → opensWith tab (drop (at + n) s) ≡ true → FieldEnds s at (at + n)
   unfolding isTextByte
@@ -260,40 +288,3 @@ module _ (s : List ℕ) (at : ℕ) where
         numeral-leading noNewline noNewline-of-isSign noNewline-of-isDigit d,
         length-take-le (run noNewline d) d (run-le-length noNewline d),
       )
-
--- ---- a text that opens with a name and a tab
-length-le-run : (p : ℕ → Bool) (w t : List ℕ) → every p w ≡ true → length w ≤ run p (w ++ t)
-unfolding every run
-length-le-run p [] t e = omega arith
-length-le-run p (b ∷ w) t e = let k = both (p b) (every p w) e in rw (k .0) (omega (arith, length-le-run p w t (k .1)))
-
-module _ (w s : List ℕ) where
-  split-name : same (take (length w + 1) s) (w ++ tab ∷ []) ≡ true → s ≡ w ++ tab ∷ drop (length w + 1) s
-  split-name e =
-      sym (take-append-drop (length w + 1) s) ∙ ap (λ (t : List ℕ). t ++ drop (length w + 1) s) (eq-of-same _ _ e)
-      ∙ append-assoc w (tab ∷ []) (drop (length w + 1) s)
-
-  -- the name is its first field
-  pub name-ends : every isTextByte w ≡ true → same (take (length w + 1) s) (w ++ tab ∷ []) ≡ true → FieldEnds s 0 (length w)
-  name-ends h e =
-      let r = drop (length w + 1) s in
-      let z : 0 + length w ≡ length w = omega arith in
-      let f : FieldEnds (w ++ tab ∷ r) 0 (0 + length w) = field-ends (w ++ tab ∷ r) 0 (length w) (length-le-run isTextByte w (tab ∷ r) h) (rw (z, drop-append-seam w (tab ∷ r))) in
-      subst (λ (t : List ℕ). FieldEnds t 0 (length w)) (sym (split-name e)) (rw z at f)
-
-  pub take-name : same (take (length w + 1) s) (w ++ tab ∷ []) ≡ true → take (length w) s ≡ w
-  take-name e = ap (take (length w)) (split-name e) ∙ take-append-seam w (tab ∷ drop (length w + 1) s)
-
-  -- if it does not open so, and its first field is the name, nothing follows
-  pub name-no-tab : same (field (before newline s)) w ≡ true → same (take (length w + 1) s) (w ++ tab ∷ []) ≡ false → rest (before newline s) ≡ []
-  name-no-tab e d =
-      let n = run isTextByte s in
-      let f : leading isTextByte s ≡ w = sym (field-before s) ∙ eq-of-same _ _ e in
-      let l : length w + 1 ≡ suc n = omega (arith, length-take-le n s (run-le-length isTextByte s), ap length f) in
-      by-test (opensWith tab (drop n s))
-      (λ o.
-      let p = both (ltb n (length s)) (eqb (getD s n 0) tab) (sym (opensWith-drop tab s n) ∙ o) in
-      let g : getD s n 0 ≡ tab = eqb-true _ _ (p .1) in
-      let k : take (length w + 1) s ≡ w ++ tab ∷ [] = ap (λ (i : ℕ). take i s) l ∙ take-suc s n 0 (ltb-true _ _ (p .0)) ∙ (λ i. f i ++ (g i ∷ [])) in
-      absurd (false≢true (sym d ∙ ap (λ (t : List ℕ). same t (w ++ tab ∷ [])) k ∙ same-self _)))
-      (λ o. rest-before-nil s o)

@@ -32,7 +32,7 @@ use Rattle.stamps.specs.declared.stamp.Stamp.the-variants.{At, Nothing a
 use Rattle.stamps.proofs.Scans.{endsHere-firstPlace, before-of-endsHere, Free-of-between}
 use Rattle.stamps.proofs.Printed.{printed-bytes, fitSigned-printed-signed}
 use Rattle.stamps.proofs.Tails.{tailBytes, tailOf-tailBytes, HasTail-of-tailOf}
-use Rattle.stamps.proofs.Stamps.{stampOf-bytes, stampOf-good, stampOf-headerBytes, Seconds64-of-fitSigned}
+use Rattle.stamps.proofs.Stamps.{stampOf-bytes, stampOf-good, stampOf-headerBytes, In-of-fitSigned}
 
 -- ---- the seconds are as many bytes as their plain decimal has
 run-digits : (w : List ℕ) (b : ℕ) (t : List ℕ) → Between 48 57 w → isDigit b ≡ false → run isDigit (w ++ b ∷ t) ≡ length w
@@ -97,7 +97,7 @@ module _ (d : List ℕ) where
   stampOf-of-both z o e k =
       let tail = HasTail-of-tailOf (drop (numeral d) d) o k in
       ap stampOf (before-is z o e k)
-      ∙ stampOf-headerBytes (timeAt z o) (Seconds64-of-fitSigned (printed (take (numeral d) d)) z e) (tail .small) (tail .whole)
+      ∙ stampOf-headerBytes (timeAt z o) (In-of-fitSigned (2 ^ 63) (printed (take (numeral d) d)) z e) (tail .small) (tail .whole)
 
   -- if the line is a stamp, both are there
   module _ (t : Time) (e : stampOf (before newline d) ≡ At t) where

@@ -1,12 +1,14 @@
 -- The laws of books (RULES 13). In order: scans; printed numbers; tails of stamps; stamps, and stamps at the front of a longer text; fields;
--- lines as they are read; lines as they are written, part behind part; books; the marks of lines; listings; lines read back and
--- written back; examples.
+-- `hull` lines, `since` lines and all lines as they are read; lines as they are written, part behind part; books; the marks of lines;
+-- listings; lines read back and written back; examples.
 pub mod Scans
 pub mod Printed
 pub mod Tails
 pub mod Stamps
 pub mod Fronts
 pub mod Fields
+pub mod HullLines
+pub mod SinceLines
 pub mod Reading
 pub mod Writing
 pub mod Putting

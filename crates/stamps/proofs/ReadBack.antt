@@ -47,7 +47,8 @@ use Rattle.stamps.proofs.Printed.{printed-signed}
 use Rattle.stamps.proofs.Stamps.{stampOf-headerBytes}
 use Rattle.stamps.proofs.Fronts.{headerBytes-between}
 use Rattle.stamps.proofs.Fields.{field-append, rest-append, isTextByte-of-isPathByte, isTextByte-of-isHexDigit}
-use Rattle.stamps.proofs.Reading.{parts-of-isPath, parts-of-isKey, hullOf-stamp, lineOf-hull, lineOf-since}
+use Rattle.stamps.proofs.HullLines.{parts-of-isPath, parts-of-isKey, hullOf-stamp}
+use Rattle.stamps.proofs.Reading.{lineOf-hull, lineOf-since}
 use Rattle.stamps.proofs.Listings.{endedLines-joined, left-joined}
 use Rattle.stamps.proofs.Writing.{every-isTextByte, goodHull}
 

@@ -9,8 +9,9 @@ use Prim.Native.Nat.{ℕ, suc, _+_, _*_, _/_, _%_, _^_, _≤_, _<_}
 use native.Mathlib.Omega.{arith}
 use borrow.Author.Tests.{eqb-true, leb-true, leb-false}
 use lib.Dec.{leb}
-use lib.IntN.{ℤ, pos, negsuc, negℤ, natAbs}
+use lib.IntN.{ℤ, pos, negsuc, negℤ, predℤ, natAbs}
 use lib.Signed.{leZ, ltZ}
+use Rattle.ints.specs.Range.{In}
 use Rattle.ints.proofs.Parts.{le-parts, natAbs-parts, one-up, one-dn}
 use Rattle.ints.proofs.Machine.{lit, le-yes, lt-yes, lt-pred}
 use Rattle.text.specs.Bytes.{isSpace, isDigit, ascii, same}
@@ -64,26 +65,26 @@ module _ (s : List ℕ) (t : TimeValue) (e : stampOf s ≡ At t) where
   stampOf-bytes = time-of-stampAs (headerOf s) s t e .2
 
 -- ---- its seconds
-pub Seconds64-of-fitSigned : (x : Integer) (z : ℤ) → fitSigned (2 ^ 63) x ≡ Is z → Seconds64 z
+pub In-of-fitSigned : (half : ℕ) (x : Integer) (z : ℤ) → fitSigned half x ≡ Is z → In (negℤ (pos half)) (predℤ (pos half)) z
 unfolding fitSigned
-Seconds64-of-fitSigned (Is y) z e =
-    let lo : ℤ = negℤ (pos (2 ^ 63)) in
-    let hi : ℤ = pos (2 ^ 63) in
+In-of-fitSigned half (Is y) z e =
+    let lo : ℤ = negℤ (pos half) in
+    let hi : ℤ = pos half in
     by-test (leZ lo y && ltZ y hi)
     (λ k.
     let q : y ≡ z = cc (rw k at e) in
     let p = both (leZ lo y) (ltZ y hi) k in
     rw (← q) (record { low = le-yes (lit lo) (lit y) (p .0); high = lt-pred (lt-yes (lit y) (lit hi) (p .1)) }))
     (λ k. let m = rw k at e in let q : _≡_ {A = ℕ} 0 1 = cc in absurd (omega arith))
-Seconds64-of-fitSigned NoInteger z e = let q : _≡_ {A = ℕ} 0 1 = cc in absurd (omega arith)
+In-of-fitSigned half NoInteger z e = let q : _≡_ {A = ℕ} 0 1 = cc in absurd (omega arith)
 
 secondsOf-in : (w : List ℕ) (z : ℤ) → secondsOf w ≡ Is z → Seconds64 z
 unfolding secondsOf
 secondsOf-in w z e = go (number64 w) refl e
   where
     go : (x : Integer) → number64 w ≡ x → numberOr x (number64 (leading isDigit w)) ≡ Is z → Seconds64 z
-    go (Is y) k m = Seconds64-of-fitSigned (signedOf w) z (k ∙ m)
-    go NoInteger k m = Seconds64-of-fitSigned (signedOf (leading isDigit w)) z m
+    go (Is y) k m = In-of-fitSigned (2 ^ 63) (signedOf w) z (k ∙ m)
+    go NoInteger k m = In-of-fitSigned (2 ^ 63) (signedOf (leading isDigit w)) z m
 
 headerTime-in : (x : Integer) (p : Parsed) (t : TimeValue) → headerTime x p ≡ Time t → x ≡ Is (t .seconds)
 headerTime-in (Is z) (Offset f) t e = cc

@@ -47,8 +47,8 @@ use Rattle.stamps.specs.declared.line.Line.the-variants.{Hull, Since, Ba
 use Rattle.stamps.specs.declared.book.Checked.the-variants.{Good}
 use Rattle.stamps.proofs.Printed.{eq-of-same, printed-bytes}
 use Rattle.stamps.proofs.Stamps.{stampOf-bytes, stampOf-good}
-use Rattle.stamps.proofs.Fields.{field-rest, has-of-rest}
-use Rattle.stamps.proofs.Reading.{sizeOf-pos, firstPlace-le-length, length-before, parts-of-isKey, has-before}
+use Rattle.stamps.proofs.Fields.{firstPlace-le-length, length-before, has-before, field-rest, has-of-rest}
+use Rattle.stamps.proofs.HullLines.{sizeOf-pos, parts-of-isKey}
 use Rattle.stamps.proofs.Books.{joined-endedLines}
 use Rattle.stamps.proofs.Listings.{good-book-iff}
 

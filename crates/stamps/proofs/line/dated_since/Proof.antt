@@ -6,8 +6,8 @@ use Prim.Native.Nat.{_^_}
 use native.Mathlib.Omega.{arith}
 use Rattle.text.specs.Lines.{tab}
 use Rattle.text.specs.Number.{fitSigned}
-use Rattle.stamps.proofs.Fields.{opensWith-drop, lt-length-of-opensWith}
-use Rattle.stamps.proofs.Reading.{ends-bad, fitSigned-fitSigned, seconds-no-tab, offset-not-last, since-ends}
+use Rattle.stamps.proofs.Fields.{opensWith-drop, lt-length-of-opensWith, ends-bad}
+use Rattle.stamps.proofs.SinceLines.{fitSigned-fitSigned, seconds-no-tab, offset-not-last, since-ends}
 use borrow.Author.Needs.{needs}
 use Rattle.stamps.proofs.line.dated_since.Statement.{statement}
 use Rattle.stamps.proofs.line.dated_since.Tie as tie

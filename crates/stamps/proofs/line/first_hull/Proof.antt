@@ -5,8 +5,8 @@ use native.Mathlib.Omega.{arith}
 use Rattle.text.proofs.Runs.{le-past}
 use Rattle.text.specs.Lines.{tab}
 use Rattle.stamps.specs.Lines.{isPathByte}
-use Rattle.stamps.proofs.Fields.{opensWith-drop, lt-length-of-opensWith}
-use Rattle.stamps.proofs.Reading.{ends-bad, ends-behind, hull-no-path, hull-no-tab, path-ends, hull-keyed, isPath-cut}
+use Rattle.stamps.proofs.Fields.{opensWith-drop, lt-length-of-opensWith, ends-bad, ends-behind}
+use Rattle.stamps.proofs.HullLines.{hull-no-path, hull-no-tab, path-ends, hull-keyed, isPath-cut}
 use borrow.Author.Needs.{needs}
 use Rattle.stamps.proofs.line.first_hull.Statement.{statement}
 use Rattle.stamps.proofs.line.first_hull.Tie as tie

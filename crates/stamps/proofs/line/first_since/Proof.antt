@@ -5,8 +5,8 @@ use native.Mathlib.Omega.{arith}
 use Rattle.text.proofs.Runs.{le-past}
 use Rattle.text.specs.Lines.{tab}
 use Rattle.stamps.specs.Held.{isTextByte}
-use Rattle.stamps.proofs.Fields.{opensWith-drop, lt-length-of-opensWith}
-use Rattle.stamps.proofs.Reading.{ends-bad, ends-behind, since-no-tab, text-ends, since-dated}
+use Rattle.stamps.proofs.Fields.{opensWith-drop, lt-length-of-opensWith, ends-bad, ends-behind}
+use Rattle.stamps.proofs.SinceLines.{since-no-tab, text-ends, since-dated}
 use borrow.Author.Needs.{needs}
 use Rattle.stamps.proofs.line.first_since.Statement.{statement}
 use Rattle.stamps.proofs.line.first_since.Tie as tie

@@ -6,8 +6,8 @@ use Prim.Native.Nat.{_+_}
 use Rattle.text.proofs.Runs.{le-past}
 use Rattle.text.specs.Lines.{tab}
 use Rattle.stamps.specs.Lines.{isHexDigit}
-use Rattle.stamps.proofs.Fields.{opensWith-drop, lt-length-of-opensWith}
-use Rattle.stamps.proofs.Reading.{ends-bad, ends-behind, key-not, key-no-tab, key-ends, key-stamped}
+use Rattle.stamps.proofs.Fields.{opensWith-drop, lt-length-of-opensWith, ends-bad, ends-behind}
+use Rattle.stamps.proofs.HullLines.{key-not, key-no-tab, key-ends, key-stamped}
 use borrow.Author.Needs.{needs}
 use Rattle.stamps.proofs.line.keyed_hull.Statement.{statement}
 use Rattle.stamps.proofs.line.keyed_hull.Tie as tie

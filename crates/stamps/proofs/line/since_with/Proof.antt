@@ -14,13 +14,14 @@ use Rattle.relative.specs.Relative.{maxPairs}
 use Rattle.stamps.specs.Lines.{sinceAt, sinceWith}
 use Rattle.stamps.specs.Held.{cut}
 use Rattle.stamps.specs.declared.line.Line.the-variants.{Since}
-use Rattle.stamps.proofs.Reading.{In-of-fitSigned, sinceAt-is}
+use Rattle.stamps.proofs.Stamps.{In-of-fitSigned}
+use Rattle.stamps.proofs.SinceLines.{sinceAt-is}
 use borrow.Author.Needs.{needs}
 use Rattle.stamps.proofs.line.since_with.Statement.{statement}
 use Rattle.stamps.proofs.line.since_with.Tie as tie
 
 offset-in : (c : tie.After-known-told2) → In (negsuc (2 ^ 31 - 1)) (pos (2 ^ 31 - 1)) (c .before .offset .given .0 .0)
-offset-in c = In-of-fitSigned _ (rw (c .before .offset .given .1) at (c .before .before .before .before .before .before .before .before .pre .1 .2))
+offset-in c = In-of-fitSigned (2 ^ 31) _ _ (rw (c .before .offset .given .1) at (c .before .before .before .before .before .before .before .before .pre .1 .2))
 
 cast-new : tie.Need-cast-new
 cast-new c = fits w32 tt (known w64 tt (offset-in c))

@@ -2,7 +2,8 @@
 -- Assumes nothing.
 use mathlib.Core.Path.{sym, ap, _∙_}
 use Rattle.stamps.specs.Lines.{hullAt}
-use Rattle.stamps.proofs.Reading.{ends-bad, hull-stamped}
+use Rattle.stamps.proofs.Fields.{ends-bad}
+use Rattle.stamps.proofs.HullLines.{hull-stamped}
 use borrow.Author.Needs.{needs}
 use Rattle.stamps.proofs.line.stamped_hull.Statement.{statement}
 use Rattle.stamps.proofs.line.stamped_hull.Tie as tie

@@ -2,7 +2,7 @@
 -- Assumes nothing.
 use native.Mathlib.Omega.{arith}
 use Rattle.time.proofs.Headers.{length-headerBytes}
-use Rattle.stamps.proofs.Reading.{parts-of-isPath, parts-of-isKey}
+use Rattle.stamps.proofs.HullLines.{parts-of-isPath, parts-of-isKey}
 use Rattle.stamps.proofs.Writing.{goodHull, length-ended-hullLine}
 use borrow.Author.Needs.{needs}
 use Rattle.stamps.proofs.write.hull_width.Statement.{statement}
