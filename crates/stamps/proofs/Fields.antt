@@ -91,7 +91,7 @@ pub isTextByte-of-isPathByte : (b : ℕ) → isPathByte b ≡ true → isTextByt
 unfolding isPathByte
 isTextByte-of-isPathByte b e = isTextByte-of-lt b (omega (arith, leb-true 32 b (both (leb 32 b) (leb b 126) e .0)))
 
-pub isTextByte-of-isDigit : (b : ℕ) → isDigit b ≡ true → isTextByte b ≡ true
+isTextByte-of-isDigit : (b : ℕ) → isDigit b ≡ true → isTextByte b ≡ true
 isTextByte-of-isDigit b e = isTextByte-of-lt b (omega (arith, digit-range b e .0))
 
 pub isTextByte-of-isHexDigit : (b : ℕ) → isHexDigit b ≡ true → isTextByte b ≡ true
@@ -100,7 +100,7 @@ isTextByte-of-isHexDigit b =
     by-test (isDigit b) (λ d e. isTextByte-of-isDigit b d)
     (λ d e. isTextByte-of-lt b (omega (arith, leb-true 97 b (both (leb 97 b) (leb b 102) (rw d at e) .0))))
 
-pub isTextByte-of-isSign : (b : ℕ) → isSign b ≡ true → isTextByte b ≡ true
+isTextByte-of-isSign : (b : ℕ) → isSign b ≡ true → isTextByte b ≡ true
 unfolding isSign
 isTextByte-of-isSign b =
     by-test (eqb b 43) (λ d e. isTextByte-of-lt b (omega (arith, eqb-true b 43 d)))

@@ -55,7 +55,7 @@ module _ (path key time : List ℕ) where
   unfolding hullOf
   hullOf-no-path e = rw e
 
-  pub hullOf-no-key : isKey key ≡ false → hullOf path key time ≡ Bad
+  hullOf-no-key : isKey key ≡ false → hullOf path key time ≡ Bad
   unfolding hullOf
   hullOf-no-key e = rw (e, and-false)
 
@@ -71,7 +71,7 @@ isKey-nil : isKey [] ≡ false
 unfolding isKey
 isKey-nil = refl
 
-pub stampOf-nil : stampOf [] ≡ NoStamp
+stampOf-nil : stampOf [] ≡ NoStamp
 stampOf-nil = told (stampOf []) refl
   where
     told : (x : Stamp) → stampOf [] ≡ x → x ≡ NoStamp

@@ -41,18 +41,18 @@ module _ (w s : List ℕ) where
       ∙ append-assoc w (tab ∷ []) (drop (length w + 1) s)
 
   -- the name is its first field
-  pub name-ends : every isTextByte w ≡ true → same (take (length w + 1) s) (w ++ tab ∷ []) ≡ true → FieldEnds s 0 (length w)
+  name-ends : every isTextByte w ≡ true → same (take (length w + 1) s) (w ++ tab ∷ []) ≡ true → FieldEnds s 0 (length w)
   name-ends h e =
       let r = drop (length w + 1) s in
       let z : 0 + length w ≡ length w = omega arith in
       let f : FieldEnds (w ++ tab ∷ r) 0 (0 + length w) = field-ends (w ++ tab ∷ r) 0 (length w) (length-le-run isTextByte w (tab ∷ r) h) (rw (z, drop-append-seam w (tab ∷ r))) in
       subst (λ (t : List ℕ). FieldEnds t 0 (length w)) (sym (split-name e)) (rw z at f)
 
-  pub take-name : same (take (length w + 1) s) (w ++ tab ∷ []) ≡ true → take (length w) s ≡ w
+  take-name : same (take (length w + 1) s) (w ++ tab ∷ []) ≡ true → take (length w) s ≡ w
   take-name e = ap (take (length w)) (split-name e) ∙ take-append-seam w (tab ∷ drop (length w + 1) s)
 
   -- if it does not open so, and its first field is the name, nothing follows
-  pub name-no-tab : same (field (before newline s)) w ≡ true → same (take (length w + 1) s) (w ++ tab ∷ []) ≡ false → rest (before newline s) ≡ []
+  name-no-tab : same (field (before newline s)) w ≡ true → same (take (length w + 1) s) (w ++ tab ∷ []) ≡ false → rest (before newline s) ≡ []
   name-no-tab e d =
       let n = run isTextByte s in
       let f : leading isTextByte s ≡ w = sym (field-before s) ∙ eq-of-same _ _ e in

@@ -92,7 +92,7 @@ module _ (bound : ℕ) (text : List ℕ) where
   sinceWith-no-offset (Is z) = refl
   sinceWith-no-offset NoInteger = refl
 
-  pub sinceWith-fit : (x y : Integer) → sinceWith bound text (fitSigned (2 ^ 63) x) (fitSigned (2 ^ 31) y) ≡ sinceWith bound text x y
+  sinceWith-fit : (x y : Integer) → sinceWith bound text (fitSigned (2 ^ 63) x) (fitSigned (2 ^ 31) y) ≡ sinceWith bound text x y
   sinceWith-fit (Is z) (Is o) =
       by-test (timeInRange (timeAt z o)) (λ e. let f = fits-of-timeInRange z o e in λ i. sinceWith bound text (f .0 i) (f .1 i))
       (λ e.

@@ -27,6 +27,7 @@ since-with-requires c κs =
     let e = at-offset .printed-at2 .ensures .number-is in
     (start .pre .0, (start .pre .1 .0, omega (arith, start .pre .1 .1), ap (fitSigned (2 ^ 31)) e ∙ fitSigned-fitSigned (2 ^ 31) _ ∙ sym e))
 
+-- two numbers, and the line ends behind them
 returns : tie.Need-returns
 returns c =
     let at-ends = c .before .before in
@@ -37,6 +38,7 @@ returns c =
     let t = opensWith-drop tab s (at-seconds .printed-at .result .end) ∙ sym (at-tab .is-at .ensures) ∙ at-offset .before .if1 .taken in
     since-ends _ _ s _ _ (at-seconds .printed-at .ensures) t _ (at-offset .printed-at2 .ensures) (sym (at-ends .ends-at .ensures) ∙ c .before .if2 .taken) _ (c .since-with .ensures)
 
+-- an offset that is not the rest of the line
 returns-2 : tie.Need-returns-2
 returns-2 c =
     let at-ends = c .before .before in
@@ -47,6 +49,7 @@ returns-2 c =
     let t = opensWith-drop tab s (at-seconds .printed-at .result .end) ∙ sym (at-tab .is-at .ensures) ∙ at-offset .before .if1 .taken in
     ends-bad (c .bad .ensures) (offset-not-last _ _ s _ _ (at-seconds .printed-at .ensures) t _ (at-offset .printed-at2 .ensures) (sym (at-ends .ends-at .ensures) ∙ c .before .if2 .left))
 
+-- seconds that no tab follows
 returns-3 : tie.Need-returns-3
 returns-3 c =
     let at-tab = c .before .before in

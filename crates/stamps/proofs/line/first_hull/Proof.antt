@@ -14,6 +14,7 @@ use Rattle.stamps.proofs.line.first_hull.Tie as tie
 sub-path : tie.Need-sub-path
 sub-path c = omega (arith, le-past isPathByte (c .before .before .args .s .now) 5, c .past .ensures)
 
+-- a path that is empty or too long
 returns : tie.Need-returns
 returns c = ends-bad (c .bad .ensures) (hull-no-path _ _ (c .before .before .past .ensures) (c .before .if1 .taken))
 
@@ -24,6 +25,7 @@ keyed-hull-requires c κs =
     let o = opensWith-drop tab s (at-past .past .result) ∙ sym (c .before .is-at .ensures) ∙ c .if2 .taken in
     (omega (arith, le-past isPathByte s 5, at-past .past .ensures), lt-length-of-opensWith tab s _ o, isPath-cut s _ (at-past .past .ensures) o (c .before .before .if1 .left))
 
+-- a path that a tab follows: the line goes on there
 returns-2 : tie.Need-returns-2
 returns-2 c =
     let at-past = c .before .before .before .before in
@@ -31,6 +33,7 @@ returns-2 c =
     let o = opensWith-drop tab s (at-past .past .result) ∙ sym (c .before .before .is-at .ensures) ∙ c .before .if2 .taken in
     ends-behind (path-ends s _ (at-past .past .ensures) o) (hull-keyed s _ (at-past .past .ensures) o) (c .keyed-hull .ensures)
 
+-- a path that no tab follows
 returns-3 : tie.Need-returns-3
 returns-3 c =
     let at-past = c .before .before .before .before in

@@ -19,6 +19,7 @@ dated-since-requires c κs =
     let o = opensWith-drop tab s (at-past .past .result) ∙ sym (c .before .is-at .ensures) ∙ c .if1 .taken in
     (start .pre, (omega (arith, le-past isTextByte s 6, at-past .past .ensures), lt-length-of-opensWith tab s _ o))
 
+-- a text that a tab follows: the line goes on there
 returns : tie.Need-returns
 returns c =
     let at-past = c .before .before .before in
@@ -26,6 +27,7 @@ returns c =
     let o = opensWith-drop tab s (at-past .past .result) ∙ sym (c .before .before .is-at .ensures) ∙ c .before .if1 .taken in
     ends-behind (text-ends s _ (at-past .past .ensures) o) (since-dated s _ (at-past .past .ensures) o _) (c .dated-since .ensures)
 
+-- a text that no tab follows
 returns-2 : tie.Need-returns-2
 returns-2 c =
     let at-past = c .before .before .before in

@@ -16,6 +16,7 @@ sub-if1 : tie.Need-sub-if1
 sub-if1 c = let start = c .before .before in
     omega (arith, le-past isHexDigit (start .args .s .now) (start .args .path-end + 1), c .past .ensures)
 
+-- a key of another size
 returns : tie.Need-returns
 returns c = ends-bad (c .bad .ensures) (key-not _ _ _ (c .before .before .past .ensures) _ (c .before .if1 .taken))
 
@@ -27,6 +28,7 @@ stamped-hull-requires c κs =
     let o = opensWith-drop tab s (at-past .past .result) ∙ sym (c .before .is-at .ensures) ∙ c .if2 .taken in
     (start .pre .0, omega (arith, le-past isHexDigit s (start .args .path-end + 1), at-past .past .ensures), lt-length-of-opensWith tab s _ o)
 
+-- a key that a tab follows: the line goes on there
 returns-2 : tie.Need-returns-2
 returns-2 c =
     let at-past = c .before .before .before .before in
@@ -35,6 +37,7 @@ returns-2 c =
     let o = opensWith-drop tab s (at-past .past .result) ∙ sym (c .before .before .is-at .ensures) ∙ c .before .if2 .taken in
     ends-behind (key-ends s _ _ (at-past .past .ensures) o) (key-stamped s _ _ (at-past .past .ensures) o _ (start .pre .2) (c .before .before .before .if1 .left)) (c .stamped-hull .ensures)
 
+-- a key that no tab follows
 returns-3 : tie.Need-returns-3
 returns-3 c =
     let at-past = c .before .before .before .before in

@@ -36,9 +36,11 @@ answered c =
     (at-new .new .ensures ∙ λ j. timeAt (back w64 (at-z .before .seconds .given .0 .0) (at-z .known-told .given .0 .1) j) (read w32 tt (known w64 tt (offset-in at-o)) .is j))
     (c .parse-with .ensures)
 
+-- the text is not read
 returns-3 : tie.Need-returns-3
 returns-3 c = sym (ap (sinceAt _ _) (c .enum-told3 .given .1)) ∙ answered (c .before .before)
 
+-- the text is read: the cut-off is its time
 returns-4 : tie.Need-returns-4
 returns-4 c =
     let at-answer = c .before in

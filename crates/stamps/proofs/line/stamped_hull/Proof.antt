@@ -8,9 +8,11 @@ use borrow.Author.Needs.{needs}
 use Rattle.stamps.proofs.line.stamped_hull.Statement.{statement}
 use Rattle.stamps.proofs.line.stamped_hull.Tie as tie
 
+-- no stamp
 returns : tie.Need-returns
 returns c = ends-bad (c .bad .ensures) (ap (hullAt _ _) (sym (c .before .before .before .stamp-at .ensures) ∙ c .before .enum-told .given .1))
 
+-- a stamp: its header is what is left of the line
 returns-2 : tie.Need-returns-2
 returns-2 c =
     let at-stamp = c .before .before in
