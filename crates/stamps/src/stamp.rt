@@ -22,7 +22,7 @@ use time::Time;
 
 const SECONDS_PER_HOUR: u64 = 3600;
 
-const SECONDS_PER_MINUTE: u64 = 60;
+pub const SECONDS_PER_MINUTE: u64 = 60;
 
 // How many bytes follow the seconds of a stamp: a space, a sign and four digits.
 const TAIL: usize = 6;

@@ -23,6 +23,7 @@ use crate::line::MAX_PATH;
 use crate::put;
 use crate::scan;
 use crate::scan::Class;
+use crate::stamp::SECONDS_PER_MINUTE;
 use text::decimal;
 use time::Answer;
 use time::Now;
@@ -32,6 +33,11 @@ use time::Written;
 
 // 100 hours. The header writer refuses an offset of this size or more.
 const OFFSET_LIMIT: u64 = 360000;
+
+// How many bytes a line has beside its values: `hull` or `since`, three tabs and a newline.
+const AROUND_HULL: usize = 8;
+
+const AROUND_SINCE: usize = 9;
 
 // Writes the line of a hull to the front of `room` and returns how many bytes that took. The bytes
 // beyond them stay as they were.
@@ -81,15 +87,15 @@ fn is_whole(offset: i32) -> bool
     ensures { λ r. ⌜ r ≡ (isWholeMinutes offset && ltb (natAbs offset) 360000) ⌝ }
 {
     let size = decimal::magnitude(as_i64(offset));
-    (size % 60 == 0) & (size < OFFSET_LIMIT)
+    (size % SECONDS_PER_MINUTE == 0) & (size < OFFSET_LIMIT)
 }
 
-// How many bytes the line takes, with three tabs and a newline.
+// How many bytes the line takes, with its newline.
 fn hull_width(path: &[u8], key: &[u8], time: Time) -> usize
     requires { ⌜ isHull (now path) (now key) time ≡ true ⌝ }
     ensures { λ r. ⌜ r ≡ length (ended (hullLine (now (path .entry)) (now (key .entry)) time)) ⌝ }
 {
-    path.len() + (key.len() + (time.size() + 8))
+    path.len() + (key.len() + (time.size() + AROUND_HULL))
 }
 
 // Puts the line at the front of a room that is long enough.
@@ -157,7 +163,7 @@ fn put_if_fits(text: &[u8], current: Time, room: &mut [u8]) -> Written
     }
     let numbers = decimal::signed_width(current.seconds)
         + decimal::signed_width(as_i64(current.offset))
-        + 9;
+        + AROUND_SINCE;
     if room.len() - text.len() < numbers {
         return Written::Refused(Refusal::Room);
     }
