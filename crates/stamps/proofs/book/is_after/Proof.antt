@@ -1,8 +1,12 @@
 -- `stamps::book::is_after` meets its contract.
 -- Assumes nothing.
+use mathlib.Core.Path.{sym, ap, _∙_}
 use mir.Syntax.{w64}
 use borrow.Author.Needs.{needs}
+use lib.Signed.{leZ}
 use Rattle.ints.proofs.Machine.{back}
+use Rattle.text.specs.declared.number.Integer.{Integer}
+use Rattle.stamps.specs.Listing.{isAfter}
 use Rattle.stamps.proofs.book.is_after.Statement.{statement}
 use Rattle.stamps.proofs.book.is_after.Tie as tie
 
@@ -10,7 +14,10 @@ use Rattle.stamps.proofs.book.is_after.Tie as tie
 returns : tie.Need-returns
 returns c =
     let start = c .before .before .before in
-    rw (c .before .cut-off .given .1, back w64 (c .before .cut-off .given .0 .0) (c .known-told .given .0 .1), back w64 (start .args .seconds) (start .fits .seconds .sfits))
+    let cut-off = c .before .cut-off .given in
+    let seconds = start .args .seconds in
+    (λ i. leZ (back w64 (cut-off .0 .0) (c .known-told .given .0 .1) i) (back w64 seconds (start .fits .seconds .sfits) i))
+    ∙ ap (λ (x : Integer). isAfter x seconds) (sym (cut-off .1))
 
 pub is-after-spec : {M : Type 1} → statement M
 is-after-spec = tie.close (tie.spec (λ c. search needs) (λ c. search needs) returns (λ c. search needs))
