@@ -29,6 +29,13 @@ int main(void)
         fprintf(stderr, "stamps: line %zu is bad\n", line);
         return 1;
     }
-    fwrite(room, 1, length, stdout);
+    if (number != CHOWDERBELL_OK) {
+        fprintf(stderr, "stamps: refused by %d\n", number);
+        return 1;
+    }
+    if (fwrite(room, 1, length, stdout) != length || fflush(stdout) != 0) {
+        perror("stamps");
+        return 2;
+    }
     return 0;
 }

@@ -95,8 +95,8 @@ uint8_t chowderbell_write_header(int64_t seconds, int32_t offset, uint8_t *room,
    6 for seconds out of range or a local year outside 0 to 9999; or 8. */
 uint8_t chowderbell_write_iso(int64_t seconds, int32_t offset, uint8_t *room, size_t len, size_t *length);
 
-/* A book of stamps is a text of at most 65536 bytes in which each cooked hull has a line. The empty book is good. Every line ends
-   in a newline, the last one too, and has four fields with tabs between:
+/* A book of stamps is a text of at most 65536 bytes with lines for cooked hulls. The empty book is good. Every line ends in a
+   newline, the last one too, and has four fields with tabs between:
 
      hull   PATH  KEY      TIME
      since  TEXT  SECONDS  OFFSET
@@ -113,7 +113,8 @@ uint8_t chowderbell_write_iso(int64_t seconds, int32_t offset, uint8_t *room, si
 
    The time that a `since` line's text means is the cut-off for the `hull` lines below it, up to the next `since` line. The listing
    of a good book has the `hull` lines whose seconds are at or after their cut-off, and all those that have no `since` line above
-   them, in the order of the book. Each is listed with its newline, byte for byte.
+   them, in the order of the book. Each is listed with its newline, byte for byte. A path may be in several lines; each line is
+   listed or not by itself.
 
    Both functions read book[0] to book[len - 1] and no other byte. */
 
@@ -129,7 +130,8 @@ uint8_t chowderbell_book_check(const uint8_t *book, size_t len, size_t *line);
          set to 0.
      10  The book is not good. *line is set as by chowderbell_book_check.
      8   The book is good, and its listing is longer than the room. *line is set to 0.
-   If it returns 8 or 10, *length is set to 0, and every byte of the room is as it was. */
+   If it returns 8 or 10, *length is set to 0, and every byte of the room is as it was. It uses some 6 KB of stack more than a
+   check, for a mark of each line. */
 uint8_t chowderbell_book_list(const uint8_t *book, size_t len, uint8_t *room, size_t room_len, size_t *length, size_t *line);
 
 #ifdef __cplusplus

@@ -16,7 +16,7 @@
 
 #include "chowderbell.h"
 
-/* As the request gives them; the compiler refuses a header that declares them otherwise. */
+/* The declarations that callers are written against; the compiler refuses a header that declares them otherwise. */
 uint8_t chowderbell_book_check(const uint8_t *book, size_t len, size_t *line);
 uint8_t chowderbell_book_list(const uint8_t *book, size_t len, uint8_t *room, size_t room_len, size_t *length, size_t *line);
 

@@ -1,7 +1,7 @@
 #!/usr/bin/env python3
 """Judges, checks and lists a book of stamps: a reference that shares no code with the library.
 
-It was written from the words of docs/RULES.md (2.4, 3, 4.1, 7, 9.1) and of the request for the book, and from nothing else.
+It was written from the words of docs/RULES.md (2.4, 3, 4.1, 7, 9.1, 13) and from nothing else.
 Every number is a Python integer, so nothing here can overflow.
 
 Usage: book.py list < BOOK      the number, the line and the length, then the listing
@@ -337,7 +337,7 @@ CASES = [
     good("the offset of a hull does not count", S(b"now", b"0"), H(b"0 +9959"), H(b"0 -9959"), H(b"-1 +9959"), listed=[2, 3]),
     good("the offset of a since moves no `now`", S(b"now", b"5", b"93599"), H(b"5 +0000"), H(b"4 +0000"), listed=[2]),
     good("since lines alone list nothing", S(b"now"), S(b"yesterday"), listed=[]),
-    bad("the first bad line is told", H(b"5 +0000"), S(b"now"), H(b"05 +0000"), b"", line=3),
+    bad("the first bad line is named", H(b"5 +0000"), S(b"now"), H(b"05 +0000"), b"", line=3),
     # cut-offs
     good("31 May less a month is 1 May", S(b"1 month ago", NOON), H(b"1619870400 +0000"), H(b"1619870399 +0000"), listed=[2]),
     good("31 May less two months is 31 March", S(b"2 months", NOON), H(b"1617192000 +0000"), H(b"1617191999 +0000"), listed=[2]),

@@ -3,7 +3,7 @@
  * compare.py starts it, makes the books, knows what is wanted and reads what differs. Input is a sequence of batches: two 32-bit
  * numbers, the records and the bytes that follow; then the records, each five 32-bit numbers (length of the book, number wanted,
  * line wanted, length of the listing wanted, room that the listing needs) and the bytes of the book and of the listing. The
- * answer to a batch is a 32-bit number, the records that differ, and for each of them, at most MOST_TOLD, its place in the
+ * answer to a batch is a 32-bit number, the records that differ, and for each of them, at most MOST_KEPT, its place in the
  * batch and a text with its length. All numbers are as the machine stores them.
  *
  * With an argument, the number of a mistake below, every answer has that mistake, and differences must be found.
@@ -22,11 +22,11 @@
 
 #include "chowderbell.h"
 
-/* As the request gives them; the compiler refuses a header that declares them otherwise. */
+/* The declarations that callers are written against; the compiler refuses a header that declares them otherwise. */
 uint8_t chowderbell_book_check(const uint8_t *book, size_t len, size_t *line);
 uint8_t chowderbell_book_list(const uint8_t *book, size_t len, uint8_t *room, size_t room_len, size_t *length, size_t *line);
 
-enum { PAGE = 4096, LARGEST = 1 << 18, FRONT = 64, MOST_TOLD = 64, TEXT = 200, SECONDS_FOR_A_BATCH = 120 };
+enum { PAGE = 4096, LARGEST = 1 << 18, FRONT = 64, MOST_KEPT = 64, TEXT = 200, SECONDS_FOR_A_BATCH = 120 };
 
 /* Mistakes that the library might make with memory. compare.py has their names, in this order. */
 enum { NONE, CHANGES_BEHIND, CHANGES_ON_REFUSAL, CHANGES_IN_FRONT, CHANGES_BOOK, LEAVES_LENGTH, LEAVES_LINE, LEAVES_CHECK_LINE,
@@ -43,11 +43,11 @@ typedef struct {
 typedef struct {
     uint32_t place, length;
     char text[TEXT];
-} told;
+} difference;
 
 static uint8_t *book_pages, *room_pages;
 static uint8_t pattern[LARGEST], wanted_room[LARGEST];
-static told differences[MOST_TOLD];
+static difference differences[MOST_KEPT];
 static uint32_t differing;
 
 static void give_up(const char *why)
@@ -68,7 +68,7 @@ static uint8_t *fenced(void)
 /* Tells the first difference of a record. Always answers 1. */
 static int differ(const char *format, ...)
 {
-    if (differing < MOST_TOLD) {
+    if (differing < MOST_KEPT) {
         va_list values;
         va_start(values, format);
         vsnprintf(differences[differing].text, TEXT, format, values);
@@ -233,7 +233,7 @@ int main(int count, char **arguments)
             at += sizeof want;
             if (want.book > LARGEST / 2 || want.need > LARGEST / 2 || want.listing > want.book)
                 give_up("a book is too long for this program");
-            if (record_differs(&want, at, at + want.book) && differing <= MOST_TOLD)
+            if (record_differs(&want, at, at + want.book) && differing <= MOST_KEPT)
                 differences[differing - 1].place = i;
             at += want.book + want.listing;
         }
@@ -243,7 +243,7 @@ int main(int count, char **arguments)
         free(batch);
 
         give(&differing, sizeof differing);
-        for (i = 0; i < differing && i < MOST_TOLD; i++) {
+        for (i = 0; i < differing && i < MOST_KEPT; i++) {
             differences[i].length = (uint32_t)strlen(differences[i].text);
             give(&differences[i], 2 * sizeof(uint32_t) + differences[i].length);
         }

@@ -67,11 +67,11 @@ class Library:
             self.process.stdin.write(struct.pack("=2I", len(wanted), len(records)) + records)
             self.process.stdin.flush()
             count, = struct.unpack("=I", self.read(4))
-            told = []
+            found = []
             for _ in range(min(count, 64)):
                 place, length = struct.unpack("=2I", self.read(8))
-                told.append((place, self.read(length).decode()))
-            return count, told
+                found.append((place, self.read(length).decode()))
+            return count, found
         except (BrokenPipeError, EOFError):
             return None
 
@@ -117,8 +117,8 @@ def answers(rules, batch):
 
 def difference(library, rules, text):
     """What differs for one book, or nothing."""
-    _, told = library.differences(answers(rules, [text]))
-    return told[0][1] if told else None
+    _, found = library.differences(answers(rules, [text]))
+    return found[0][1] if found else None
 
 
 def smallest(library, rules, text):
@@ -171,13 +171,13 @@ def compare(chosen, options):
         books = length = good = listed = differ = 0
         for batch in batches(SUITES[name](random.Random(options.seed), options.books)):
             wanted = answers(rules, batch)
-            count, told = library.differences(wanted)
+            count, found = library.differences(wanted)
             books += len(batch)
             length += sum(map(len, batch))
             good += sum(1 for _, answer in wanted if answer[0] == 0)
             listed += sum(1 for _, answer in wanted if answer[2])
             differ += count
-            for place, what in told:
+            for place, what in found:
                 if differing < 3:
                     print(f"{name}: {shown(batch[place], 200)}: {what}")
                 differing += 1
@@ -488,7 +488,7 @@ class LinesFromZero(Rules):
 
 
 class LastBadLine(Rules):
-    """the last bad line is told"""
+    """the last bad line is found"""
     def answer(self, book):
         number, line, listing, need = super().answer(book)
         if number == 10 and line > 0:
@@ -537,7 +537,7 @@ class RoomBeyond(Rules):
 # The mistakes with memory that compare.c can make, from 1.
 OF_MEMORY = [
     "a byte behind the listing is changed", "a refusal changes the room", "a byte in front of the room is changed", "the book is changed",
-    "a refusal leaves what was in length", "line is left as it was where it is not told", "check leaves line as it was",
+    "a refusal leaves what was in length", "line is left as it was where it is not found", "check leaves line as it was",
     "a byte behind the book is read", "a byte in front of the book is read", "a byte behind the room is written",
 ]
 
@@ -553,10 +553,10 @@ def planted(chosen, options):
         books = chain.from_iterable(SUITES[suite](random.Random(options.seed), min(options.books, 20000)) for suite in chosen)
         looked_at = 0
         for batch in batches(books):
-            _, told = library.differences(answers(rules, batch))
-            if told:
-                looked_at += told[0][0] + 1
-                text = smallest(library, rules, min((batch[place] for place, _ in told), key=len))
+            _, found = library.differences(answers(rules, batch))
+            if found:
+                looked_at += found[0][0] + 1
+                text = smallest(library, rules, min((batch[place] for place, _ in found), key=len))
                 if difference(right, Rules(), text) is not None:
                     print(f"differs without a mistake: {shown(text)}")
                     return 1

@@ -1,4 +1,4 @@
-//! A book of stamps: a text in which each cooked hull has a line, and the listing of the hulls that its cut-offs keep.
+//! A book of stamps: a text with lines for cooked hulls, and the listing of the hulls that its cut-offs keep.
 //!
 //! A book has at most [`MAX`] bytes. The empty book is good. Every line ends in a newline, the last one too, and has four
 //! fields with tabs between:
@@ -19,7 +19,8 @@
 //!
 //! The time that a `since` line's text means is the cut-off for the `hull` lines below it, up to the next `since` line.
 //! The listing has the `hull` lines whose seconds are at or after their cut-off, and all those that have no `since` line
-//! above them, in the order of the book. Each is listed with its newline, byte for byte. So the listing of a good book is a
+//! above them, in the order of the book. Each is listed with its newline, byte for byte. A path may be in several lines; each
+//! line is listed or not by itself. The listing of a good book is a
 //! good book too, and has no more bytes.
 
 use crate::{entries, refusal, Refusal};
@@ -91,7 +92,7 @@ pub fn listing(book: impl AsRef<[u8]>, room: &mut [u8]) -> Result<&str, BookErro
     Ok(core::str::from_utf8(&room[..length]).expect("a listing is ASCII"))
 }
 
-/// Why a book was not listed.
+/// Why a book is not good, or was not listed.
 #[derive(Clone, Copy, PartialEq, Eq, Hash, Debug)]
 #[non_exhaustive]
 pub enum BookError {

@@ -13,7 +13,7 @@ is above it. The lines listed are written to standard output, in the order and
 with the bytes of the book.
 
 BOOK is a file. Where it is missing or is -, the book is read from standard
-input. For a file whose name opens with -, say ./-name.
+input. For a file whose name begins with -, write ./-name.
 
 A line has four fields, with tabs between, and ends in a newline:
 hull, path, key, time
@@ -24,8 +24,13 @@ digits. A time is seconds since 1970 and an offset in hours and minutes, as in
 means at the current time is the cut-off. Seconds and the current offset are in
 plain decimal. A book has at most 65,536 bytes; the empty book is good.
 
+Numbers and times are exact: with +5, 05, -0, 5 +0060 or 5 -0000 a line is bad.
+So is a line with a carriage return before its newline, or an empty line. A path
+may be in several lines; each line is listed or not by itself.
+
 -h, --help  write the help text and read no book
 --version   write the name and the version and read no book
+Only the first argument may be an option.
 
 $ cat book
 since\t1 week ago\t1745582210\t7200
@@ -36,7 +41,7 @@ hull\toak.hull\t0123456789abcdef\t1744977410 +0200
 $ printf 'hull\\toak.hull\\n' | stamplist
 standard input:1: bad line
 
-Of a bad book nothing is listed. A message on standard error has the number of
+Nothing of a bad book is listed. A message on standard error has the number of
 its first bad line, or says that the book is too long; the exit status does not.
 It is 0 unless a signal ends the program, even if a read or a write failed,
 because a Rattle program has no other. A failed read or write ends the program

@@ -35,14 +35,15 @@ pub fn list_input() {
     list(b"standard input", places::up_to(&room, reading.length));
 }
 
-fn book_room() -> [u8; 65537]
+fn book_room() -> [u8; ROOM]
     ensures { λ r. ⌜ 65537 ≡ length r ⌝ }
 {
     [0; ROOM]
 }
 
-// Writes the listing of a book. A bad book is reported by its name. No listing is longer than its book,
-// so a buffer of 65,536 bytes has room for it, and a refusal at line 0 says that the book is too long.
+// Writes the listing of a book. A bad book is reported by its name. No listing is longer than its book
+// (`length-listing-le`), so a buffer of 65,536 bytes has room for it, and a refusal at line 0 says that
+// the book is too long.
 fn list(name: &[u8], book: &[u8]) {
     let months = calendar::months();
     let mut out = io::large_buffer();

@@ -4,7 +4,7 @@
 // No contract can say which bytes are read or written: what is proved here is that every call is safe
 // and ends. A read or a write that a signal interrupts is made again, and so is one on a descriptor
 // that does not block and is not ready. The exit status of a Rattle program is always 0, so every
-// failure is told by a message.
+// failure is reported by a message.
 ghost use Prim.Native.Nat.{_≤_};
 ghost use mathlib.Core.Path.{_≡_};
 ghost use lib.ListN.{length};
@@ -53,7 +53,7 @@ pub fn read_input(program: &[u8], room: &mut [u8]) -> Reading
 
 // Reads what `name` names from its descriptor. A proved loop has to end, and nothing says that an
 // input does not interrupt its reads for ever, so the loop counts its reads down from a number that no
-// run uses up.
+// run uses up. What is behind the loop is never reached.
 fn read_whole(program: &[u8], name: &[u8], fd: i32, room: &mut [u8]) -> Reading
     ensures { λ r. ⌜ r .length ≤ length (now (room .exit)) ⌝ }
 {
@@ -210,7 +210,7 @@ fn put(part: &[u8], at: usize, room: &mut [u8]) -> usize {
     end
 }
 
-// Writes `NAME:LINE: bad line` to standard error.
+// Writes `NAME:LINE: bad line` to standard error, the message of every program that reads a book.
 pub fn bad_line(name: &[u8], line: usize) {
     io::write_all(STDERR_FILENO, name);
     io::write_all(STDERR_FILENO, b":");

@@ -129,7 +129,7 @@ pub enum Refusal {
     Offset,
     // 8: the room is shorter than the bytes to be written.
     Room,
-    // 10: a book of stamps is too long or has a bad line; or values make no good line.
+    // 10: a book of stamps is too long or has a bad line; or the values given for a line would not be read back from it.
     Book,
 }
 
