@@ -1,5 +1,5 @@
--- A line written from its values (RULES 13.12): its bytes, when the values make a good line, and what a call returns that writes it with its
--- newline.
+-- A line written from its values (RULES 13.12): its bytes, which values are read back from them, and what a call returns that writes the line
+-- with its newline.
 -- Assumes nothing.
 use Prim.Native.Nat.{ℕ}
 use mathlib.Core.Bool.{Bool, true, false, cond, not, _&&_}
@@ -36,7 +36,8 @@ sinceLine text current = bytes "since" ++ tab ∷ text ++ tab ∷ signed (curren
 abbrev pub ended : List ℕ → List ℕ
 ended l = l ++ newline ∷ []
 
--- values that make a good line: a path, a key, and a time whose offset is whole minutes under 100 hours
+-- the values of a hull that are read back from the line that they make: a path, a key, and a time whose offset is whole minutes under 100
+-- hours
 unfoldable pub isHull : List ℕ → List ℕ → Time → Bool
 isHull path key t = isPath path && isKey key && (isWholeMinutes (t .offset) && ltb (natAbs (t .offset)) 360000)
 
@@ -45,11 +46,11 @@ abbrev pub isRead : Answer → Bool
 isRead (Read t) = true
 isRead (NotRead r) = false
 
--- a text without tab and newline that is read at the current time
+-- those of a cut-off: a text without tab and newline that is read at the current time
 unfoldable pub isSince : ℕ → List ℕ → Time → Bool
 isSince bound text current = not (has tab text) && not (has newline text) && isRead (relativeOf bound text (CurrentAt current))
 
--- refused by 10 if the values make no good line, then by 8 if the room is too short
+-- refused by 10 if the values would not be read back, then by 8 if the room is too short
 abbrev pub lineWritten : Bool → List ℕ → List ℕ → Written
 lineWritten good l room = cond good (cond (fits (ended l) room) (Length (length (ended l))) (Refused Room)) (Refused Book)
 

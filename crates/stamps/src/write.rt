@@ -1,5 +1,6 @@
-// A line written from its values (RULES 13.12), with its newline. Values that make no good line are
-// refused by 10, then a room that is too short by 8. A refusal changes nothing in the room.
+// A line written from its values (RULES 13.12), with its newline. Values that would not be read back
+// from the line that they make are refused by 10, then a room that is too short by 8. A refusal changes
+// nothing in the room.
 ghost use mathlib.Core.Path.{_≡_};
 ghost use mathlib.Core.Bool.{true, _&&_};
 ghost use mathlib.Core.List.{_∷_, _++_};
@@ -56,8 +57,8 @@ pub fn write_hull(path: &[u8], key: &[u8], time: Time, room: &mut [u8]) -> Writt
     Written::Refused(Refusal::Book)
 }
 
-// Whether the values make a good line: a path, a key, and a time whose offset is whole minutes under
-// 100 hours.
+// Whether the values are read back from their line: a path, a key, and a time whose offset is whole
+// minutes under 100 hours. A time at offset 30 would be written as one at offset 0.
 fn is_hull(path: &[u8], key: &[u8], time: Time) -> bool
     ensures { λ r. ⌜ r ≡ isHull (now (path .entry)) (now (key .entry)) time ⌝ }
 {
@@ -152,7 +153,7 @@ pub fn write_since_with(months: &[u32], text: &[u8], current: Time, room: &mut [
     Written::Refused(Refusal::Book)
 }
 
-// Writes the line of values that make a good one, unless the room is too short. The text is not too
+// Writes the line of values that are read back, unless the room is too short. The text is not too
 // long to be measured: its length is compared before anything is added to it.
 fn put_if_fits(text: &[u8], current: Time, room: &mut [u8]) -> Written
     ensures { λ r. ⌜ r ≡ lineWritten true (sinceLine (now (text .entry)) current) (now (room .entry)) ⌝ }
@@ -171,8 +172,8 @@ fn put_if_fits(text: &[u8], current: Time, room: &mut [u8]) -> Written
     Written::Length(text.len() + numbers)
 }
 
-// Whether the values make a good line: a text without tab and newline that is a relative date which is
-// read at the current time.
+// Whether the values are read back from their line: a text without tab and newline that is a relative
+// date which is read at the current time.
 fn is_since(months: &[u32], text: &[u8], current: Time) -> bool
     requires { ⌜ IsMonths (now months) ⌝ }
     ensures { λ r. ⌜ r ≡ isSince maxPairs (now (text .entry)) current ⌝ }
