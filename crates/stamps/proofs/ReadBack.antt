@@ -4,25 +4,21 @@
 -- hull; a line of a cut-off.
 -- Assumes nothing.
 use mathlib.Core.Path.{_≡_, refl, sym, ap, _∙_}
-use mathlib.Core.Bool.{Bool, true, false, not, _&&_, _||_, false≢true}
+use mathlib.Core.Bool.{Bool, true, false, not, _&&_, false≢true}
 use mathlib.Core.List.{List, [], _∷_, _++_, append-assoc}
 use Prim.Native.Nat.{ℕ, _<_}
 use native.Mathlib.Omega.{arith}
 use borrow.Author.Tests.{ne-eqb, le-ltb}
-use lib.Dec.{leb, ltb}
 use lib.IntN.{ℤ}
 use lib.ListN.{length, take, drop}
 use lib.Seq.{take-append-seam}
 use Rattle.ints.proofs.Machine.{In-of-isIn}
 use Rattle.ints.proofs.Parts.{ints}
-use Rattle.text.specs.Bytes.{ascii}
 use Rattle.text.specs.Decimal.{signed}
 use Rattle.text.specs.Lines.{tab, newline, field, rest}
 use Rattle.text.specs.Places.{has}
 use Rattle.text.specs.Quote.{bytes}
 use Rattle.text.specs.Room.{fits, roomAfter}
-use Rattle.text.specs.declared.number.Number.{Number}
-use Rattle.text.specs.declared.number.Number.the-variants.{Value, Nothing as NoNumber}
 use Rattle.text.proofs.Decimals.{Between}
 use Rattle.text.proofs.FirstPlaces.{Free, firstPlace-of-Free}
 use Rattle.text.proofs.Lists.{by-test, both}
@@ -34,8 +30,7 @@ use Rattle.time.specs.declared.Time.{Time}
 use Rattle.time.specs.declared.Now.the-variants.{At as CurrentAt}
 use Rattle.time.specs.declared.Written.the-variants.{Length}
 use Rattle.header.specs.Theorems.{Seconds64}
-use Rattle.relative.specs.Pairs.{pairsOf, agoIn, known}
-use Rattle.relative.specs.Relative.{relativeOf, byName, byPairs, from, namedOf}
+use Rattle.relative.specs.Relative.{relativeOf}
 use Rattle.stamps.specs.Lines.{every, isPathByte, isHexDigit, hullAt, hullOf, sinceAt, sinceWith, sinceOf, lineOf}
 use Rattle.stamps.specs.Writing.{hullLine, sinceLine, ended, isHull, isRead, isSince, lineWritten, hullWritten, sinceWritten}
 use Rattle.stamps.specs.Book.{judged, linesIn, lastPiece}
@@ -48,6 +43,7 @@ use Rattle.stamps.proofs.Stamps.{stampOf-headerBytes}
 use Rattle.stamps.proofs.Fronts.{headerBytes-between}
 use Rattle.stamps.proofs.Fields.{field-append, rest-append, isTextByte-of-isPathByte, isTextByte-of-isHexDigit}
 use Rattle.stamps.proofs.HullLines.{parts-of-isPath, parts-of-isKey, hullOf-stamp}
+use Rattle.stamps.proofs.SinceLines.{not-read-of-not-timeInRange}
 use Rattle.stamps.proofs.Reading.{lineOf-hull, lineOf-since}
 use Rattle.stamps.proofs.Listings.{endedLines-joined, left-joined}
 use Rattle.stamps.proofs.Writing.{every-isTextByte, goodHull}
@@ -129,10 +125,10 @@ record InRoom (good : Bool) (l room : List ℕ) (n : ℕ) : Type 0 where
 
 inRoom : (good : Bool) (l room : List ℕ) (n : ℕ) → lineWritten good l room ≡ Length n → InRoom good l room n
 inRoom false l room n e = let z : _≡_ {A = ℕ} 0 1 = cc in absurd (omega arith)
-inRoom true l room n e = by-test (fits (ended l) room) (λ y. told y (rw y at e)) (λ y. let k = rw y at e in let z : _≡_ {A = ℕ} 0 1 = cc in absurd (omega arith))
+inRoom true l room n e = by-test (fits (ended l) room) (λ y. inRoom-of-fits y (rw y at e)) (λ y. let k = rw y at e in let z : _≡_ {A = ℕ} 0 1 = cc in absurd (omega arith))
   where
-    told : fits (ended l) room ≡ true → Length (length (ended l)) ≡ Length n → InRoom true l room n
-    told y p =
+    inRoom-of-fits : fits (ended l) room ≡ true → Length (length (ended l)) ≡ Length n → InRoom true l room n
+    inRoom-of-fits y p =
         let m : n ≡ length (ended l) = cc in
         record { values-good = refl; bytes-are = rw (y, m) (take-append-seam (ended l) (drop (length (ended l)) room)) }
 
@@ -173,18 +169,7 @@ module _ (path key : List ℕ) (t : Time) (room : List ℕ) (n : ℕ) (e : hullW
 -- ---- a line of a cut-off
 -- a relative date is read only at a current time in range
 timeInRange-of-read : (bound : ℕ) (s : List ℕ) (x : Time) → isRead (relativeOf bound s (CurrentAt x)) ≡ true → timeInRange x ≡ true
-unfolding relativeOf byPairs from
-timeInRange-of-read bound s x e = by-test (timeInRange x) (λ y. y) (λ y. absurd (false≢true (sym (not-read y) ∙ e)))
-  where
-    not-named : (k : Number) → timeInRange x ≡ false → isRead (byName k bound s (CurrentAt x)) ≡ false
-    not-named (Value k) y = rw y
-    not-named NoNumber y =
-        by-test (ltb 0 (length (pairsOf s)) && (known (pairsOf s) || agoIn s))
-        (λ p. by-test (leb (length (pairsOf s)) bound) (λ q. rw (p, q, y)) (λ q. rw (p, q)))
-        (λ p. rw p)
-
-    not-read : timeInRange x ≡ false → isRead (relativeOf bound s (CurrentAt x)) ≡ false
-    not-read y = by-test (ascii s) (λ a. rw a (not-named (namedOf s) y)) (λ a. rw a)
+timeInRange-of-read bound s x e = by-test (timeInRange x) (λ y. y) (λ y. absurd (false≢true (sym (not-read-of-not-timeInRange bound s x y) ∙ e)))
 
 -- so its seconds and its offset have 64 bits
 record GoodSince (text : List ℕ) (current : Time) : Type 0 where

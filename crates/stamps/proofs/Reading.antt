@@ -114,7 +114,7 @@ lineOf-newline : (bound : ℕ) (s : List ℕ) → has newline s ≡ true → lin
 unfolding lineOf
 lineOf-newline bound s e = rw e
 
-bad-of-not-good : (l : Line) → isGood l ≡ false → l ≡ Bad
+pub bad-of-not-good : (l : Line) → isGood l ≡ false → l ≡ Bad
 bad-of-not-good (Hull h) e = absurd (false≢true (sym e))
 bad-of-not-good (Since x) e = absurd (false≢true (sym e))
 bad-of-not-good Bad e = refl
