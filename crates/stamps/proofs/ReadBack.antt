@@ -37,6 +37,7 @@ use Rattle.stamps.specs.Lines.{every, isPathByte, isHexDigit, spanAt, hu
 use Rattle.stamps.specs.Writing.{hullLine, sinceLine, ended, isHull, isRead, isSince, lineWritten, hullWritten, sinceWritten}
 use Rattle.stamps.specs.Book.{judged, linesIn, lastPiece}
 use Rattle.stamps.specs.Listing.{joined}
+use Rattle.stamps.specs.Theorems.{areGood}
 use Rattle.stamps.specs.Held.{isTextByte}
 use Rattle.stamps.specs.declared.line.Line.{Line}
 use Rattle.stamps.specs.declared.stamp.Stamp.the-variants.{At}
@@ -135,14 +136,14 @@ inRoom true l room n e = by-test (fits (ended l) room) (λ y. inRoom-of-fits y (
         record { values-good = refl; bytes-are = rw (y, m) (take-append-seam (ended l) (drop (length (ended l)) room)) }
 
 -- ---- the text between two places of a line
--- what stands behind the first n bytes of a line
+-- what stands behind its first n bytes
 part-middle : (l a m z : List ℕ) (n : ℕ) → l ≡ a ++ (m ++ z) → n ≡ length a → part l (spanAt n m) ≡ m
 part-middle l a m z n e k =
     let d : drop n l ≡ m ++ z = (λ i. drop (k i) (e i)) ∙ drop-append-seam a (m ++ z) in
     let w : n + length m - n ≡ length m = omega arith in
     (λ i. take (w i) (d i)) ∙ take-append-seam m z
 
--- and what it is if the line goes on
+-- more bytes behind the line do not change it
 part-append : (l r m : List ℕ) (n : ℕ) → n + length m ≤ length l → part (l ++ r) (spanAt n m) ≡ part l (spanAt n m)
 part-append l r m n h =
     let k : n + length m - n ≤ length (drop n l) = omega (arith, length-drop n l) in
@@ -170,8 +171,7 @@ pub part-hullLine-key : (path key : List ℕ) (t : Time) → part (hullLine path
 unfolding hullLine
 part-hullLine-key path key t =
     let h = bytes "hull" ++ tab ∷ path in
-    let e : hullLine path key t ≡ (h ++ tab ∷ []) ++ (key ++ tab ∷ headerBytes t) =
-    append-assoc h (tab ∷ key) (tab ∷ headerBytes t) ∙ sym (append-assoc h (tab ∷ []) (key ++ tab ∷ headerBytes t)) in
+    let e : hullLine path key t ≡ (h ++ tab ∷ []) ++ (key ++ tab ∷ headerBytes t) = append-assoc h (tab ∷ key) (tab ∷ headerBytes t) ∙ sym (append-assoc h (tab ∷ []) (key ++ tab ∷ headerBytes t)) in
     part-middle (hullLine path key t) (h ++ tab ∷ []) key (tab ∷ headerBytes t) (5 + length path + 1) e (omega (arith, length-append h (tab ∷ [])))
 
 -- the line of good values is read as a line of that time, and within its bounds are the path and the key
@@ -279,13 +279,15 @@ module _ (bound : ℕ) (text : List ℕ) (current : Time) (room : List ℕ) (n :
   since-in-room = inRoom (isSince bound text current) (sinceLine text current) room n e .bytes-are
 
   pub since-read-back-in-room : let written = take n (roomAfter (isWritten (sinceWritten bound text current room)) (ended (sinceLine text current)) room) in
-      (linesIn bound written ≡ sinceAt text current (relativeOf bound text (CurrentAt current)) ∷ []) × (part written (spanAt 6 text) ≡ text)
-  unfolding sinceWritten
+      (linesIn bound written ≡ sinceAt text current (relativeOf bound text (CurrentAt current)) ∷ []) × (areGood (linesIn bound written) ≡ true) × (part written (spanAt 6 text) ≡ text)
+  unfolding sinceWritten areGood
   since-read-back-in-room =
       let l = sinceLine text current in
       let good = inRoom (isSince bound text current) l room n e .values-good in
       let back = since-read-back bound text current good in
+      let one = ap (linesIn bound) since-in-room ∙ linesIn-ended bound l (since-fields bound text current good .one-line) in
       let k : length (ended l) ≡ length l + 1 = length-append l (newline ∷ []) in (
-        ap (linesIn bound) since-in-room ∙ linesIn-ended bound l (since-fields bound text current good .one-line) ∙ ap (λ (x : Line). x ∷ []) (back .0),
+        one ∙ ap (λ (x : Line). x ∷ []) (back .0),
+        ap areGood one ∙ ap (λ (b : Bool). b && true) (back .1),
         ap (λ (s : List ℕ). part s (spanAt 6 text)) since-in-room ∙ part-append l (newline ∷ []) text 6 (omega (arith, k, length-ended-sinceLine text current)) ∙ back .2,
       )

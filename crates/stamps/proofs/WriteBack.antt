@@ -4,6 +4,7 @@
 -- Assumes nothing.
 use mathlib.Core.Path.{_≡_, refl, sym, ap, _∙_}
 use mathlib.Core.Bool.{true, false, _&&_, false≢true}
+use mathlib.Core.Logic.{_↔_}
 use mathlib.Core.List.{List, [], _∷_, _++_, append-assoc, append-nil}
 use Prim.Native.Nat.{ℕ, zero, suc, _+_, _-_, _<_}
 use native.Mathlib.Omega.{arith}
@@ -29,6 +30,7 @@ use Rattle.time.specs.declared.Time.{Time}
 use Rattle.time.specs.declared.Now.the-variants.{At as CurrentAt}
 use Rattle.time.specs.declared.Answer.{Answer}
 use Rattle.time.specs.declared.Answer.the-variants.{Time as Read, Refused as NotRead}
+use Rattle.header.specs.Theorems.{Seconds64}
 use Rattle.relative.specs.Relative.{relativeOf}
 use Rattle.time.proofs.Headers.{length-headerBytes}
 use Rattle.stamps.specs.Stamps.{printed, isWholeMinutes, stampOf}
@@ -51,6 +53,7 @@ use Rattle.stamps.proofs.Fields.{firstPlace-le-length, length-before, h
 use Rattle.stamps.proofs.HullLines.{sizeOf-pos, parts-of-isKey}
 use Rattle.stamps.proofs.Books.{joined-endedLines}
 use Rattle.stamps.proofs.Listings.{good-book-iff}
+use Rattle.stamps.proofs.ReadBack.{part-hullLine-path, part-hullLine-key, hull-read-back, part-sinceLine-text, since-read-back}
 
 -- ---- the fields of a line as parts of it
 -- the field that begins at n, and what follows it
@@ -236,6 +239,26 @@ pub since-written-back : (bound : ℕ) (l : List ℕ) (x : SinceValue) → lineO
     → (l ≡ sinceLine (part l (x .text)) (x .current)) × (isSince bound (part l (x .text)) (x .current) ≡ true)
 since-written-back bound l x e =
     lineOf-good bound l (Since x) refl e (λ n m k. absurd (false≢true (sym (hull-is-not-since _ _ _) ∙ ap isSinceLine k))) (λ n m k. since-back bound l x n m k)
+
+-- so the writer takes exactly the values that read back
+pub hull-written-iff : (bound : ℕ) (path key : List ℕ) (t : Time) → Seconds64 (t .seconds)
+    → (isHull path key t ≡ true) ↔ (lineOf bound (hullLine path key t) ≡ hullAt path key (At t))
+hull-written-iff bound path key t r = (
+  λ e. hull-read-back bound path key t e r .0,
+  λ e. sym (λ i. isHull (part-hullLine-path path key t i) (part-hullLine-key path key t i) t) ∙ hull-written-back bound (hullLine path key t) _ e .1,
+)
+
+pub since-written-iff : (bound : ℕ) (text : List ℕ) (current : Time)
+    → (isSince bound text current ≡ true)
+    ↔ ((lineOf bound (sinceLine text current) ≡ sinceAt text current (relativeOf bound text (CurrentAt current))) × (isGood (lineOf bound (sinceLine text current)) ≡ true))
+since-written-iff bound text current = (
+  λ e. let back = since-read-back bound text current e in (back .0, back .1),
+  λ e. isSince-of-answer (relativeOf bound text (CurrentAt current)) (e .0) (e .1),
+)
+  where
+    isSince-of-answer : (a : Answer) → lineOf bound (sinceLine text current) ≡ sinceAt text current a → isGood (lineOf bound (sinceLine text current)) ≡ true → isSince bound text current ≡ true
+    isSince-of-answer (Read t) e g = sym (ap (λ (s : List ℕ). isSince bound s current) (part-sinceLine-text text current)) ∙ since-written-back bound (sinceLine text current) _ e .1
+    isSince-of-answer (NotRead r) e g = not-good (lineOf bound (sinceLine text current)) g e
 
 pub line-written-back : (bound : ℕ) (l : List ℕ) → isGood (lineOf bound l) ≡ true → rewritten bound l (lineOf bound l) ≡ l
 line-written-back bound l g = rewritten-of-good (lineOf bound l) refl g
