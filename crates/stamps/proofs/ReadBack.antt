@@ -1,7 +1,8 @@
--- What the writer of a line writes, the reader of lines reads back (RULES 13.12): the values, from the bytes of a line (`hull-read-back`,
--- `since-read-back`) and from the room that a call has written to (`hull-read-back-in-room`, `since-read-back-in-room`), which then holds
--- one good line. In order: texts without tab and newline; four such texts with tabs between; a line with its newline; the room; a line of a
--- hull; a line of a cut-off.
+-- What the writer of a line writes, the reader of lines reads back (RULES 13.12): from the bytes of a line (`hull-read-back`,
+-- `since-read-back`) and from the room that a call has written to (`hull-read-back-in-room`, `since-read-back-in-room`), which
+-- then holds one good line. The time comes back, and within the bounds that are read are the path and the key, or the text. In
+-- order: texts without tab and newline; four such texts with tabs between; a line with its newline; the room; the text between
+-- two places of a line; a line of a hull; a line of a cut-off.
 -- Assumes nothing.
 use mathlib.Core.Path.{_≡_, refl, sym, ap, _∙_}
 use mathlib.Core.Bool.{Bool, true, false, not, _&&_, false≢true}
@@ -258,8 +259,8 @@ part-sinceLine-text text current =
     (append-assoc (bytes "since" ++ tab ∷ text) seconds offset ∙ append-assoc (bytes "since" ++ tab ∷ []) text (seconds ++ offset))
     refl
 
--- the line of good values is read as a good line of that current time, whose cut-off is the time that the text means at it; and within its
--- bounds is the text
+-- the line of good values is read as a good line of that current time, whose cut-off is the time that the text means at it; and
+-- within its bounds is the text
 pub since-read-back : (bound : ℕ) (text : List ℕ) (current : Time) → isSince bound text current ≡ true
     → (lineOf bound (sinceLine text current) ≡ sinceAt text current (relativeOf bound text (CurrentAt current)))
     × (isGood (lineOf bound (sinceLine text current)) ≡ true)

@@ -1,5 +1,5 @@
--- The first line of a text as it is read, and a whole text. In order: a text that opens with a name and a tab; a line by its first field; the
--- first line of a text; a text that holds a newline is no line.
+-- The first line of a text as it is read, and a whole text. In order: a text that opens with a name and a tab; a line by its
+-- first field; the first line of a text; a text that holds a newline is no line.
 -- Assumes nothing.
 use mathlib.Core.Path.{_≡_, refl, sym, ap, _∙_, subst}
 use mathlib.Core.Bool.{Bool, true, false, false≢true}

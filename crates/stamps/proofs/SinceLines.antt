@@ -1,5 +1,5 @@
--- `since` lines as they are read, field by field, from a place of the text on. In order: a line with these numbers, which fit their widths
--- if the line is good; a line from its text on, from its current seconds on.
+-- `since` lines as they are read, field by field, from a place of the text on. In order: a line with these numbers, which fit
+-- their widths if the line is good; a line from its text on, from its current seconds on.
 -- Assumes nothing.
 use mathlib.Core.Path.{_≡_, refl, sym, ap, _∙_}
 use mathlib.Core.Bool.{true, false, not, _&&_, _||_, false≢true}

@@ -1,6 +1,7 @@
--- Writing what was read gives the same bytes. In order: the parts of a line from its fields; a `hull` line is the line that its values make,
--- and they are values that the writer takes (`hull-written-back`); the same of a `since` line (`since-written-back`); a good book is made
--- of its lines, each read and written again (`book-written-back`).
+-- Writing what was read gives the same bytes. In order: the parts of a line from its fields; a `hull` line is the line that its
+-- values make, and they are values that the writer takes (`hull-written-back`); the same of a `since` line
+-- (`since-written-back`); so the writer takes exactly the values that read back (`hull-written-iff`, `since-written-iff`); a good
+-- book is made of its lines, each read and written again (`book-written-back`).
 -- Assumes nothing.
 use mathlib.Core.Path.{_≡_, refl, sym, ap, _∙_}
 use mathlib.Core.Bool.{true, false, _&&_, false≢true}

@@ -43,8 +43,8 @@ unfoldable pub lastCutOff : ℕ → List (List ℕ) → Integer
 lastCutOff bound [] = Nothing
 lastCutOff bound (l ∷ ls) = orAbove (lastCutOff bound ls) (cutOffIn (lineOf bound l))
 
--- the line that is written from the values that were read from a line: nothing if these are values that the writer refuses. A bad line has
--- no values and gives nothing
+-- the line that is written from the values that were read from a line; nothing if the writer refuses them. A bad line has no
+-- values and gives nothing
 abbrev pub rewritten : ℕ → List ℕ → Line → List ℕ
 rewritten bound l (Hull h) = cond (isHull (part l (h .path)) (part l (h .key)) (h .time)) (hullLine (part l (h .path)) (part l (h .key)) (h .time)) []
 rewritten bound l (Since x) = cond (isSince bound (part l (x .text)) (x .current)) (sinceLine (part l (x .text)) (x .current)) []
