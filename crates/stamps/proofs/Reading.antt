@@ -1,5 +1,5 @@
--- The first line of a text as it is read, and a whole text. In order: a text that opens with a name and a tab; a line by its first field; the
--- first line of a text; a text that holds a newline is no line.
+-- The first line of a text as it is read, and a whole text. In order: a text that opens with a name and a tab; a line by its
+-- first field; the first line of a text; a text that holds a newline is no line.
 -- Assumes nothing.
 use mathlib.Core.Path.{_≡_, refl, sym, ap, _∙_, subst}
 use mathlib.Core.Bool.{Bool, true, false, false≢true}
@@ -114,7 +114,7 @@ lineOf-newline : (bound : ℕ) (s : List ℕ) → has newline s ≡ true → lin
 unfolding lineOf
 lineOf-newline bound s e = rw e
 
-bad-of-not-good : (l : Line) → isGood l ≡ false → l ≡ Bad
+pub bad-of-not-good : (l : Line) → isGood l ≡ false → l ≡ Bad
 bad-of-not-good (Hull h) e = absurd (false≢true (sym e))
 bad-of-not-good (Since x) e = absurd (false≢true (sym e))
 bad-of-not-good Bad e = refl

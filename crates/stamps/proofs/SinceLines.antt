@@ -1,5 +1,5 @@
--- `since` lines as they are read, field by field, from a place of the text on. In order: a line with these numbers, which fit their widths
--- if the line is good; a line from its text on, from its current seconds on.
+-- `since` lines as they are read, field by field, from a place of the text on. In order: a line with these numbers, which fit
+-- their widths if the line is good; a line from its text on, from its current seconds on.
 -- Assumes nothing.
 use mathlib.Core.Path.{_≡_, refl, sym, ap, _∙_}
 use mathlib.Core.Bool.{true, false, not, _&&_, _||_, false≢true}
@@ -43,21 +43,21 @@ use Rattle.stamps.specs.declared.line.Line.the-variants.{Bad}
 use Rattle.stamps.proofs.Fields.{field-nil, FieldEnds, field-ends-past, rest-nil-of-every, every-field, field-ends-numeral, rest-nil-of-numeral, firstPlace-of-numeral, numeral-last}
 
 -- ---- a line with these numbers
--- a text is read only at a current time in range
-isRead-from : (c : Time) (ps : List Pair) → timeInRange c ≡ false → isRead (from (CurrentAt c) ps) ≡ false
+-- no text is read at a current time out of range
+not-read-from : (c : Time) (ps : List Pair) → timeInRange c ≡ false → isRead (from (CurrentAt c) ps) ≡ false
 unfolding from
-isRead-from c ps e = rw e
+not-read-from c ps e = rw e
 
-isRead-of-timeInRange : (bound : ℕ) (s : List ℕ) (c : Time) → timeInRange c ≡ false → isRead (relativeOf bound s (CurrentAt c)) ≡ false
+pub not-read-of-not-timeInRange : (bound : ℕ) (s : List ℕ) (c : Time) → timeInRange c ≡ false → isRead (relativeOf bound s (CurrentAt c)) ≡ false
 unfolding relativeOf byPairs
-isRead-of-timeInRange bound s c e = by-test (ascii s) (λ a. rw a (named (namedOf s))) (λ a. rw a)
+not-read-of-not-timeInRange bound s c e = by-test (ascii s) (λ a. rw a (byName-not-read (namedOf s))) (λ a. rw a)
   where
-    named : (x : Number) → isRead (byName x bound s (CurrentAt c)) ≡ false
-    named (Value k) = isRead-from c _ e
-    named NoNumber =
+    byName-not-read : (x : Number) → isRead (byName x bound s (CurrentAt c)) ≡ false
+    byName-not-read (Value k) = not-read-from c _ e
+    byName-not-read NoNumber =
         let ps = pairsOf s in
         by-test (not (ltb 0 (length ps) && (known ps || agoIn s))) (λ a. rw a)
-        (λ a. rw a (by-test (not (leb (length ps) bound)) (λ b. rw b) (λ b. rw b (isRead-from c ps e))))
+        (λ a. rw a (by-test (not (leb (length ps) bound)) (λ b. rw b) (λ b. rw b (not-read-from c ps e))))
 
 sinceAt-of-not-read : (text : List ℕ) (c : Time) (a : Answer) → isRead a ≡ false → sinceAt text c a ≡ Bad
 sinceAt-of-not-read text c (Read t) e = absurd (false≢true (sym e))
@@ -96,7 +96,7 @@ module _ (bound : ℕ) (text : List ℕ) where
   sinceWith-fit (Is z) (Is o) =
       by-test (timeInRange (timeAt z o)) (λ e. let f = fits-of-timeInRange z o e in λ i. sinceWith bound text (f .0 i) (f .1 i))
       (λ e.
-      let b : sinceWith bound text (Is z) (Is o) ≡ Bad = sinceAt-of-not-read text (timeAt z o) (relativeOf bound text (CurrentAt (timeAt z o))) (isRead-of-timeInRange bound text (timeAt z o) e) in
+      let b : sinceWith bound text (Is z) (Is o) ≡ Bad = sinceAt-of-not-read text (timeAt z o) (relativeOf bound text (CurrentAt (timeAt z o))) (not-read-of-not-timeInRange bound text (timeAt z o) e) in
       fitSigned-of-either (2 ^ 63) z (λ x. sinceWith bound text x (fitSigned (2 ^ 31) (Is o)) ≡ Bad)
       (fitSigned-of-either (2 ^ 31) o (λ y. sinceWith bound text (Is z) y ≡ Bad) b refl)
       refl

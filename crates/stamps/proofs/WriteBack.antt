@@ -1,9 +1,11 @@
--- Writing what was read gives the same bytes. In order: the parts of a line from its fields; a `hull` line is the line that its values make,
--- and they are values that the writer takes (`hull-written-back`); the same of a `since` line (`since-written-back`); a good book is made
--- of its lines, each read and written again (`book-written-back`).
+-- Writing what was read gives the same bytes. In order: the parts of a line from its fields; a `hull` line is the line that its
+-- values make, and they are values that the writer takes (`hull-written-back`); the same of a `since` line
+-- (`since-written-back`); so the writer takes exactly the values that read back (`hull-written-iff`, `since-written-iff`); a good
+-- book is made of its lines, each read and written again (`book-written-back`).
 -- Assumes nothing.
 use mathlib.Core.Path.{_≡_, refl, sym, ap, _∙_}
 use mathlib.Core.Bool.{true, false, _&&_, false≢true}
+use mathlib.Core.Logic.{_↔_}
 use mathlib.Core.List.{List, [], _∷_, _++_, append-assoc, append-nil}
 use Prim.Native.Nat.{ℕ, zero, suc, _+_, _-_, _<_}
 use native.Mathlib.Omega.{arith}
@@ -29,6 +31,7 @@ use Rattle.time.specs.declared.Time.{Time}
 use Rattle.time.specs.declared.Now.the-variants.{At as CurrentAt}
 use Rattle.time.specs.declared.Answer.{Answer}
 use Rattle.time.specs.declared.Answer.the-variants.{Time as Read, Refused as NotRead}
+use Rattle.header.specs.Theorems.{Seconds64}
 use Rattle.relative.specs.Relative.{relativeOf}
 use Rattle.time.proofs.Headers.{length-headerBytes}
 use Rattle.stamps.specs.Stamps.{printed, isWholeMinutes, stampOf}
@@ -51,6 +54,7 @@ use Rattle.stamps.proofs.Fields.{firstPlace-le-length, length-before, h
 use Rattle.stamps.proofs.HullLines.{sizeOf-pos, parts-of-isKey}
 use Rattle.stamps.proofs.Books.{joined-endedLines}
 use Rattle.stamps.proofs.Listings.{good-book-iff}
+use Rattle.stamps.proofs.ReadBack.{part-hullLine-path, part-hullLine-key, hull-read-back, part-sinceLine-text, since-read-back}
 
 -- ---- the fields of a line as parts of it
 -- the field that begins at n, and what follows it
@@ -94,24 +98,24 @@ module _ {A : Type 0} (bound : ℕ) (l : List ℕ) (x : Line) (g : isGood x ≡ 
 -- `hull` gives no `since` line, and `since` no `hull` line
 hull-is-not-since : (path key time : List ℕ) → isSinceLine (hullOf path key time) ≡ false
 unfolding hullOf
-hull-is-not-since path key time = by-test (isPath path && isKey key) (λ e. rw e (told (stampOf time))) (λ e. rw e)
+hull-is-not-since path key time = by-test (isPath path && isKey key) (λ e. rw e (hullAt-is-not-since (stampOf time))) (λ e. rw e)
   where
-    told : (x : Stamp) → isSinceLine (hullAt path key x) ≡ false
-    told (At t) = refl
-    told NoStamp = refl
+    hullAt-is-not-since : (x : Stamp) → isSinceLine (hullAt path key x) ≡ false
+    hullAt-is-not-since (At t) = refl
+    hullAt-is-not-since NoStamp = refl
 
 since-is-not-hull : (bound : ℕ) (text seconds offset : List ℕ) → isHullLine (sinceOf bound text seconds offset) ≡ false
 unfolding sinceOf
-since-is-not-hull bound text seconds offset = told (printed seconds) (printed offset)
+since-is-not-hull bound text seconds offset = sinceWith-is-not-hull (printed seconds) (printed offset)
   where
-    answered : (c : Time) (a : Answer) → isHullLine (sinceAt text c a) ≡ false
-    answered c (Read t) = refl
-    answered c (NotRead r) = refl
+    sinceAt-is-not-hull : (c : Time) (a : Answer) → isHullLine (sinceAt text c a) ≡ false
+    sinceAt-is-not-hull c (Read t) = refl
+    sinceAt-is-not-hull c (NotRead r) = refl
 
-    told : (z o : Integer) → isHullLine (sinceWith bound text z o) ≡ false
-    told (Is z) (Is o) = answered (timeAt z o) (relativeOf bound text (CurrentAt (timeAt z o)))
-    told (Is z) NoInteger = refl
-    told NoInteger o = refl
+    sinceWith-is-not-hull : (z o : Integer) → isHullLine (sinceWith bound text z o) ≡ false
+    sinceWith-is-not-hull (Is z) (Is o) = sinceAt-is-not-hull (timeAt z o) (relativeOf bound text (CurrentAt (timeAt z o)))
+    sinceWith-is-not-hull (Is z) NoInteger = refl
+    sinceWith-is-not-hull NoInteger o = refl
 
 -- a `hull` line
 record HullFields (path key time : List ℕ) (h : HullValue) : Type 0 where
@@ -121,18 +125,18 @@ record HullFields (path key time : List ℕ) (h : HullValue) : Type 0 where
   path-at : h .path ≡ spanAt 5 path
   key-at : h .key ≡ spanAt (5 + length path + 1) key
 
-hull-fields : (path key time : List ℕ) (h : HullValue) → hullOf path key time ≡ Hull h → HullFields path key time h
+HullFields-of-hullOf : (path key time : List ℕ) (h : HullValue) → hullOf path key time ≡ Hull h → HullFields path key time h
 unfolding hullOf
-hull-fields path key time h e =
+HullFields-of-hullOf path key time h e =
     by-test (isPath path && isKey key)
-    (λ y. let p = both (isPath path) (isKey key) y in told (p .0) (p .1) (stampOf time) refl (rw y at e))
+    (λ y. let p = both (isPath path) (isKey key) y in HullFields-of-hullAt (p .0) (p .1) (stampOf time) refl (rw y at e))
     (λ y. let n : Bad ≡ Hull h = rw y at e in let z : _≡_ {A = ℕ} 0 1 = cc in absurd (omega arith))
   where
-    told : isPath path ≡ true → isKey key ≡ true → (x : Stamp) → stampOf time ≡ x → hullAt path key x ≡ Hull h → HullFields path key time h
-    told p k (At t) ex eh =
+    HullFields-of-hullAt : isPath path ≡ true → isKey key ≡ true → (x : Stamp) → stampOf time ≡ x → hullAt path key x ≡ Hull h → HullFields path key time h
+    HullFields-of-hullAt p k (At t) ex eh =
         let w : record { path = spanAt 5 path; key = spanAt (5 + length path + 1) key; time = t } ≡ h = cc in
         record { path-is = p; key-is = k; time-is = ex ∙ ap (λ (v : HullValue). At (v .time)) w; path-at = sym (ap (λ (v : HullValue). v .path) w); key-at = sym (ap (λ (v : HullValue). v .key) w) }
-    told p k NoStamp ex eh = let z : _≡_ {A = ℕ} 0 1 = cc in absurd (omega arith)
+    HullFields-of-hullAt p k NoStamp ex eh = let z : _≡_ {A = ℕ} 0 1 = cc in absurd (omega arith)
 
 -- a `since` line
 record SinceFields (bound : ℕ) (text seconds offset : List ℕ) (x : SinceValue) : Type 0 where
@@ -141,13 +145,13 @@ record SinceFields (bound : ℕ) (text seconds offset : List ℕ) (x : SinceValu
   text-is : relativeOf bound text (CurrentAt (x .current)) ≡ Read (x .«cut_off»)
   text-at : x .text ≡ spanAt 6 text
 
-since-fields : (bound : ℕ) (text seconds offset : List ℕ) (x : SinceValue) → sinceOf bound text seconds offset ≡ Since x → SinceFields bound text seconds offset x
+SinceFields-of-sinceOf : (bound : ℕ) (text seconds offset : List ℕ) (x : SinceValue) → sinceOf bound text seconds offset ≡ Since x → SinceFields bound text seconds offset x
 unfolding sinceOf
-since-fields bound text seconds offset x e = told (printed seconds) (printed offset) refl refl e
+SinceFields-of-sinceOf bound text seconds offset x e = SinceFields-of-sinceWith (printed seconds) (printed offset) refl refl e
   where
-    answered : (c : Time) → printed seconds ≡ Is (c .seconds) → printed offset ≡ Is (c .offset)
+    SinceFields-of-sinceAt : (c : Time) → printed seconds ≡ Is (c .seconds) → printed offset ≡ Is (c .offset)
         → (a : Answer) → relativeOf bound text (CurrentAt c) ≡ a → sinceAt text c a ≡ Since x → SinceFields bound text seconds offset x
-    answered c es eo (Read t) ea ex =
+    SinceFields-of-sinceAt c es eo (Read t) ea ex =
         let w : record { text = spanAt 6 text; current = c; «cut_off» = t } ≡ x = cc in
         record {
           seconds-are = es ∙ ap (λ (v : SinceValue). Is (v .current .seconds)) w;
@@ -155,12 +159,12 @@ since-fields bound text seconds offset x e = told (printed seconds) (printed off
           text-is = ap (λ (v : SinceValue). relativeOf bound text (CurrentAt (v .current))) (sym w) ∙ ea ∙ ap (λ (v : SinceValue). Read (v .«cut_off»)) w;
           text-at = sym (ap (λ (v : SinceValue). v .text) w);
         }
-    answered c es eo (NotRead r) ea ex = let z : _≡_ {A = ℕ} 0 1 = cc in absurd (omega arith)
+    SinceFields-of-sinceAt c es eo (NotRead r) ea ex = let z : _≡_ {A = ℕ} 0 1 = cc in absurd (omega arith)
 
-    told : (z o : Integer) → printed seconds ≡ z → printed offset ≡ o → sinceWith bound text z o ≡ Since x → SinceFields bound text seconds offset x
-    told (Is z) (Is o) ez eo ex = answered (timeAt z o) ez eo (relativeOf bound text (CurrentAt (timeAt z o))) refl ex
-    told (Is z) NoInteger ez eo ex = let n : _≡_ {A = ℕ} 0 1 = cc in absurd (omega arith)
-    told NoInteger o ez eo ex = let n : _≡_ {A = ℕ} 0 1 = cc in absurd (omega arith)
+    SinceFields-of-sinceWith : (z o : Integer) → printed seconds ≡ z → printed offset ≡ o → sinceWith bound text z o ≡ Since x → SinceFields bound text seconds offset x
+    SinceFields-of-sinceWith (Is z) (Is o) ez eo ex = SinceFields-of-sinceAt (timeAt z o) ez eo (relativeOf bound text (CurrentAt (timeAt z o))) refl ex
+    SinceFields-of-sinceWith (Is z) NoInteger ez eo ex = let n : _≡_ {A = ℕ} 0 1 = cc in absurd (omega arith)
+    SinceFields-of-sinceWith NoInteger o ez eo ex = let n : _≡_ {A = ℕ} 0 1 = cc in absurd (omega arith)
 
 -- ---- a line is what is written for its values
 three-tabs : (a b c d : List ℕ) → a ++ tab ∷ b ++ tab ∷ c ++ tab ∷ d ≡ a ++ tab ∷ (b ++ tab ∷ (c ++ tab ∷ d))
@@ -193,7 +197,7 @@ hull-back l h n e =
     let path = field (rest l) in
     let key = field (rest (rest l)) in
     let time = rest (rest (rest l)) in
-    let f = hull-fields path key time h e in
+    let f = HullFields-of-hullOf path key time h e in
     let b : time ≡ headerBytes (h .time) = stampOf-bytes time (h .time) (f .time-is) in
     let g = stampOf-good time (h .time) (f .time-is) in
     let d : drop 5 l ≡ rest l = ap (λ (t : List ℕ). drop (0 + length t + 1) l) (sym n) ∙ drop-rest l l 0 refl in
@@ -214,7 +218,7 @@ since-back bound l x free n e =
     let text = field (rest l) in
     let seconds = field (rest (rest l)) in
     let offset = rest (rest (rest l)) in
-    let f = since-fields bound text seconds offset x e in
+    let f = SinceFields-of-sinceOf bound text seconds offset x e in
     let s : seconds ≡ signed (x .current .seconds) = printed-bytes seconds (x .current .seconds) (f .seconds-are) in
     let o : offset ≡ signed (x .current .offset) = printed-bytes offset (x .current .offset) (f .offset-is) in
     let d : drop 6 l ≡ rest l = ap (λ (t : List ℕ). drop (0 + length t + 1) l) (sym n) ∙ drop-rest l l 0 refl in
@@ -237,13 +241,33 @@ pub since-written-back : (bound : ℕ) (l : List ℕ) (x : SinceValue) → lineO
 since-written-back bound l x e =
     lineOf-good bound l (Since x) refl e (λ n m k. absurd (false≢true (sym (hull-is-not-since _ _ _) ∙ ap isSinceLine k))) (λ n m k. since-back bound l x n m k)
 
-pub line-written-back : (bound : ℕ) (l : List ℕ) → isGood (lineOf bound l) ≡ true → rewritten l (lineOf bound l) ≡ l
-line-written-back bound l g = told (lineOf bound l) refl g
+-- so the writer takes exactly the values that read back
+pub hull-written-iff : (bound : ℕ) (path key : List ℕ) (t : Time) → Seconds64 (t .seconds)
+    → (isHull path key t ≡ true) ↔ (lineOf bound (hullLine path key t) ≡ hullAt path key (At t))
+hull-written-iff bound path key t r = (
+  λ e. hull-read-back bound path key t e r .0,
+  λ e. sym (λ i. isHull (part-hullLine-path path key t i) (part-hullLine-key path key t i) t) ∙ hull-written-back bound (hullLine path key t) _ e .1,
+)
+
+pub since-written-iff : (bound : ℕ) (text : List ℕ) (current : Time)
+    → (isSince bound text current ≡ true)
+    ↔ ((lineOf bound (sinceLine text current) ≡ sinceAt text current (relativeOf bound text (CurrentAt current))) × (isGood (lineOf bound (sinceLine text current)) ≡ true))
+since-written-iff bound text current = (
+  λ e. let back = since-read-back bound text current e in (back .0, back .1),
+  λ e. isSince-of-answer (relativeOf bound text (CurrentAt current)) (e .0) (e .1),
+)
   where
-    told : (x : Line) → lineOf bound l ≡ x → isGood x ≡ true → rewritten l x ≡ l
-    told (Hull h) e y = sym (hull-written-back bound l h e .0)
-    told (Since x) e y = sym (since-written-back bound l x e .0)
-    told Bad e y = absurd (false≢true y)
+    isSince-of-answer : (a : Answer) → lineOf bound (sinceLine text current) ≡ sinceAt text current a → isGood (lineOf bound (sinceLine text current)) ≡ true → isSince bound text current ≡ true
+    isSince-of-answer (Read t) e g = sym (ap (λ (s : List ℕ). isSince bound s current) (part-sinceLine-text text current)) ∙ since-written-back bound (sinceLine text current) _ e .1
+    isSince-of-answer (NotRead r) e g = not-good (lineOf bound (sinceLine text current)) g e
+
+pub line-written-back : (bound : ℕ) (l : List ℕ) → isGood (lineOf bound l) ≡ true → rewritten bound l (lineOf bound l) ≡ l
+line-written-back bound l g = rewritten-of-good (lineOf bound l) refl g
+  where
+    rewritten-of-good : (x : Line) → lineOf bound l ≡ x → isGood x ≡ true → rewritten bound l x ≡ l
+    rewritten-of-good (Hull h) e y = let k = hull-written-back bound l h e in rw (k .1) (sym (k .0))
+    rewritten-of-good (Since x) e y = let k = since-written-back bound l x e in rw (k .1) (sym (k .0))
+    rewritten-of-good Bad e y = absurd (false≢true y)
 
 lines-written-back : (bound : ℕ) (ls : List (List ℕ)) → areGood (judged bound ls) ≡ true → rewrittenLines bound ls ≡ ls
 unfolding areGood judged rewrittenLines

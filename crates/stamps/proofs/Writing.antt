@@ -1,6 +1,6 @@
--- Values that make a good line, and the line that they make. In order: bytes that are all of one class; a path, a key, and the text of a
--- `since` line, tested by a scan; what the tests say of a hull; how many bytes a line has with its newline; the three answers of a
--- call that writes it.
+-- Values that make a good line, and the line that they make. In order: bytes that are all of one class; a path, a key, and the
+-- text of a `since` line, tested by a scan; what the tests say of a hull; how many bytes a line has with its newline; the three
+-- answers of a call that writes it.
 -- Assumes nothing.
 use mathlib.Core.Path.{_≡_, sym, ap, _∙_}
 use mathlib.Core.Bool.{Bool, true, false, not, _&&_, false≢true, and-true, and-false}

@@ -7,7 +7,7 @@ use Rattle.text.specs.declared.number.Integer.{Integer}
 use Rattle.text.specs.declared.number.Integer.the-variants.{Nothing}
 use Rattle.text.specs.Places.{part}
 use Rattle.stamps.specs.Lines.{lineOf, isGood}
-use Rattle.stamps.specs.Writing.{hullLine, sinceLine}
+use Rattle.stamps.specs.Writing.{hullLine, sinceLine, isHull, isSince}
 use Rattle.stamps.specs.Listing.{cutOffIn, orAbove}
 use Rattle.stamps.specs.declared.line.Line.{Line}
 use Rattle.stamps.specs.declared.line.Line.the-variants.{Hull, Since, Bad}
@@ -43,13 +43,14 @@ unfoldable pub lastCutOff : ℕ → List (List ℕ) → Integer
 lastCutOff bound [] = Nothing
 lastCutOff bound (l ∷ ls) = orAbove (lastCutOff bound ls) (cutOffIn (lineOf bound l))
 
--- a line written from the values that were read from it. A bad line has no values and gives nothing
-abbrev pub rewritten : List ℕ → Line → List ℕ
-rewritten l (Hull h) = hullLine (part l (h .path)) (part l (h .key)) (h .time)
-rewritten l (Since x) = sinceLine (part l (x .text)) (x .current)
-rewritten l Bad = []
+-- the line that is written from the values that were read from a line; nothing if the writer refuses them. A bad line has no
+-- values and gives nothing
+abbrev pub rewritten : ℕ → List ℕ → Line → List ℕ
+rewritten bound l (Hull h) = cond (isHull (part l (h .path)) (part l (h .key)) (h .time)) (hullLine (part l (h .path)) (part l (h .key)) (h .time)) []
+rewritten bound l (Since x) = cond (isSince bound (part l (x .text)) (x .current)) (sinceLine (part l (x .text)) (x .current)) []
+rewritten bound l Bad = []
 
 -- these lines, each read and written again
 unfoldable pub rewrittenLines : ℕ → List (List ℕ) → List (List ℕ)
 rewrittenLines bound [] = []
-rewrittenLines bound (l ∷ ls) = rewritten l (lineOf bound l) ∷ rewrittenLines bound ls
+rewrittenLines bound (l ∷ ls) = rewritten bound l (lineOf bound l) ∷ rewrittenLines bound ls
