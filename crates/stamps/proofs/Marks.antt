@@ -39,7 +39,7 @@ use Rattle.stamps.specs.declared.book.Listed.the-variants.{Length, Refus
 use Rattle.stamps.proofs.Books.{takenBy-le, good-book, behind, firstPlace-lt, endedLines-first, left-first, endedLines-open, left-open, endedLines-nil}
 
 -- ---- the marks of lines pick those that are listed
-picked-marksOf : (bound : ℕ) (c : Integer) (ls : List (List ℕ)) (more : List ℕ) → picked (marksOf bound c ls ++ more) ls ≡ listed bound c ls
+pub picked-marksOf : (bound : ℕ) (c : Integer) (ls : List (List ℕ)) (more : List ℕ) → picked (marksOf bound c ls ++ more) ls ≡ listed bound c ls
 unfolding marksOf picked listed
 picked-marksOf bound c [] [] = refl
 picked-marksOf bound c [] (m ∷ more) = refl
