@@ -15,7 +15,7 @@ ghost use Rattle.text.specs.Lines.{endedLines, left};
 ghost use Rattle.text.specs.Room.{roomAfter};
 ghost use Rattle.text.specs.declared.number.Integer.the-variants.{Nothing};
 ghost use Rattle.stamps.specs.Book.{maxBook, linesIn, firstBad, checkOf};
-ghost use Rattle.stamps.specs.Listing.{isAfter, orAbove, joined, listing, listOf, isWritten};
+ghost use Rattle.stamps.specs.Listing.{isAtOrAfter, orAbove, joined, listing, listOf, isWritten};
 ghost use Rattle.stamps.specs.Held.{NextLine, markOf, marksOf, picked, badNumber};
 use crate::line;
 use crate::line::Line;
@@ -167,7 +167,7 @@ fn next_line(months: &[u32], s: &[u8], cut_off: Integer) -> Next
             let time = hull.time;
             Next {
                 size: size_with_newline(s, size),
-                listed: is_after(cut_off, time.seconds),
+                listed: is_at_or_after(cut_off, time.seconds),
                 cut_off: Integer::Nothing,
             }
         }
@@ -208,8 +208,8 @@ fn or_above(own: Integer, above: Integer) -> Integer
 }
 
 // Whether seconds are at or after a cut-off. Without a cut-off all are.
-fn is_after(cut_off: Integer, seconds: i64) -> bool
-    ensures { λ r. ⌜ r ≡ isAfter «cut_off» seconds ⌝ }
+fn is_at_or_after(cut_off: Integer, seconds: i64) -> bool
+    ensures { λ r. ⌜ r ≡ isAtOrAfter «cut_off» seconds ⌝ }
 {
     match cut_off {
         Integer::Is(c) => c <= seconds,
