@@ -2,7 +2,7 @@
 -- line from its path on, from its key on, from its time on.
 -- Assumes nothing.
 use mathlib.Core.Path.{_≡_, refl, sym, ap, _∙_}
-use mathlib.Core.Bool.{Bool, true, false, _&&_, _||_, false≢true, and-false}
+use mathlib.Core.Bool.{true, false, _&&_, _||_, false≢true, and-false}
 use mathlib.Core.List.{List, []}
 use Prim.Native.Nat.{ℕ, _+_, _-_, _≤_, _<_}
 use native.Mathlib.Omega.{arith}
@@ -25,10 +25,6 @@ use Rattle.stamps.specs.declared.stamp.Stamp.the-variants.{At, Nothing a
 use Rattle.stamps.specs.declared.line.Line.the-variants.{Hull, Bad}
 use Rattle.stamps.proofs.Stamps.{stampOf-bytes}
 use Rattle.stamps.proofs.Fields.{length-before, field-nil, isTextByte-of-isPathByte, isTextByte-of-isHexDigit, FieldEnds, field-ends-past, every-cut, length-cut, past-of-every, rest-nil-of-every}
-
-neither : (a b : Bool) → (a || b) ≡ false → (a ≡ false) × (b ≡ false)
-neither true b e = absurd (false≢true (sym e))
-neither false b e = (refl, e)
 
 -- ---- a path and a key
 isPath-of-parts : (s : List ℕ) → 0 < length s → length s ≤ 255 → every isPathByte s ≡ true → isPath s ≡ true
@@ -114,10 +110,10 @@ module _ (s : List ℕ) (e : ℕ) (ee : e ≡ past isPathByte s 5) where
 
     pub isPath-cut : (eqb (e - 5) 0 || ltb 255 (e - 5)) ≡ false → isPath (cut s 5 e) ≡ true
     isPath-cut h =
-        let p = neither (eqb (e - 5) 0) (ltb 255 (e - 5)) h in
         let l : 5 + length (cut s 5 e) ≡ e = rw ee (length-cut s 5 isPathByte isTextByte-of-isPathByte) in
         let q : every isPathByte (cut s 5 e) ≡ true = rw ee (every-cut s 5 isPathByte isTextByte-of-isPathByte) in
-        isPath-of-parts (cut s 5 e) (omega (arith, eqb-false (e - 5) 0 (p .0))) (omega (arith, ltb-false 255 (e - 5) (p .1))) q
+        by-test (eqb (e - 5) 0) (λ y. absurd (false≢true (sym (rw y at h))))
+        (λ n. isPath-of-parts (cut s 5 e) (omega (arith, eqb-false (e - 5) 0 n)) (omega (arith, ltb-false 255 (e - 5) (rw n at h))) q)
 
 -- from its key on, which begins at k and ends at e
 module _ (s : List ℕ) (k e : ℕ) (ee : e ≡ past isHexDigit s k) where
