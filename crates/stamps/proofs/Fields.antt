@@ -22,7 +22,7 @@ use Rattle.text.proofs.FirstPlaces.{Free}
 use Rattle.text.proofs.Texts.{not-has-cons}
 use Rattle.text.proofs.Numbers.{digit-range, numeral-le-run, numeral-leading}
 use Rattle.stamps.specs.Lines.{every, isPathByte, isHexDigit, isGood}
-use Rattle.stamps.specs.Held.{isTextByte, endsHere, cut, leftAt, EndsLine}
+use Rattle.stamps.specs.Held.{isTextByte, endsHere, partFrom, leftAt, EndsLine}
 use Rattle.stamps.specs.declared.line.Line.{Line}
 use Rattle.stamps.specs.declared.line.Line.the-variants.{Bad}
 use Rattle.stamps.specs.declared.line.First.{First}
@@ -182,7 +182,7 @@ run-of-tab q out n s h o = omega (arith, run-drop q n s h, none (drop n s) o)
 
 -- the field from `at` on ends with the tab at e
 pub record FieldEnds (s : List ℕ) (at e : ℕ) : Type 0 where
-  pub field-is : field (leftAt s at) ≡ cut s at e
+  pub field-is : field (leftAt s at) ≡ partFrom s at e
   pub rest-is : rest (leftAt s at) ≡ leftAt s (e + 1)
   pub line-is : at + firstPlace newline (drop at s) ≡ e + 1 + firstPlace newline (drop (e + 1) s)
 
@@ -215,15 +215,15 @@ module _ (s : List ℕ) (at : ℕ) where
     unfolding past
     field-ends-past t = field-ends (run p (drop at s)) (run-le-run p isTextByte inside (drop at s)) t
 
-    cut-past : cut s at (past p s at) ≡ leading p (drop at s)
+    partFrom-past : partFrom s at (past p s at) ≡ leading p (drop at s)
     unfolding past
-    cut-past = let k : at + run p (drop at s) - at ≡ run p (drop at s) = omega arith in rw k
+    partFrom-past = let k : at + run p (drop at s) - at ≡ run p (drop at s) = omega arith in rw k
 
-    pub every-cut : every p (cut s at (past p s at)) ≡ true
-    every-cut = ap (every p) cut-past ∙ every-leading p (drop at s)
+    pub every-partFrom : every p (partFrom s at (past p s at)) ≡ true
+    every-partFrom = ap (every p) partFrom-past ∙ every-leading p (drop at s)
 
-    pub length-cut : at + length (cut s at (past p s at)) ≡ past p s at
-    length-cut = ap (λ (v : List ℕ). at + length v) cut-past ∙ length-leading p s at
+    pub length-partFrom : at + length (partFrom s at (past p s at)) ≡ past p s at
+    length-partFrom = ap (λ (v : List ℕ). at + length v) partFrom-past ∙ length-leading p s at
 
     -- if the field is of such bytes alone, the bytes of the class are the field
     run-of-every-field : every p (field (leftAt s at)) ≡ true → run p (drop at s) ≡ run isTextByte (drop at s)

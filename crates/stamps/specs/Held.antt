@@ -2,7 +2,7 @@
 -- that a scan passes; a number, and the tail of a stamp, at the front of a longer text; the first line of a text; a line from one of its
 -- places on; the marks of the lines that are listed; a room in which bytes are put.
 -- Assumes nothing.
-use Prim.Native.Nat.{ℕ, _+_, _-_, _*_}
+use Prim.Native.Nat.{ℕ, _+_, _*_}
 use Prim.Native.Char.{code}
 use mathlib.Core.Path.{_≡_}
 use mathlib.Core.Bool.{Bool, true, cond, not, _&&_}
@@ -13,7 +13,7 @@ use lib.ListN.{length, take, drop, getD}
 use Rattle.text.specs.Bytes.{isDigit, isSign}
 use Rattle.text.specs.Number.{fitSigned, numeral}
 use Rattle.text.specs.Decimal.{signed}
-use Rattle.text.specs.Places.{before, firstPlace, has}
+use Rattle.text.specs.Places.{before, firstPlace, has, part}
 use Rattle.text.specs.Lines.{tab, newline, field, rest}
 use Rattle.text.specs.declared.number.Integer.{Integer}
 use Rattle.text.specs.declared.number.Integer.the-variants.{Is, Nothing as NoInteger}
@@ -94,8 +94,8 @@ pub record NextLine (bound : ℕ) (s : List ℕ) (c : Integer) (r : Next) : Type
 
 -- ---- a line from one of its places on
 -- the bytes of s from one place to another
-abbrev pub cut : List ℕ → ℕ → ℕ → List ℕ
-cut s start end = take (end - start) (drop start s)
+abbrev pub partFrom : List ℕ → ℕ → ℕ → List ℕ
+partFrom s start end = part s (record { start = start; end = end })
 
 -- what is left at the place `at` of the line that goes on there
 abbrev pub leftAt : List ℕ → ℕ → List ℕ
