@@ -27,8 +27,11 @@ use time::Refusal;
 // The most bytes that a book has.
 pub const MAX_BOOK: usize = 65536;
 
-// Marks for the lines of a good book: each has at least 10 bytes and its newline.
-const MARKS: usize = 5957;
+// The fewest bytes that a good line takes: 10 and its newline.
+const LEAST_LINE: usize = 11;
+
+// The most lines of a good book, each of which has a mark: 65,536 / 11.
+const MARKS: usize = MAX_BOOK / LEAST_LINE;
 
 // What a check returns: a refusal has its reason and the number, from 1, of the first bad line, or 0
 // if the book is too long.

@@ -1,4 +1,4 @@
-// A line of a book, judged alone (RULES 13.2 to 13.7): a hull with its path, its key and its time, a
+// A line of a book, judged alone (RULES 13.2 to 13.7): a hull with a path, a key and a time, a
 // cut-off, or a bad line. A field is scanned once, up to its end, and nothing is copied: a path, a key
 // or a text is answered as its bounds in the line, for `text::words::within`.
 ghost use mathlib.Core.Path.{_≡_};
@@ -35,7 +35,7 @@ pub(crate) const MAX_PATH: usize = 255;
 
 pub(crate) const KEY: usize = 16;
 
-// A hull: where its path and its key are in the line, and the time of its last commit.
+// A hull: where its path and its key are in the line, and its time.
 pub struct Hull {
     pub path: Span,
     pub key: Span,
