@@ -1,5 +1,5 @@
--- `hull` lines as they are read, field by field, from a place of the text on. In order: what a path and a key are; a line by its fields; a
--- line from its path on, from its key on, from its time on.
+-- `hull` lines as they are read, field by field, from a place of the text on. In order: what a path and a key are; a line by its
+-- fields; a line from its path on, from its key on, from its time on.
 -- Assumes nothing.
 use mathlib.Core.Path.{_≡_, refl, sym, ap, _∙_}
 use mathlib.Core.Bool.{true, false, _&&_, _||_, false≢true, and-false}

@@ -1,9 +1,10 @@
--- What a caller can say of books and listings. In order: a line is listed exactly if it is a `hull` line whose seconds are at or after the
--- last cut-off above it (`listed-exactly-if`); listed lines are lines of the book, in its order (`listed-lines-in-order`), and all of them
--- `hull` lines (`listed-lines-are-hulls`); `no-since-lists-all-hulls`; which books are good (`good-book-iff`), at which line a book is
--- refused (`refused-at-line-iff`, `refused-too-long-iff`), and that a line is good by itself exactly if it is good in a book
--- (`good-alone-iff-good-in-a-book`); the lines of a listing are the listed lines (`endedLines-listing`); the listing of a good book is a
--- good book (`listing-is-a-good-book`) that lists itself (`listing-lists-itself`).
+-- What a caller can say of books and listings. In order: a line is listed exactly if it is a `hull` line whose seconds are at or
+-- after the last cut-off above it (`listed-exactly-if`); listed lines are lines of the book, in its order
+-- (`listed-lines-in-order`), and all of them `hull` lines (`listed-lines-are-hulls`); `no-since-lists-all-hulls`; which books are
+-- good (`good-book-iff`), at which line a book is refused (`refused-at-line-iff`, `refused-too-long-iff`), and that a line is
+-- good by itself exactly if it is good in a book (`good-alone-iff-good-in-a-book`); the lines of a listing are the listed lines
+-- (`endedLines-listing`); the listing of a good book is a good book (`listing-is-a-good-book`) that lists itself
+-- (`listing-lists-itself`).
 -- Assumes nothing.
 use mathlib.Core.Path.{_≡_, refl, sym, ap, _∙_}
 use mathlib.Core.Bool.{true, false, cond, false≢true, and-true}

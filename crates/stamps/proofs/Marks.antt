@@ -1,6 +1,6 @@
--- Marks of lines. In order: the marks of lines pick those that are listed; a good line has at least 10 bytes, so that the marks of a good
--- book have their places; marked lines that are copied one after the other, from the start, by one line more, and to the end; what a call
--- that lists a book returns.
+-- Marks of lines. In order: the marks of lines pick those that are listed; a good line has at least 10 bytes, so that the marks
+-- of a good book have their places; marked lines that are copied one after the other, from the start, by one line more, and to
+-- the end; what a call that lists a book returns.
 -- Assumes nothing.
 use mathlib.Core.Path.{_≡_, refl, sym, ap, _∙_}
 use mathlib.Core.Bool.{Bool, true, cond, _&&_, false≢true}

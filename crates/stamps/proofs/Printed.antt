@@ -1,6 +1,6 @@
--- Numbers as the header writer prints them (RULES 13.6). In order: texts that are the same; digits of the same value; a text that is as
--- long as the plain decimal of its number is that decimal, so that only lengths are compared; the same at the front of a longer text; what is
--- printed is read, and nothing else.
+-- Numbers as the header writer prints them (RULES 13.6). In order: texts that are the same; digits of the same value; a text that
+-- is as long as the plain decimal of its number is that decimal, so that only lengths are compared; the same at the front of a
+-- longer text; what is printed is read, and nothing else.
 -- Assumes nothing.
 use mathlib.Core.Path.{_≡_, refl, sym, ap, _∙_}
 use mathlib.Core.Bool.{true, _&&_}

@@ -1,5 +1,5 @@
--- Stamps (RULES 13.5). In order: what a stamp says about its text; the seconds and the offset of a stamp; what the header writer writes at
--- an offset of whole minutes is a stamp; so the stamps are exactly those texts.
+-- Stamps (RULES 13.5). In order: what a stamp says about its text; the seconds and the offset of a stamp; what the header writer
+-- writes at an offset of whole minutes is a stamp; so the stamps are exactly those texts.
 -- Assumes nothing.
 use mathlib.Core.Path.{_≡_, refl, sym, ap, _∙_}
 use mathlib.Core.Bool.{true, false, _&&_, false≢true, or-true}

@@ -1,5 +1,5 @@
--- The tail of a stamp, which is what follows its seconds (RULES 13.5). In order: its tests at a place of a text; a text that is too short;
--- the tail that is written for an offset has that offset; a tail with an offset is the one that is written for it.
+-- The tail of a stamp, which is what follows its seconds (RULES 13.5). In order: its tests at a place of a text; a text that is
+-- too short; the tail that is written for an offset has that offset; a tail with an offset is the one that is written for it.
 -- Assumes nothing.
 use mathlib.Core.Path.{_≡_, refl, sym, ap, _∙_}
 use mathlib.Core.Bool.{Bool, true, false, _&&_, and-false, or-false}

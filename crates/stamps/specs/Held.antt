@@ -1,6 +1,6 @@
--- What the code holds on the way to an answer. Nothing here is needed to read what the public calls ensure. In order: the classes of bytes
--- that a scan passes; a number, and the tail of a stamp, at the front of a longer text; the first line of a text; a line from one of its
--- places on; the marks of the lines that are listed; a room in which bytes are put.
+-- What the code holds on the way to an answer. Nothing here is needed to read what the public calls ensure. In order: the classes
+-- of bytes that a scan passes; a number, and the tail of a stamp, at the front of a longer text; the first line of a text; a line
+-- from one of its places on; the marks of the lines that are listed; a room in which bytes are put.
 -- Assumes nothing.
 use Prim.Native.Nat.{ℕ, _+_, _*_}
 use Prim.Native.Char.{code}
@@ -85,8 +85,8 @@ pub record FirstLine (bound : ℕ) (s : List ℕ) (r : First) : Type 0 where
   pub line-is : r .line ≡ lineOf bound (before newline s)
   pub length-is : isGood (r .line) ≡ true → r .length ≡ firstPlace newline s
 
--- the first line of s in a book, under the cut-off c: how many bytes it has with its newline, or 0 if it is bad or has none; whether it is
--- listed; the cut-off that it gives
+-- the first line of s in a book, under the cut-off c: how many bytes it has with its newline, or 0 if it is bad or has none;
+-- whether it is listed; the cut-off that it gives
 pub record NextLine (bound : ℕ) (s : List ℕ) (c : Integer) (r : Next) : Type 0 where
   pub size-is : r .size ≡ cond (isGood (lineOf bound (before newline s)) && has newline s) (firstPlace newline s + 1) 0
   pub listed-is : r .listed ≡ isListed c (lineOf bound (before newline s))

@@ -1,5 +1,5 @@
--- The listing of a book (RULES 13.10 and 13.11): the `hull` lines whose seconds are at or after the cut-off of the last `since` line above
--- them, all where there is none, in the order of the book, each with its newline.
+-- The listing of a book (RULES 13.10 and 13.11): the `hull` lines whose seconds are at or after the cut-off of the last `since`
+-- line above them, all where there is none, in the order of the book, each with its newline.
 -- Assumes nothing.
 use Prim.Native.Nat.{ℕ}
 use mathlib.Core.Bool.{Bool, true, false, cond}
