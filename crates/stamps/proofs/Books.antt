@@ -1,6 +1,6 @@
--- Books, line by line. In order: the first line of a text that holds a newline, of one that holds none, and of the empty text; lines and
--- their bytes; the first bad line; a book without one; what a check returns; the next line; a book that is judged line by line, from the
--- start, by one line more, and to the end.
+-- Books, line by line. In order: the first line of a text that holds a newline, of one that holds none, and of the empty text;
+-- lines and their bytes; the first bad line; a book without one; what a check returns; the next line; a book that is judged line
+-- by line, from the start, by one line more, and to the end.
 -- Assumes nothing.
 use mathlib.Core.Path.{_≡_, refl, sym, ap, _∙_}
 use mathlib.Core.Bool.{Bool, true, false, cond, _&&_, false≢true, and-true}
@@ -216,8 +216,8 @@ module _ {bound : ℕ} {s : List ℕ} {first : First} (f : FirstLine bound s fir
   pub next-none : first .line ≡ Bad → 0 ≡ cond (isGood (lineOf bound (before newline s)) && has newline s) (firstPlace newline s + 1) 0
   next-none e = rw (← f .line-is, e)
 
--- ---- a book judged line by line: n lines, which end at the place `at`, are good. Their part of the listing has `size` bytes, and c is the
--- cut-off below them
+-- ---- a book judged line by line
+-- n lines, which end at the place `at`, are good. Their part of the listing has `size` bytes, and c is the cut-off below them
 pub record Judging (bound : ℕ) (book was marks : List ℕ) (at n size : ℕ) (c : Integer) : Type 0 where
   pub within : at ≤ length book
   pub fewer : n ≤ at

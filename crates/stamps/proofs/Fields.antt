@@ -1,10 +1,11 @@
--- Fields, with tabs between them. In order: a text cut at its first tab, and two texts with a tab between; texts whose bytes are of one
--- class; the first field of a line in front of a newline; the field that begins at a place of a text, and the line that goes on behind
--- it; a field that is a number, and such a field at the end of a line.
+-- Fields, with tabs between them. In order: a text cut at its first tab, and two texts with a tab between; texts whose bytes are
+-- of one class; the first field of a line in front of a newline; the field that begins at a place of a text, and the line that
+-- goes on behind it; a field that is a number, and such a field at the end of a line.
 -- Assumes nothing.
 use mathlib.Core.Path.{_≡_, refl, sym, ap, _∙_}
 use mathlib.Core.Bool.{Bool, true, false, not, _&&_, false≢true}
 use mathlib.Core.List.{List, [], _∷_, _++_}
+use Prim.Native.Char.{code}
 use Prim.Native.Nat.{ℕ, suc, _+_, _-_, _≤_, _<_}
 use native.Mathlib.Omega.{arith}
 use native.Mathlib.Numerals.{add-one}
@@ -22,7 +23,7 @@ use Rattle.text.proofs.FirstPlaces.{Free}
 use Rattle.text.proofs.Texts.{not-has-cons}
 use Rattle.text.proofs.Numbers.{digit-range, numeral-le-run, numeral-leading}
 use Rattle.stamps.specs.Lines.{every, isPathByte, isHexDigit, isGood}
-use Rattle.stamps.specs.Held.{isTextByte, endsHere, cut, leftAt, EndsLine}
+use Rattle.stamps.specs.Held.{isTextByte, endsHere, partFrom, leftAt, EndsLine}
 use Rattle.stamps.specs.declared.line.Line.{Line}
 use Rattle.stamps.specs.declared.line.Line.the-variants.{Bad}
 use Rattle.stamps.specs.declared.line.First.{First}
@@ -83,9 +84,9 @@ run-of-every p [] e = refl
 run-of-every p (b ∷ s) e = let k = both (p b) (every p s) e in rw (k .0) (ap suc (run-of-every p s (k .1)))
 
 -- the bytes of a path, of a key and of a number are bytes of a text
-isTextByte-of-lt : (b : ℕ) → 10 < b → isTextByte b ≡ true
+isTextByte-of-lt : (b : ℕ) → newline < b → isTextByte b ≡ true
 unfolding isTextByte
-isTextByte-of-lt b h = rw (ne-eqb b 9 (λ e. omega arith), ne-eqb b 10 (λ e. omega arith))
+isTextByte-of-lt b h = rw (ne-eqb b tab (λ e. omega arith), ne-eqb b newline (λ e. omega arith))
 
 pub isTextByte-of-isPathByte : (b : ℕ) → isPathByte b ≡ true → isTextByte b ≡ true
 unfolding isPathByte
@@ -98,13 +99,13 @@ pub isTextByte-of-isHexDigit : (b : ℕ) → isHexDigit b ≡ true → isTextByt
 unfolding isHexDigit
 isTextByte-of-isHexDigit b =
     by-test (isDigit b) (λ d e. isTextByte-of-isDigit b d)
-    (λ d e. isTextByte-of-lt b (omega (arith, leb-true 97 b (both (leb 97 b) (leb b 102) (rw d at e) .0))))
+    (λ d e. isTextByte-of-lt b (omega (arith, leb-true (code "a") b (both (leb (code "a") b) (leb b (code "f")) (rw d at e) .0))))
 
 isTextByte-of-isSign : (b : ℕ) → isSign b ≡ true → isTextByte b ≡ true
 unfolding isSign
 isTextByte-of-isSign b =
-    by-test (eqb b 43) (λ d e. isTextByte-of-lt b (omega (arith, eqb-true b 43 d)))
-    (λ d e. isTextByte-of-lt b (omega (arith, eqb-true b 45 (rw d at e))))
+    by-test (eqb b (code "+")) (λ d e. isTextByte-of-lt b (omega (arith, eqb-true b (code "+") d)))
+    (λ d e. isTextByte-of-lt b (omega (arith, eqb-true b (code "-") (rw d at e))))
 
 -- ---- the first field of the first line of a text
 -- it ends at the first tab or newline
@@ -182,7 +183,7 @@ run-of-tab q out n s h o = omega (arith, run-drop q n s h, none (drop n s) o)
 
 -- the field from `at` on ends with the tab at e
 pub record FieldEnds (s : List ℕ) (at e : ℕ) : Type 0 where
-  pub field-is : field (leftAt s at) ≡ cut s at e
+  pub field-is : field (leftAt s at) ≡ partFrom s at e
   pub rest-is : rest (leftAt s at) ≡ leftAt s (e + 1)
   pub line-is : at + firstPlace newline (drop at s) ≡ e + 1 + firstPlace newline (drop (e + 1) s)
 
@@ -215,15 +216,15 @@ module _ (s : List ℕ) (at : ℕ) where
     unfolding past
     field-ends-past t = field-ends (run p (drop at s)) (run-le-run p isTextByte inside (drop at s)) t
 
-    cut-past : cut s at (past p s at) ≡ leading p (drop at s)
+    partFrom-past : partFrom s at (past p s at) ≡ leading p (drop at s)
     unfolding past
-    cut-past = let k : at + run p (drop at s) - at ≡ run p (drop at s) = omega arith in rw k
+    partFrom-past = let k : at + run p (drop at s) - at ≡ run p (drop at s) = omega arith in rw k
 
-    pub every-cut : every p (cut s at (past p s at)) ≡ true
-    every-cut = ap (every p) cut-past ∙ every-leading p (drop at s)
+    pub every-partFrom : every p (partFrom s at (past p s at)) ≡ true
+    every-partFrom = ap (every p) partFrom-past ∙ every-leading p (drop at s)
 
-    pub length-cut : at + length (cut s at (past p s at)) ≡ past p s at
-    length-cut = ap (λ (v : List ℕ). at + length v) cut-past ∙ length-leading p s at
+    pub length-partFrom : at + length (partFrom s at (past p s at)) ≡ past p s at
+    length-partFrom = ap (λ (v : List ℕ). at + length v) partFrom-past ∙ length-leading p s at
 
     -- if the field is of such bytes alone, the bytes of the class are the field
     run-of-every-field : every p (field (leftAt s at)) ≡ true → run p (drop at s) ≡ run isTextByte (drop at s)

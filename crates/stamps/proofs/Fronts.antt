@@ -1,9 +1,10 @@
--- A stamp at the front of a longer text. In order: how many bytes are its seconds; the bytes of a header; a stamp that is read there in two
--- steps, seconds and tail, is the stamp of the line.
+-- A stamp at the front of a longer text. In order: how many bytes are its seconds; the bytes of a header; a stamp that is read
+-- there in two steps, seconds and tail, is the stamp of the line.
 -- Assumes nothing.
 use mathlib.Core.Path.{_≡_, refl, sym, ap, _∙_}
 use mathlib.Core.Bool.{false}
 use mathlib.Core.List.{List, [], _∷_, _++_, append-assoc}
+use Prim.Native.Char.{code}
 use Prim.Native.Nat.{ℕ, suc, _/_, _%_, _^_, _<_}
 use native.Mathlib.Omega.{arith}
 use lib.IntN.{ℤ, pos, negsuc, natAbs}
@@ -109,7 +110,7 @@ module _ (d : List ℕ) where
 
     numeral-is : numeral d ≡ length (signed (t .seconds))
     unfolding isDigit
-    numeral-is = ap numeral whole-is ∙ numeral-signed (t .seconds) 32 _ refl
+    numeral-is = ap numeral whole-is ∙ numeral-signed (t .seconds) (code " ") _ refl
 
     seconds-are : seconds ≡ Is (t .seconds)
     seconds-are =

@@ -1,8 +1,8 @@
--- `hull` lines as they are read, field by field, from a place of the text on. In order: what a path and a key are; a line by its fields; a
--- line from its path on, from its key on, from its time on.
+-- `hull` lines as they are read, field by field, from a place of the text on. In order: what a path and a key are; a line by its
+-- fields; a line from its path on, from its key on, from its time on.
 -- Assumes nothing.
 use mathlib.Core.Path.{_≡_, refl, sym, ap, _∙_}
-use mathlib.Core.Bool.{Bool, true, false, _&&_, _||_, false≢true, and-false}
+use mathlib.Core.Bool.{true, false, _&&_, _||_, false≢true, and-false}
 use mathlib.Core.List.{List, []}
 use Prim.Native.Nat.{ℕ, _+_, _-_, _≤_, _<_}
 use native.Mathlib.Omega.{arith}
@@ -19,16 +19,12 @@ use Rattle.time.specs.declared.Time.{Time}
 use Rattle.time.proofs.Headers.{length-headerBytes}
 use Rattle.stamps.specs.Stamps.{stampOf}
 use Rattle.stamps.specs.Lines.{every, isPathByte, isPath, isHexDigit, isKey, hullAt, hullOf}
-use Rattle.stamps.specs.Held.{cut, leftAt, hullLeft, keyLeft, EndsLine}
+use Rattle.stamps.specs.Held.{partFrom, leftAt, hullLeft, keyLeft, EndsLine}
 use Rattle.stamps.specs.declared.stamp.Stamp.{Stamp}
 use Rattle.stamps.specs.declared.stamp.Stamp.the-variants.{At, Nothing as NoStamp}
 use Rattle.stamps.specs.declared.line.Line.the-variants.{Hull, Bad}
 use Rattle.stamps.proofs.Stamps.{stampOf-bytes}
-use Rattle.stamps.proofs.Fields.{length-before, field-nil, isTextByte-of-isPathByte, isTextByte-of-isHexDigit, FieldEnds, field-ends-past, every-cut, length-cut, past-of-every, rest-nil-of-every}
-
-neither : (a b : Bool) → (a || b) ≡ false → (a ≡ false) × (b ≡ false)
-neither true b e = absurd (false≢true (sym e))
-neither false b e = (refl, e)
+use Rattle.stamps.proofs.Fields.{length-before, field-nil, isTextByte-of-isPathByte, isTextByte-of-isHexDigit, FieldEnds, field-ends-past, every-partFrom, length-partFrom, past-of-every, rest-nil-of-every}
 
 -- ---- a path and a key
 isPath-of-parts : (s : List ℕ) → 0 < length s → length s ≤ 255 → every isPathByte s ≡ true → isPath s ≡ true
@@ -109,15 +105,15 @@ module _ (s : List ℕ) (e : ℕ) (ee : e ≡ past isPathByte s 5) where
     pub path-ends : FieldEnds s 5 e
     path-ends = rw ee (field-ends-past s 5 isPathByte isTextByte-of-isPathByte (rw ee at o))
 
-    pub hull-keyed : hullLeft (leftAt s 5) ≡ keyLeft (cut s 5 e) (leftAt s (e + 1))
+    pub hull-keyed : hullLeft (leftAt s 5) ≡ keyLeft (partFrom s 5 e) (leftAt s (e + 1))
     hull-keyed = λ i. keyLeft (path-ends .field-is i) (path-ends .rest-is i)
 
-    pub isPath-cut : (eqb (e - 5) 0 || ltb 255 (e - 5)) ≡ false → isPath (cut s 5 e) ≡ true
-    isPath-cut h =
-        let p = neither (eqb (e - 5) 0) (ltb 255 (e - 5)) h in
-        let l : 5 + length (cut s 5 e) ≡ e = rw ee (length-cut s 5 isPathByte isTextByte-of-isPathByte) in
-        let q : every isPathByte (cut s 5 e) ≡ true = rw ee (every-cut s 5 isPathByte isTextByte-of-isPathByte) in
-        isPath-of-parts (cut s 5 e) (omega (arith, eqb-false (e - 5) 0 (p .0))) (omega (arith, ltb-false 255 (e - 5) (p .1))) q
+    pub isPath-partFrom : (eqb (e - 5) 0 || ltb 255 (e - 5)) ≡ false → isPath (partFrom s 5 e) ≡ true
+    isPath-partFrom h =
+        let l : 5 + length (partFrom s 5 e) ≡ e = rw ee (length-partFrom s 5 isPathByte isTextByte-of-isPathByte) in
+        let q : every isPathByte (partFrom s 5 e) ≡ true = rw ee (every-partFrom s 5 isPathByte isTextByte-of-isPathByte) in
+        by-test (eqb (e - 5) 0) (λ y. absurd (false≢true (sym (rw y at h))))
+        (λ n. isPath-of-parts (partFrom s 5 e) (omega (arith, eqb-false (e - 5) 0 n)) (omega (arith, ltb-false 255 (e - 5) (rw n at h))) q)
 
 -- from its key on, which begins at k and ends at e
 module _ (s : List ℕ) (k e : ℕ) (ee : e ≡ past isHexDigit s k) where
@@ -143,27 +139,27 @@ module _ (s : List ℕ) (k e : ℕ) (ee : e ≡ past isHexDigit s k) where
     pub key-ends : FieldEnds s k e
     key-ends = rw ee (field-ends-past s k isHexDigit isTextByte-of-isHexDigit (rw ee at o))
 
-    pub key-stamped : (path : List ℕ) → isPath path ≡ true → e - k ≡ 16 → keyLeft path (leftAt s k) ≡ hullAt path (cut s k e) (stampOf (leftAt s (e + 1)))
+    pub key-stamped : (path : List ℕ) → isPath path ≡ true → e - k ≡ 16 → keyLeft path (leftAt s k) ≡ hullAt path (partFrom s k e) (stampOf (leftAt s (e + 1)))
     key-stamped path p h =
-        let l : k + length (cut s k e) ≡ e = rw ee (length-cut s k isHexDigit isTextByte-of-isHexDigit) in
-        let q : every isHexDigit (cut s k e) ≡ true = rw ee (every-cut s k isHexDigit isTextByte-of-isHexDigit) in
-        (λ i. hullOf path (key-ends .field-is i) (key-ends .rest-is i)) ∙ hullOf-stamp _ _ _ p (isKey-of-parts (cut s k e) (omega arith) q)
+        let l : k + length (partFrom s k e) ≡ e = rw ee (length-partFrom s k isHexDigit isTextByte-of-isHexDigit) in
+        let q : every isHexDigit (partFrom s k e) ≡ true = rw ee (every-partFrom s k isHexDigit isTextByte-of-isHexDigit) in
+        (λ i. hullOf path (key-ends .field-is i) (key-ends .rest-is i)) ∙ hullOf-stamp _ _ _ p (isKey-of-parts (partFrom s k e) (omega arith) q)
 
 -- from its time on, which begins behind place k: its path ends at p, its key at k
 module _ (s : List ℕ) (p k : ℕ) (hp : 5 ≤ p) (hk : p < k) (hs : k < length s) where
   pub hull-stamped : (t : Time) (x : Stamp) (n : ℕ) → x ≡ stampOf (leftAt s (k + 1)) → x ≡ At t → n ≡ sizeOf (t .seconds)
-      → EndsLine s (k + 1) (hullAt (cut s 5 p) (cut s (p + 1) k) (stampOf (leftAt s (k + 1))))
+      → EndsLine s (k + 1) (hullAt (partFrom s 5 p) (partFrom s (p + 1) k) (stampOf (leftAt s (k + 1))))
       (record { line = Hull (record { path = record { start = 5; end = p }; key = record { start = p + 1; end = k }; time = t }); length = k + 1 + n })
   hull-stamped t x n ex et en =
       let e : stampOf (leftAt s (k + 1)) ≡ At t = sym ex ∙ et in
-      let lp : p ≡ 5 + length (cut s 5 p) = omega (arith, length-take-le (p - 5) (drop 5 s) (omega (arith, length-drop 5 s))) in
-      let lk : k ≡ p + 1 + length (cut s (p + 1) k) = omega (arith, length-take-le (k - (p + 1)) (drop (p + 1) s) (omega (arith, length-drop (p + 1) s))) in
+      let lp : p ≡ 5 + length (partFrom s 5 p) = omega (arith, length-take-le (p - 5) (drop 5 s) (omega (arith, length-drop 5 s))) in
+      let lk : k ≡ p + 1 + length (partFrom s (p + 1) k) = omega (arith, length-take-le (k - (p + 1)) (drop (p + 1) s) (omega (arith, length-drop (p + 1) s))) in
       record {
         line-is =
             (λ i. Hull (record { path = record { start = 5; end = lp i }; key = record { start = lp i + 1; end = lk′ lp lk i }; time = t }))
-            ∙ ap (hullAt (cut s 5 p) (cut s (p + 1) k)) (sym e);
+            ∙ ap (hullAt (partFrom s 5 p) (partFrom s (p + 1) k)) (sym e);
         end-is = λ g. omega (arith, ap length (stampOf-bytes (leftAt s (k + 1)) t e), length-headerBytes t, length-before newline (drop (k + 1) s));
       }
     where
-      lk′ : p ≡ 5 + length (cut s 5 p) → k ≡ p + 1 + length (cut s (p + 1) k) → k ≡ 5 + length (cut s 5 p) + 1 + length (cut s (p + 1) k)
+      lk′ : p ≡ 5 + length (partFrom s 5 p) → k ≡ p + 1 + length (partFrom s (p + 1) k) → k ≡ 5 + length (partFrom s 5 p) + 1 + length (partFrom s (p + 1) k)
       lk′ a b = omega arith

@@ -1,13 +1,15 @@
--- What a caller can say of books and listings. In order: a line is listed exactly if it is a `hull` line whose seconds are at or after the
--- last cut-off above it (`listed-exactly-if`); `listed-lines-are-hulls`; `no-since-lists-all-hulls`; which books are good
--- (`good-book-iff`), at which line a book is refused (`refused-at-line-iff`, `refused-too-long-iff`), and that a line is good by itself exactly if it is good in a
--- book (`good-alone-iff-good-in-a-book`); the listing of a good book is a good book (`listing-is-a-good-book`) that lists itself
+-- What a caller can say of books and listings. In order: a line is listed exactly if it is a `hull` line whose seconds are at or
+-- after the last cut-off above it (`listed-exactly-if`); listed lines are lines of the book, in its order
+-- (`listed-lines-in-order`), and all of them `hull` lines (`listed-lines-are-hulls`); `no-since-lists-all-hulls`; which books are
+-- good (`good-book-iff`), at which line a book is refused (`refused-at-line-iff`, `refused-too-long-iff`), and that a line is
+-- good by itself exactly if it is good in a book (`good-alone-iff-good-in-a-book`); the lines of a listing are the listed lines
+-- (`endedLines-listing`); the listing of a good book is a good book (`listing-is-a-good-book`) that lists itself
 -- (`listing-lists-itself`).
 -- Assumes nothing.
 use mathlib.Core.Path.{_≡_, refl, sym, ap, _∙_}
 use mathlib.Core.Bool.{true, false, cond, false≢true, and-true}
 use mathlib.Core.Logic.{_↔_}
-use mathlib.Core.List.{List, [], _∷_, _++_}
+use mathlib.Core.List.{List, [], _∷_, _++_, append-nil}
 use Prim.Native.Nat.{ℕ, zero, suc, _+_, _≤_, _<_}
 use native.Mathlib.Omega.{arith}
 use borrow.Author.Tests.{leb-true, leb-false, le-leb}
@@ -27,11 +29,13 @@ use Rattle.stamps.specs.Lines.{lineOf, isGood}
 use Rattle.stamps.specs.Book.{maxBook, judged, linesIn, firstBad, checkedAt, checkOf}
 use Rattle.stamps.specs.Listing.{isListed, cutOffIn, orAbove, cutOffBelow, listed, joined, listing}
 use Rattle.stamps.specs.Theorems.{areGood, isHullLine, isSinceLine, hullsOf, hasSince, lastCutOff}
+use Rattle.stamps.specs.Held.{marksOf, picked}
 use Rattle.stamps.specs.declared.line.Line.{Line}
 use Rattle.stamps.specs.declared.line.Line.the-variants.{Hull, Since, Bad}
 use Rattle.stamps.specs.declared.book.Checked.{Checked}
 use Rattle.stamps.specs.declared.book.Checked.the-variants.{Good, Refused}
 use Rattle.stamps.proofs.Books.{length-joined, takenBy-le, firstBad-good, firstBad-bad, le-firstBad, areGood-append, good-book, book-of-good, checkOf-long}
+use Rattle.stamps.proofs.Marks.{picked-marksOf}
 
 -- ---- a line is listed exactly if it is a `hull` line whose seconds are at or after the last cut-off above it
 orAbove-assoc : (a b c : Integer) → orAbove (orAbove a b) c ≡ orAbove a (orAbove b c)
@@ -60,6 +64,10 @@ module _ (bound : ℕ) where
       let c = lastCutOff bound above in
       listed-append Nothing above (l ∷ below) ∙ ap (λ (x : Integer). listed bound Nothing above ++ listed bound x (l ∷ below)) (orAbove-nothing c)
       ∙ by-test (isListed c (lineOf bound l)) (λ y. rw y) (λ n. rw n)
+
+  -- each line has a mark, and the listed lines are those whose mark is 1, in their order
+  pub listed-lines-in-order : (c : Integer) (ls : List (List ℕ)) → listed bound c ls ≡ picked (marksOf bound c ls) ls
+  listed-lines-in-order c ls = sym (picked-marksOf bound c ls []) ∙ ap (λ (ms : List ℕ). picked ms ls) (append-nil (marksOf bound c ls))
 
   -- every listed line is a `hull` line
   hull-of-listed : (c : Integer) (x : Line) → isListed c x ≡ true → isHullLine x ≡ true
@@ -263,6 +271,13 @@ module _ (bound : ℕ) where
   unfolding listing
   length-listing-le book = omega (arith, length-listed-le Nothing (endedLines book), length-joined (endedLines book), takenBy-le book)
 
+  -- its lines are the lines that are listed
+  pub endedLines-listing : (book : List ℕ) → endedLines (listing bound book) ≡ listed bound Nothing (endedLines book)
+  unfolding listing
+  endedLines-listing book =
+      let ls = listed bound Nothing (endedLines book) in
+      endedLines-joined ls (lacking-of-good bound ls (areGood-listed Nothing (endedLines book)))
+
   pub listing-is-a-good-book : (book : List ℕ) → checkOf bound book ≡ Good → checkOf bound (listing bound book) ≡ Good
   unfolding listing
   listing-is-a-good-book book e =
@@ -288,5 +303,5 @@ module _ (bound : ℕ) where
   unfolding listing
   listing-lists-itself book =
       let ls = listed bound Nothing (endedLines book) in
-      ap (λ (t : List (List ℕ)). joined (listed bound Nothing t)) (endedLines-joined ls (lacking-of-good bound ls (areGood-listed Nothing (endedLines book))))
+      ap (λ (t : List (List ℕ)). joined (listed bound Nothing t)) (endedLines-listing book)
       ∙ ap joined (no-since-lists-all-hulls bound ls (hasSince-listed Nothing (endedLines book)) ∙ listed-lines-are-hulls bound Nothing (endedLines book))

@@ -1,6 +1,6 @@
--- Marks of lines. In order: the marks of lines pick those that are listed; a good line has at least 10 bytes, so that the marks of a good
--- book have their places; marked lines that are copied one after the other, from the start, by one line more, and to the end; what a call
--- that lists a book returns.
+-- Marks of lines. In order: the marks of lines pick those that are listed; a good line has at least 10 bytes, so that the marks
+-- of a good book have their places; marked lines that are copied one after the other, from the start, by one line more, and to
+-- the end; what a call that lists a book returns.
 -- Assumes nothing.
 use mathlib.Core.Path.{_≡_, refl, sym, ap, _∙_}
 use mathlib.Core.Bool.{Bool, true, cond, _&&_, false≢true}
@@ -9,7 +9,7 @@ use Prim.Native.Nat.{ℕ, suc, _+_, _*_, _≤_, _<_}
 use native.Mathlib.Nat.{zero-add}
 use native.Mathlib.Omega.{arith}
 use native.Mathlib.Numerals.{add-one}
-use borrow.Author.Tests.{le-leb, lt-leb, ltb-true, ltb-false, eqb-true, eqb-false}
+use borrow.Author.Tests.{le-leb, lt-leb, ltb-true, ltb-false, eqb-true}
 use lib.Dec.{ltb, eqb}
 use lib.ListN.{length, take, drop, getD, set, length-take, length-drop, length-append, drop-of-length-le}
 use lib.Seq.{drop-drop, take-suc, sets, sets-eq, length-sets}
@@ -20,26 +20,27 @@ use Rattle.text.specs.Places.{firstPlace, before, has}
 use Rattle.text.specs.Lines.{tab, newline, field, rest, endedLines, takenBy, left}
 use Rattle.text.specs.Room.{roomAfter}
 use Rattle.text.specs.declared.number.Integer.{Integer}
-use Rattle.text.specs.declared.number.Integer.the-variants.{Is, Nothing}
+use Rattle.text.specs.declared.number.Integer.the-variants.{Nothing}
 use Rattle.text.specs.declared.number.Number.the-variants.{Nothing as NoNumber}
-use Rattle.text.proofs.Lists.{by-test, both, drop-cons-add-one, getD-of-length-le, same-of-length}
+use Rattle.text.proofs.Lists.{by-test, both, drop-cons-add-one, getD-of-length-le}
 use Rattle.text.proofs.FirstPlaces.{getD-firstPlace}
 use Rattle.time.specs.declared.Refusal.{Refusal}
 use Rattle.time.specs.declared.Refusal.the-variants.{Room}
 use Rattle.stamps.specs.Stamps.{printed}
-use Rattle.stamps.specs.Lines.{every, isPath, isHexDigit, isKey, hullOf, sinceWith, sinceOf, lineOf, isGood}
+use Rattle.stamps.specs.Lines.{every, isPath, isHexDigit, isKey, hullOf, sinceOf, lineOf, isGood}
 use Rattle.stamps.specs.Book.{maxBook, judged, linesIn, firstBad, checkOf}
 use Rattle.stamps.specs.Theorems.{areGood}
 use Rattle.stamps.specs.Listing.{isListed, cutOffBelow, listed, joined, listing, listOf, isWritten}
 use Rattle.stamps.specs.Held.{marksOf, picked}
-use Rattle.stamps.specs.declared.line.Line.the-variants.{Bad}
 use Rattle.stamps.specs.declared.book.Checked.the-variants.{Good, Refused as NotGood}
 use Rattle.stamps.specs.declared.book.Listed.{Listed}
 use Rattle.stamps.specs.declared.book.Listed.the-variants.{Length, Refused}
+use Rattle.stamps.proofs.Printed.{eq-of-same}
+use Rattle.stamps.proofs.SinceLines.{sinceWith-no-offset}
 use Rattle.stamps.proofs.Books.{takenBy-le, good-book, behind, firstPlace-lt, endedLines-first, left-first, endedLines-open, left-open, endedLines-nil}
 
 -- ---- the marks of lines pick those that are listed
-picked-marksOf : (bound : ℕ) (c : Integer) (ls : List (List ℕ)) (more : List ℕ) → picked (marksOf bound c ls ++ more) ls ≡ listed bound c ls
+pub picked-marksOf : (bound : ℕ) (c : Integer) (ls : List (List ℕ)) (more : List ℕ) → picked (marksOf bound c ls ++ more) ls ≡ listed bound c ls
 unfolding marksOf picked listed
 picked-marksOf bound c [] [] = refl
 picked-marksOf bound c [] (m ∷ more) = refl
@@ -62,15 +63,6 @@ picked-sets bound ls ms h =
 -- a field, its tab and what follows
 length-field-rest : (s : List ℕ) → 0 < length (rest s) → length s ≡ length (field s) + 1 + length (rest s)
 length-field-rest s h = omega (arith, length-drop (firstPlace tab s + 1) s, length-take (firstPlace tab s) s)
-
-length-of-same : (s t : List ℕ) → same s t ≡ true → length s ≡ length t
-length-of-same s t e =
-    by-test (eqb (length s) (length t)) (λ f. eqb-true (length s) (length t) f)
-    (λ f. absurd (false≢true (sym (same-of-length s t (eqb-false (length s) (length t) f)) ∙ e)))
-
-sinceWith-no-offset : (bound : ℕ) (text : List ℕ) (z : Integer) → sinceWith bound text z Nothing ≡ Bad
-sinceWith-no-offset bound text (Is z) = refl
-sinceWith-no-offset bound text Nothing = refl
 
 since-numbers : (bound : ℕ) (text seconds offset : List ℕ) → isGood (sinceOf bound text seconds offset) ≡ true → (0 < length seconds) × (0 < length offset)
 unfolding sinceOf printed signedOf
@@ -105,7 +97,7 @@ length-good bound l g =
     (λ e.
     by-test (same (field l) (bytes "hull")) (λ h. hull-length l (rest (rest (rest l))) (rw (e, h) at g))
     (λ h.
-    by-test (same (field l) (bytes "since")) (λ k. since-length bound l (length-of-same (field l) (bytes "since") k) (rw (e, h, k) at g))
+    by-test (same (field l) (bytes "since")) (λ k. since-length bound l (ap length (eq-of-same (field l) (bytes "since") k)) (rw (e, h, k) at g))
     (λ k. absurd (false≢true (rw (e, h, k) at g)))))
 
 -- so each takes at least 11 bytes of a book

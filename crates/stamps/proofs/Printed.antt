@@ -1,10 +1,11 @@
--- Numbers as the header writer prints them (RULES 13.6). In order: texts that are the same; digits of the same value; a text that is as
--- long as the plain decimal of its number is that decimal, so that only lengths are compared; the same at the front of a longer text; what is
--- printed is read, and nothing else.
+-- Numbers as the header writer prints them (RULES 13.6). In order: texts that are the same; digits of the same value; a text that
+-- is as long as the plain decimal of its number is that decimal, so that only lengths are compared; the same at the front of a
+-- longer text; what is printed is read, and nothing else.
 -- Assumes nothing.
 use mathlib.Core.Path.{_≡_, refl, sym, ap, _∙_}
 use mathlib.Core.Bool.{true, _&&_}
 use mathlib.Core.List.{List, [], _∷_}
+use Prim.Native.Char.{code}
 use Prim.Native.Nat.{ℕ, zero, suc, _+_, _-_, _*_, _^_, _≤_, _<_}
 use native.Mathlib.Omega.{arith}
 use borrow.Author.Tests.{eqb-true, eqb-false, eq-eqb}
@@ -78,24 +79,24 @@ eq-decimal (b ∷ w) n e l = readFrom-unique (b ∷ w) (decimal n) 0 0 n l e (re
 
 -- ---- a number that is as long as its plain decimal
 -- a minus and digits: 0 has no minus
-eq-signed-of-minus : (s : List ℕ) (n : ℕ) → digitsOf s ≡ Value n → suc (length s) ≡ length (signed (negℤ (pos n))) → 45 ∷ s ≡ signed (negℤ (pos n))
+eq-signed-of-minus : (s : List ℕ) (n : ℕ) → digitsOf s ≡ Value n → suc (length s) ≡ length (signed (negℤ (pos n))) → code "-" ∷ s ≡ signed (negℤ (pos n))
 unfolding signed
 eq-signed-of-minus s zero e l = absurd (omega (arith, length-decimal-le-digits s 0 e, length-decimal-pos 0, length-decimal-of-lt 0 (omega arith)))
-eq-signed-of-minus s (suc n) e l = ap (λ (t : List ℕ). 45 ∷ t) (eq-decimal s (suc n) e (omega arith))
+eq-signed-of-minus s (suc n) e l = ap (λ (t : List ℕ). code "-" ∷ t) (eq-decimal s (suc n) e (omega arith))
 
 -- digits without a sign: with `+` there is one byte more than in the plain decimal
 eq-signed-of-plus : (b : ℕ) (s : List ℕ) (n : ℕ) → unsignedOf (b ∷ s) ≡ Value n → suc (length s) ≡ length (signed (pos n)) → b ∷ s ≡ signed (pos n)
 unfolding signed unsignedOf
 eq-signed-of-plus b s n e l =
-    by-test (eqb b 43) (λ k. absurd (omega (arith, length-decimal-le-digits s n (rw k at e)))) (λ k. eq-decimal (b ∷ s) n (rw k at e) l)
+    by-test (eqb b (code "+")) (λ k. absurd (omega (arith, length-decimal-le-digits s n (rw k at e)))) (λ k. eq-decimal (b ∷ s) n (rw k at e) l)
 
 eq-signed : (s : List ℕ) (z : ℤ) → signedOf s ≡ Is z → length s ≡ length (signed z) → s ≡ signed z
 unfolding signedOf
 eq-signed [] z e l = let q : _≡_ {A = ℕ} 0 1 = cc in absurd (omega arith)
 eq-signed (b ∷ s) z e l =
-    by-test (eqb b 45) (λ k. rw (eqb-true b 45 k) (minused (digitsOf s) refl (rw k at e))) (λ k. plussed (unsignedOf (b ∷ s)) refl (rw k at e))
+    by-test (eqb b (code "-")) (λ k. rw (eqb-true b (code "-") k) (minused (digitsOf s) refl (rw k at e))) (λ k. plussed (unsignedOf (b ∷ s)) refl (rw k at e))
   where
-    minused : (x : Number) → digitsOf s ≡ x → minus x ≡ Is z → 45 ∷ s ≡ signed z
+    minused : (x : Number) → digitsOf s ≡ x → minus x ≡ Is z → code "-" ∷ s ≡ signed z
     minused (Value n) d k = let q : negℤ (pos n) ≡ z = cc in rw (← q) (eq-signed-of-minus s n d (rw (← q) at l))
     minused NoNumber d k = let q : _≡_ {A = ℕ} 0 1 = cc in absurd (omega arith)
 

@@ -36,7 +36,7 @@ use Rattle.relative.specs.declared.pair.Pair.{Pair}
 use Rattle.stamps.specs.Stamps.{printed}
 use Rattle.stamps.specs.Writing.{isRead}
 use Rattle.stamps.specs.Lines.{sinceAt, sinceWith, sinceOf}
-use Rattle.stamps.specs.Held.{isTextByte, OpensPrinted, endsHere, cut, leftAt, sinceLeft, currentLeft, EndsLine}
+use Rattle.stamps.specs.Held.{isTextByte, OpensPrinted, endsHere, partFrom, leftAt, sinceLeft, currentLeft, EndsLine}
 use Rattle.stamps.specs.declared.stamp.PrintedNumber.{PrintedNumber}
 use Rattle.stamps.specs.declared.line.Line.{Line}
 use Rattle.stamps.specs.declared.line.Line.the-variants.{Bad}
@@ -144,7 +144,7 @@ module _ (s : List ℕ) (e : ℕ) (ee : e ≡ past isTextByte s 6) where
     pub text-ends : FieldEnds s 6 e
     text-ends = rw ee (field-ends-past s 6 isTextByte (λ b h. h) (rw ee at o))
 
-    pub since-dated : (bound : ℕ) → sinceLeft bound (leftAt s 6) ≡ currentLeft bound (cut s 6 e) (leftAt s (e + 1))
+    pub since-dated : (bound : ℕ) → sinceLeft bound (leftAt s 6) ≡ currentLeft bound (partFrom s 6 e) (leftAt s (e + 1))
     since-dated bound = λ i. currentLeft bound (text-ends .field-is i) (text-ends .rest-is i)
 
 -- from its current seconds on, which begin at a

@@ -1,10 +1,11 @@
--- Stamps (RULES 13.5). In order: what a stamp says about its text; the seconds and the offset of a stamp; what the header writer writes at
--- an offset of whole minutes is a stamp; so the stamps are exactly those texts.
+-- Stamps (RULES 13.5). In order: what a stamp says about its text; the seconds and the offset of a stamp; what the header writer
+-- writes at an offset of whole minutes is a stamp; so the stamps are exactly those texts.
 -- Assumes nothing.
 use mathlib.Core.Path.{_≡_, refl, sym, ap, _∙_}
 use mathlib.Core.Bool.{true, false, _&&_, false≢true, or-true}
 use mathlib.Core.List.{List, [], _∷_, _++_}
 use mathlib.Core.Logic.{_↔_}
+use Prim.Native.Char.{code}
 use Prim.Native.Nat.{ℕ, suc, _+_, _*_, _/_, _%_, _^_, _≤_, _<_}
 use native.Mathlib.Omega.{arith}
 use borrow.Author.Tests.{eqb-true, leb-true, leb-false}
@@ -97,12 +98,12 @@ headerOfWords-in [] t e = let q : _≡_ {A = ℕ} 0 1 = cc in absurd (omega arit
 headerOfWords-in (w ∷ ws) t e = secondsOf-in w (t .seconds) (headerTime-in (secondsOf w) (headerOffset (onlyWord ws)) t e)
 
 -- the seconds that a header is read as fit 64 bits, and it holds no `:`
-seconds-no-colon-of-headerOf : (s : List ℕ) (t : TimeValue) → headerOf s ≡ Time t → Seconds64 (t .seconds) × (has 58 s ≡ false)
+seconds-no-colon-of-headerOf : (s : List ℕ) (t : TimeValue) → headerOf s ≡ Time t → Seconds64 (t .seconds) × (has (code ":") s ≡ false)
 unfolding headerOf
 seconds-no-colon-of-headerOf s t e =
     by-test (ascii s)
     (λ a.
-    by-test (has 58 s) (λ h. let m = rw (a, h) at e in let q : _≡_ {A = ℕ} 0 1 = cc in absurd (omega arith))
+    by-test (has (code ":") s) (λ h. let m = rw (a, h) at e in let q : _≡_ {A = ℕ} 0 1 = cc in absurd (omega arith))
     (λ h. (headerOfWords-in (words isSpace s) t (rw (a, h) at e), h)))
     (λ a. let m = rw a at e in let q : _≡_ {A = ℕ} 0 1 = cc in absurd (omega arith))
 
@@ -112,12 +113,12 @@ has-append c [] t h = h
 has-append c (b ∷ s) t h = rw (has-cons c b (s ++ t), has-append c s t h, or-true)
 
 -- at 100 hours and more a `:` would be written for the tens of the hours
-has-colon : (t : TimeValue) → 360000 ≤ natAbs (t .offset) → natAbs (t .offset) ≤ 362439 → has 58 (headerBytes t) ≡ true
+has-colon : (t : TimeValue) → 360000 ≤ natAbs (t .offset) → natAbs (t .offset) ≤ 362439 → has (code ":") (headerBytes t) ≡ true
 unfolding headerBytes headerSign wholeMinutes
 has-colon t h k =
     let n : ℕ = natAbs (t .offset) in
-    let q : 48 + n / 60 / 60 / 10 ≡ 58 = omega arith in
-    rw (signedBefore-append (t .seconds) _) (has-append 58 (signed (t .seconds)) _ (rw (has-cons, has-cons, has-cons, q, or-true)))
+    let q : 48 + n / 60 / 60 / 10 ≡ code ":" = omega arith in
+    rw (signedBefore-append (t .seconds) _) (has-append (code ":") (signed (t .seconds)) _ (rw (has-cons, has-cons, has-cons, q, or-true)))
 
 pub stampOf-good : (s : List ℕ) (t : TimeValue) → stampOf s ≡ At t → (isWholeMinutes (t .offset) ≡ true) × (natAbs (t .offset) < 360000) × Seconds64 (t .seconds)
 stampOf-good s t e =
@@ -126,7 +127,7 @@ stampOf-good s t e =
     let n : natAbs (t .offset) ≤ 362439 = omega (arith, le-parts (r .low), le-parts (r .high), natAbs-parts (t .offset), one-up (t .offset), one-dn (t .offset)) in (
       stampOf-whole s t e,
       by-test (leb 360000 (natAbs (t .offset)))
-          (λ k. absurd (false≢true (sym (header .1) ∙ ap (has 58) (stampOf-bytes s t e) ∙ has-colon t (leb-true 360000 (natAbs (t .offset)) k) n)))
+          (λ k. absurd (false≢true (sym (header .1) ∙ ap (has (code ":")) (stampOf-bytes s t e) ∙ has-colon t (leb-true 360000 (natAbs (t .offset)) k) n)))
           (λ k. leb-false 360000 (natAbs (t .offset)) k),
       header .0,
     )

@@ -1,9 +1,10 @@
--- The tail of a stamp, which is what follows its seconds (RULES 13.5). In order: its tests at a place of a text; a text that is too short;
--- the tail that is written for an offset has that offset; a tail with an offset is the one that is written for it.
+-- The tail of a stamp, which is what follows its seconds (RULES 13.5). In order: its tests at a place of a text; a text that is
+-- too short; the tail that is written for an offset has that offset; a tail with an offset is the one that is written for it.
 -- Assumes nothing.
 use mathlib.Core.Path.{_≡_, refl, sym, ap, _∙_}
 use mathlib.Core.Bool.{Bool, true, false, _&&_, and-false, or-false}
 use mathlib.Core.List.{List, [], _∷_, _++_}
+use Prim.Native.Char.{code}
 use Prim.Native.Nat.{ℕ, zero, suc, _+_, _*_, _/_, _%_, _<_}
 use native.Mathlib.Nat.{add-zero}
 use native.Mathlib.Omega.{arith}
@@ -34,22 +35,22 @@ all-five a b c d e k =
 module _ (s : List ℕ) (at : ℕ) where
   abbrev pub tests : Bool
   tests =
-      eqb (getD s at 0) 32 && isSign (getD s (at + 1) 0) && fourDigits (getD s (at + 2) 0) (getD s (at + 3) 0) (getD s (at + 4) 0) (getD s (at + 5) 0)
-      && ltb (getD s (at + 4) 0) 54 && endsHere (drop (at + 6) s)
+      eqb (getD s at 0) (code " ") && isSign (getD s (at + 1) 0) && fourDigits (getD s (at + 2) 0) (getD s (at + 3) 0) (getD s (at + 4) 0) (getD s (at + 5) 0)
+      && ltb (getD s (at + 4) 0) (code "6") && endsHere (drop (at + 6) s)
 
   isTail-drop : isTail (drop at s) ≡ tests
   unfolding isTail
   isTail-drop = simp (getD-drop, drop-drop, add-zero)
 
   pub tailOf-of-tests : tests ≡ true
-      → tailOf (drop at s) ≡ offsetWith (eqb (getD s (at + 1) 0) 45) (clockSize (getD s (at + 2) 0) (getD s (at + 3) 0) (getD s (at + 4) 0) (getD s (at + 5) 0))
+      → tailOf (drop at s) ≡ offsetWith (eqb (getD s (at + 1) 0) (code "-")) (clockSize (getD s (at + 2) 0) (getD s (at + 3) 0) (getD s (at + 4) 0) (getD s (at + 5) 0))
   unfolding tailOf
   tailOf-of-tests e = rw (isTail-drop, e) (simp getD-drop)
 
   pub fourDigits-of-tests : tests ≡ true → fourDigits (getD s (at + 2) 0) (getD s (at + 3) 0) (getD s (at + 4) 0) (getD s (at + 5) 0) ≡ true
   fourDigits-of-tests e =
-      all-five (eqb (getD s at 0) 32) (isSign (getD s (at + 1) 0)) (fourDigits (getD s (at + 2) 0) (getD s (at + 3) 0) (getD s (at + 4) 0) (getD s (at + 5) 0))
-      (ltb (getD s (at + 4) 0) 54) (endsHere (drop (at + 6) s)) e .2
+      all-five (eqb (getD s at 0) (code " ")) (isSign (getD s (at + 1) 0)) (fourDigits (getD s (at + 2) 0) (getD s (at + 3) 0) (getD s (at + 4) 0) (getD s (at + 5) 0))
+      (ltb (getD s (at + 4) 0) (code "6")) (endsHere (drop (at + 6) s)) e .2
 
   pub tailOf-of-no-test : tests ≡ false → tailOf (drop at s) ≡ NoInteger
   unfolding tailOf
@@ -63,7 +64,7 @@ tailOf-of-length s h =
       getD-of-length-le s 5 (omega arith),
       and-false (isDigit (getD s 4 0)),
       and-false (isDigit (getD s 2 0) && isDigit (getD s 3 0)),
-      and-false (eqb (getD s 0 0) 32 && isSign (getD s 1 0)),
+      and-false (eqb (getD s 0 0) (code " ") && isSign (getD s 1 0)),
     )
 
 -- ---- the tail that is written for an offset
@@ -90,8 +91,8 @@ module _ (n : ℕ) (h : n < 360000) (w : n % 60 ≡ 0) where
         isDigit-of-le (48 + minutes % 10) (omega arith) (omega arith),
       )
 
-  minutes-lt : ltb (48 + minutes / 10) 54 ≡ true
-  minutes-lt = lt-ltb (48 + minutes / 10) 54 (omega arith)
+  minutes-lt : ltb (48 + minutes / 10) (code "6") ≡ true
+  minutes-lt = lt-ltb (48 + minutes / 10) (code "6") (omega arith)
 
 pub tailOf-tailBytes : (o : ℤ) (t : List ℕ) → natAbs o < 360000 → isWholeMinutes o ≡ true → endsHere t ≡ true → tailOf (tailBytes o ++ t) ≡ Is o
 unfolding tailOf isTail offsetWith isSign signByte wholeMinutes isWholeMinutes
@@ -104,17 +105,17 @@ tailOf-tailBytes (negsuc n) t h w e =
 
 -- ---- a tail with an offset
 -- the sign and the size of the offset
-plus-of-isSign : (b : ℕ) → isSign b ≡ true → eqb b 45 ≡ false → b ≡ 43
+plus-of-isSign : (b : ℕ) → isSign b ≡ true → eqb b (code "-") ≡ false → b ≡ code "+"
 unfolding isSign
-plus-of-isSign b e m = eqb-true b 43 (rw (m, or-false) at e)
+plus-of-isSign b e m = eqb-true b (code "+") (rw (m, or-false) at e)
 
-natAbs-signByte-of-offsetWith : (b n : ℕ) (o : ℤ) → isSign b ≡ true → offsetWith (eqb b 45) n ≡ Is o → (natAbs o ≡ n) × (signByte o ≡ b)
+natAbs-signByte-of-offsetWith : (b n : ℕ) (o : ℤ) → isSign b ≡ true → offsetWith (eqb b (code "-")) n ≡ Is o → (natAbs o ≡ n) × (signByte o ≡ b)
 unfolding offsetWith signByte
 natAbs-signByte-of-offsetWith b zero o e k =
-    by-test (eqb b 45) (λ m. let q = rw m at k in let z : _≡_ {A = ℕ} 0 1 = cc in absurd (omega arith))
+    by-test (eqb b (code "-")) (λ m. let q = rw m at k in let z : _≡_ {A = ℕ} 0 1 = cc in absurd (omega arith))
     (λ m. let q : pos 0 ≡ o = cc (rw m at k) in rw (← q) (refl, sym (plus-of-isSign b e m)))
 natAbs-signByte-of-offsetWith b (suc n) o e k =
-    by-test (eqb b 45) (λ m. let q : negsuc n ≡ o = cc (rw (m, ne-eqb (suc n) 0 (λ z. omega arith)) at k) in rw (← q) (refl, sym (eqb-true b 45 m)))
+    by-test (eqb b (code "-")) (λ m. let q : negsuc n ≡ o = cc (rw (m, ne-eqb (suc n) 0 (λ z. omega arith)) at k) in rw (← q) (refl, sym (eqb-true b (code "-") m)))
     (λ m. let q : pos (suc n) ≡ o = cc (rw m at k) in rw (← q) (refl, sym (plus-of-isSign b e m)))
 
 -- its digits
@@ -151,14 +152,14 @@ module _ (a b h hh m mm : ℕ) (t : List ℕ) (o : ℤ) where
     minutes-are : natAbs o / 60 % 60 ≡ twoDigits m mm
     minutes-are = ap (λ (n : ℕ). n / 60 % 60) size ∙ minutes-of-size (twoDigits h hh) (twoDigits m mm) l
 
-    tailBytes-of-digits : a ≡ 32 → signByte o ≡ b → text ≡ tailBytes o ++ t
+    tailBytes-of-digits : a ≡ code " " → signByte o ≡ b → text ≡ tailBytes o ++ t
     unfolding wholeMinutes
     tailBytes-of-digits e k =
         sym ((λ i. sym e i ∷ k i ∷ twoBefore (hours-are i) (twoBefore (minutes-are i) t))
         ∙ ap (λ (w : List ℕ). a ∷ b ∷ w) (twoBefore-twoDigits h hh (twoBefore (twoDigits m mm) t) (u .0) (u .1))
         ∙ ap (λ (w : List ℕ). a ∷ b ∷ h ∷ hh ∷ w) (twoBefore-twoDigits m mm t (v .0) (v .1)))
 
-  HasTail-of-digits : a ≡ 32 → isSign b ≡ true → fourDigits h hh m mm ≡ true → m < 54 → endsHere t ≡ true → offsetWith (eqb b 45) (clockSize h hh m mm) ≡ Is o → HasTail text o
+  HasTail-of-digits : a ≡ code " " → isSign b ≡ true → fourDigits h hh m mm ≡ true → m < code "6" → endsHere t ≡ true → offsetWith (eqb b (code "-")) (clockSize h hh m mm) ≡ Is o → HasTail text o
   unfolding isWholeMinutes
   HasTail-of-digits x e d l n k =
       let p = both (isDigit h && isDigit hh) (isDigit m && isDigit mm) d in
@@ -178,8 +179,8 @@ module _ (a b h hh m mm : ℕ) (t : List ℕ) (o : ℤ) where
   HasTail-of-tests : isTail text ≡ true → tailOf text ≡ Is o → HasTail text o
   unfolding isTail tailOf
   HasTail-of-tests k e =
-      let p = all-five (eqb a 32) (isSign b) (fourDigits h hh m mm) (ltb m 54) (endsHere t) k in
-      HasTail-of-digits (eqb-true a 32 (p .0)) (p .1) (p .2) (ltb-true m 54 (p .3)) (p .4) (rw k at e)
+      let p = all-five (eqb a (code " ")) (isSign b) (fourDigits h hh m mm) (ltb m (code "6")) (endsHere t) k in
+      HasTail-of-digits (eqb-true a (code " ") (p .0)) (p .1) (p .2) (ltb-true m (code "6") (p .3)) (p .4) (rw k at e)
 
 all-tests : (s : List ℕ) (o : ℤ) → tailOf s ≡ Is o → isTail s ≡ true
 unfolding tailOf

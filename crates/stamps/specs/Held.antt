@@ -1,8 +1,8 @@
--- What the code holds on the way to an answer. Nothing here is needed to read what the public calls ensure. In order: the classes of bytes
--- that a scan passes; a number, and the tail of a stamp, at the front of a longer text; the first line of a text; a line from one of its
--- places on; the marks of the lines that are listed; a room in which bytes are put.
+-- What the code holds on the way to an answer. Nothing here is needed to read what the public calls ensure. In order: the classes
+-- of bytes that a scan passes; a number, and the tail of a stamp, at the front of a longer text; the first line of a text; a line
+-- from one of its places on; the marks of the lines that are listed; a room in which bytes are put.
 -- Assumes nothing.
-use Prim.Native.Nat.{ℕ, _+_, _-_, _*_}
+use Prim.Native.Nat.{ℕ, _+_, _*_}
 use Prim.Native.Char.{code}
 use mathlib.Core.Path.{_≡_}
 use mathlib.Core.Bool.{Bool, true, cond, not, _&&_}
@@ -13,7 +13,7 @@ use lib.ListN.{length, take, drop, getD}
 use Rattle.text.specs.Bytes.{isDigit, isSign}
 use Rattle.text.specs.Number.{fitSigned, numeral}
 use Rattle.text.specs.Decimal.{signed}
-use Rattle.text.specs.Places.{before, firstPlace, has}
+use Rattle.text.specs.Places.{before, firstPlace, has, part}
 use Rattle.text.specs.Lines.{tab, newline, field, rest}
 use Rattle.text.specs.declared.number.Integer.{Integer}
 use Rattle.text.specs.declared.number.Integer.the-variants.{Is, Nothing as NoInteger}
@@ -85,8 +85,8 @@ pub record FirstLine (bound : ℕ) (s : List ℕ) (r : First) : Type 0 where
   pub line-is : r .line ≡ lineOf bound (before newline s)
   pub length-is : isGood (r .line) ≡ true → r .length ≡ firstPlace newline s
 
--- the first line of s in a book, under the cut-off c: how many bytes it has with its newline, or 0 if it is bad or has none; whether it is
--- listed; the cut-off that it gives
+-- the first line of s in a book, under the cut-off c: how many bytes it has with its newline, or 0 if it is bad or has none;
+-- whether it is listed; the cut-off that it gives
 pub record NextLine (bound : ℕ) (s : List ℕ) (c : Integer) (r : Next) : Type 0 where
   pub size-is : r .size ≡ cond (isGood (lineOf bound (before newline s)) && has newline s) (firstPlace newline s + 1) 0
   pub listed-is : r .listed ≡ isListed c (lineOf bound (before newline s))
@@ -94,8 +94,8 @@ pub record NextLine (bound : ℕ) (s : List ℕ) (c : Integer) (r : Next) : Type
 
 -- ---- a line from one of its places on
 -- the bytes of s from one place to another
-abbrev pub cut : List ℕ → ℕ → ℕ → List ℕ
-cut s start end = take (end - start) (drop start s)
+abbrev pub partFrom : List ℕ → ℕ → ℕ → List ℕ
+partFrom s start end = part s (record { start = start; end = end })
 
 -- what is left at the place `at` of the line that goes on there
 abbrev pub leftAt : List ℕ → ℕ → List ℕ

@@ -1,5 +1,5 @@
--- The listing of a book (RULES 13.10 and 13.11): the `hull` lines whose seconds are at or after the cut-off of the last `since` line above
--- them, all where there is none, in the order of the book, each with its newline.
+-- The listing of a book (RULES 13.10 and 13.11): the `hull` lines whose seconds are at or after the cut-off of the last `since`
+-- line above them, all where there is none, in the order of the book, each with its newline.
 -- Assumes nothing.
 use Prim.Native.Nat.{ℕ}
 use mathlib.Core.Bool.{Bool, true, false, cond}
@@ -23,13 +23,13 @@ use Rattle.stamps.specs.declared.book.Listed.{Listed}
 use Rattle.stamps.specs.declared.book.Listed.the-variants.{Length, Refused}
 
 -- whether seconds are at or after a cut-off; where there is none, all are
-abbrev pub isAfter : Integer → ℤ → Bool
-isAfter (Is c) z = leZ c z
-isAfter Nothing z = true
+abbrev pub isAtOrAfter : Integer → ℤ → Bool
+isAtOrAfter (Is c) z = leZ c z
+isAtOrAfter Nothing z = true
 
 -- whether a line is listed, under the cut-off of the last `since` line above it
 abbrev pub isListed : Integer → Line → Bool
-isListed c (Hull h) = isAfter c (h .time .seconds)
+isListed c (Hull h) = isAtOrAfter c (h .time .seconds)
 isListed c (Since x) = false
 isListed c Bad = false
 
@@ -76,7 +76,7 @@ abbrev pub isWritten : Listed → Bool
 isWritten (Length n) = true
 isWritten (Refused r n) = false
 
--- the number that it returns, the length of the listing, and the line: 0 where they are not told
+-- the number that it returns, the length of the listing, and the line: 0 where there is none
 abbrev pub listedNumber : Listed → ℕ
 listedNumber (Length n) = 0
 listedNumber (Refused r n) = numberOf r

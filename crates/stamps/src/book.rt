@@ -15,7 +15,7 @@ ghost use Rattle.text.specs.Lines.{endedLines, left};
 ghost use Rattle.text.specs.Room.{roomAfter};
 ghost use Rattle.text.specs.declared.number.Integer.the-variants.{Nothing};
 ghost use Rattle.stamps.specs.Book.{maxBook, linesIn, firstBad, checkOf};
-ghost use Rattle.stamps.specs.Listing.{isAfter, orAbove, joined, listing, listOf, isWritten};
+ghost use Rattle.stamps.specs.Listing.{isAtOrAfter, orAbove, joined, listing, listOf, isWritten};
 ghost use Rattle.stamps.specs.Held.{NextLine, markOf, marksOf, picked, badNumber};
 use crate::line;
 use crate::line::Line;
@@ -27,8 +27,11 @@ use time::Refusal;
 // The most bytes that a book has.
 pub const MAX_BOOK: usize = 65536;
 
-// Marks for the lines of a good book: each has at least 10 bytes and its newline.
-const MARKS: usize = 5957;
+// The fewest bytes that a good line takes: 10 and its newline.
+const LEAST_LINE: usize = 11;
+
+// The most lines of a good book, each of which has a mark: 65,536 / 11.
+const MARKS: usize = MAX_BOOK / LEAST_LINE;
 
 // What a check returns: a refusal has its reason and the number, from 1, of the first bad line, or 0
 // if the book is too long.
@@ -167,7 +170,7 @@ fn next_line(months: &[u32], s: &[u8], cut_off: Integer) -> Next
             let time = hull.time;
             Next {
                 size: size_with_newline(s, size),
-                listed: is_after(cut_off, time.seconds),
+                listed: is_at_or_after(cut_off, time.seconds),
                 cut_off: Integer::Nothing,
             }
         }
@@ -208,8 +211,8 @@ fn or_above(own: Integer, above: Integer) -> Integer
 }
 
 // Whether seconds are at or after a cut-off. Without a cut-off all are.
-fn is_after(cut_off: Integer, seconds: i64) -> bool
-    ensures { λ r. ⌜ r ≡ isAfter «cut_off» seconds ⌝ }
+fn is_at_or_after(cut_off: Integer, seconds: i64) -> bool
+    ensures { λ r. ⌜ r ≡ isAtOrAfter «cut_off» seconds ⌝ }
 {
     match cut_off {
         Integer::Is(c) => c <= seconds,

@@ -1,4 +1,4 @@
-// A line of a book, judged alone (RULES 13.2 to 13.7): a hull with its path, its key and its time, a
+// A line of a book, judged alone (RULES 13.2 to 13.7): a hull with a path, a key and a time, a
 // cut-off, or a bad line. A field is scanned once, up to its end, and nothing is copied: a path, a key
 // or a text is answered as its bounds in the line, for `text::words::within`.
 ghost use mathlib.Core.Path.{_≡_};
@@ -10,7 +10,7 @@ ghost use Rattle.text.specs.Number.{fitSigned};
 ghost use Rattle.relative.specs.Relative.{maxPairs};
 ghost use Rattle.stamps.specs.Stamps.{stampOf};
 ghost use Rattle.stamps.specs.Lines.{isPath, hullAt, sinceWith, lineOf};
-ghost use Rattle.stamps.specs.Held.{FirstLine, EndsLine, cut, leftAt, hullLeft, keyLeft, sinceLeft, currentLeft};
+ghost use Rattle.stamps.specs.Held.{FirstLine, EndsLine, partFrom, leftAt, hullLeft, keyLeft, sinceLeft, currentLeft};
 ghost use Rattle.stamps.specs.declared.line.Line.the-variants.{Bad};
 use crate::scan;
 use crate::scan::Class;
@@ -35,7 +35,7 @@ pub(crate) const MAX_PATH: usize = 255;
 
 pub(crate) const KEY: usize = 16;
 
-// A hull: where its path and its key are in the line, and the time of its last commit.
+// A hull: where its path and its key are in the line, and its time.
 pub struct Hull {
     pub path: Span,
     pub key: Span,
@@ -123,8 +123,8 @@ fn first_hull(s: &[u8]) -> First
 
 // The same from its key on: the path ends at a tab.
 fn keyed_hull(s: &[u8], path_end: usize) -> First
-    requires { ⌜ (5 ≤ «path_end») × («path_end» < length (now s)) × (isPath (cut (now s) 5 «path_end») ≡ true) ⌝ }
-    ensures { λ r. ⌜ EndsLine (now (s .entry)) («path_end» + 1) (keyLeft (cut (now (s .entry)) 5 «path_end») (leftAt (now (s .entry)) («path_end» + 1))) r ⌝ }
+    requires { ⌜ (5 ≤ «path_end») × («path_end» < length (now s)) × (isPath (partFrom (now s) 5 «path_end») ≡ true) ⌝ }
+    ensures { λ r. ⌜ EndsLine (now (s .entry)) («path_end» + 1) (keyLeft (partFrom (now (s .entry)) 5 «path_end») (leftAt (now (s .entry)) («path_end» + 1))) r ⌝ }
 {
     let key_start = path_end + 1;
     let key_end = scan::past(s, key_start, Class::Hex);
@@ -140,7 +140,7 @@ fn keyed_hull(s: &[u8], path_end: usize) -> First
 // The same from its time on: the key ends at a tab too.
 fn stamped_hull(s: &[u8], path_end: usize, key_end: usize) -> First
     requires { ⌜ (5 ≤ «path_end») × («path_end» < «key_end») × («key_end» < length (now s)) ⌝ }
-    ensures { λ r. ⌜ EndsLine (now (s .entry)) («key_end» + 1) (hullAt (cut (now (s .entry)) 5 «path_end») (cut (now (s .entry)) («path_end» + 1) «key_end») (stampOf (leftAt (now (s .entry)) («key_end» + 1)))) r ⌝ }
+    ensures { λ r. ⌜ EndsLine (now (s .entry)) («key_end» + 1) (hullAt (partFrom (now (s .entry)) 5 «path_end») (partFrom (now (s .entry)) («path_end» + 1) «key_end») (stampOf (leftAt (now (s .entry)) («key_end» + 1)))) r ⌝ }
 {
     let stamp = stamp::stamp_at(s, key_end + 1);
     let Stamp::At(time) = stamp else {
@@ -176,7 +176,7 @@ fn first_since(months: &[u32], s: &[u8]) -> First
 fn dated_since(months: &[u32], s: &[u8], text_end: usize) -> First
     requires { ⌜ IsMonths (now months) ⌝ }
     requires { ⌜ (6 ≤ «text_end») × («text_end» < length (now s)) ⌝ }
-    ensures { λ r. ⌜ EndsLine (now (s .entry)) («text_end» + 1) (currentLeft maxPairs (cut (now (s .entry)) 6 «text_end») (leftAt (now (s .entry)) («text_end» + 1))) r ⌝ }
+    ensures { λ r. ⌜ EndsLine (now (s .entry)) («text_end» + 1) (currentLeft maxPairs (partFrom (now (s .entry)) 6 «text_end») (leftAt (now (s .entry)) («text_end» + 1))) r ⌝ }
 {
     let seconds = stamp::printed_at(s, text_end + 1, Width::Bits64);
     let seconds_end = seconds.end;
@@ -198,7 +198,7 @@ fn dated_since(months: &[u32], s: &[u8], text_end: usize) -> First
 fn since_with(months: &[u32], s: &[u8], text_end: usize, seconds: Integer, offset: Integer) -> Line
     requires { ⌜ IsMonths (now months) ⌝ }
     requires { ⌜ (6 ≤ «text_end») × («text_end» ≤ length (now s)) × (fitSigned (2 ^ 31) offset ≡ offset) ⌝ }
-    ensures { λ r. ⌜ r ≡ sinceWith maxPairs (cut (now (s .entry)) 6 «text_end») seconds offset ⌝ }
+    ensures { λ r. ⌜ r ≡ sinceWith maxPairs (partFrom (now (s .entry)) 6 «text_end») seconds offset ⌝ }
 {
     let Integer::Is(z) = seconds else {
         return Line::Bad;

@@ -1,5 +1,5 @@
--- `stamps::book::copy_marked` meets its contract. The invariant: the marked lines from `at` on, put behind the bytes that are written, give
--- the answer. The measure is what is left.
+-- `stamps::book::copy_marked` meets its contract. The invariant: the marked lines from `at` on, put behind the bytes that are
+-- written, give the answer. The measure is what is left.
 -- Assumes nothing.
 use Prim.Native.Nat.{_-_}
 use native.Mathlib.Omega.{arith}

@@ -1,5 +1,5 @@
--- `stamps::book::judge_lines` meets its contract. The invariant: the lines in front of `at` are good, and with what the lines from `at` on
--- give, their number, their length and their marks make the answer for the whole. The measure is what is left.
+-- `stamps::book::judge_lines` meets its contract. The invariant: the lines in front of `at` are good, and with what the lines
+-- from `at` on give, their number, their length and their marks make the answer for the whole. The measure is what is left.
 -- Assumes nothing.
 use Prim.Native.Nat.{_-_}
 use native.Mathlib.Omega.{arith}

@@ -7,7 +7,7 @@ use borrow.Author.Needs.{needs}
 use Rattle.ints.proofs.Machine.{back}
 use Rattle.text.specs.declared.number.Integer.the-variants.{Is}
 use Rattle.stamps.specs.Lines.{isGood}
-use Rattle.stamps.specs.Listing.{isAfter, isListed, cutOffIn}
+use Rattle.stamps.specs.Listing.{isAtOrAfter, isListed, cutOffIn}
 use Rattle.stamps.proofs.Books.{next-size, next-none}
 use Rattle.stamps.proofs.book.next_line.Statement.{statement}
 use Rattle.stamps.proofs.book.next_line.Tie as tie
@@ -23,7 +23,7 @@ returns c =
     let hull = at-hull .judged .given .1 in
     record {
       size-is = next-size first _ (ap isGood hull) (at-size .size-with-newline .ensures);
-      listed-is = c .is-after .ensures ∙ ap (λ (z : ℤ). isAfter cut-off z) (back w64 _ (c .before .struct-told .given .0 .1))
+      listed-is = c .is-at-or-after .ensures ∙ ap (λ (z : ℤ). isAtOrAfter cut-off z) (back w64 _ (c .before .struct-told .given .0 .1))
           ∙ ap (isListed cut-off) (sym hull ∙ first .line-is);
       cut-off-is = ap cutOffIn (sym hull ∙ first .line-is);
     }

@@ -1,5 +1,5 @@
--- `stamps::line::dated_since` meets its contract: seconds that no tab follows, an offset that is not the last field, and numbers that may be
--- numbers of a current time.
+-- `stamps::line::dated_since` meets its contract: seconds that no tab follows, an offset that is not the last field, and numbers
+-- that may be numbers of a current time.
 -- Assumes nothing.
 use mathlib.Core.Path.{sym, ap, _∙_}
 use Prim.Native.Nat.{_^_}

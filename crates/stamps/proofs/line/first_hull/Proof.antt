@@ -6,7 +6,7 @@ use Rattle.text.proofs.Runs.{le-past}
 use Rattle.text.specs.Lines.{tab}
 use Rattle.stamps.specs.Lines.{isPathByte}
 use Rattle.stamps.proofs.Fields.{opensWith-drop, lt-length-of-opensWith, ends-bad, ends-behind}
-use Rattle.stamps.proofs.HullLines.{hull-no-path, hull-no-tab, path-ends, hull-keyed, isPath-cut}
+use Rattle.stamps.proofs.HullLines.{hull-no-path, hull-no-tab, path-ends, hull-keyed, isPath-partFrom}
 use borrow.Author.Needs.{needs}
 use Rattle.stamps.proofs.line.first_hull.Statement.{statement}
 use Rattle.stamps.proofs.line.first_hull.Tie as tie
@@ -23,7 +23,7 @@ keyed-hull-requires c κs =
     let at-past = c .before .before .before in
     let s = at-past .before .before .args .s .now in
     let o = opensWith-drop tab s (at-past .past .result) ∙ sym (c .before .is-at .ensures) ∙ c .if2 .taken in
-    (omega (arith, le-past isPathByte s 5, at-past .past .ensures), lt-length-of-opensWith tab s _ o, isPath-cut s _ (at-past .past .ensures) o (c .before .before .if1 .left))
+    (omega (arith, le-past isPathByte s 5, at-past .past .ensures), lt-length-of-opensWith tab s _ o, isPath-partFrom s _ (at-past .past .ensures) o (c .before .before .if1 .left))
 
 -- a path that a tab follows: the line goes on there
 returns-2 : tie.Need-returns-2

@@ -12,7 +12,7 @@ use Rattle.ints.proofs.Machine.{known, read, fits, back}
 use Rattle.time.specs.Answers.{timeAt}
 use Rattle.relative.specs.Relative.{maxPairs}
 use Rattle.stamps.specs.Lines.{sinceAt, sinceWith}
-use Rattle.stamps.specs.Held.{cut}
+use Rattle.stamps.specs.Held.{partFrom}
 use Rattle.stamps.specs.declared.line.Line.the-variants.{Since}
 use Rattle.stamps.proofs.Stamps.{In-of-fitSigned}
 use Rattle.stamps.proofs.SinceLines.{sinceAt-is}
@@ -27,7 +27,7 @@ cast-new : tie.Need-cast-new
 cast-new c = fits w32 tt (known w64 tt (offset-in c))
 
 -- the line with the answer of the text
-answered : (c : tie.After-parse-with) → let a = c .before .before .before .before .before .before .before .before .before .before .before .args in let text = cut (a .s .now) 6 (a .text-end) in sinceAt text (c .before .before .new .result) (c .parse-with .result) ≡ sinceWith maxPairs text (a .seconds) (a .offset)
+answered : (c : tie.After-parse-with) → let a = c .before .before .before .before .before .before .before .before .before .before .before .args in let text = partFrom (a .s .now) 6 (a .text-end) in sinceAt text (c .before .before .new .result) (c .parse-with .result) ≡ sinceWith maxPairs text (a .seconds) (a .offset)
 answered c =
     let at-new = c .before .before in
     let at-o = at-new .before in
@@ -49,9 +49,9 @@ returns-4 c =
     let start = at-new .before .before .before .before .before .before .before .before .before in
     let s = start .args .s .now in
     let e = start .args .text-end in
-    let l : e ≡ 6 + length (cut s 6 e) = omega (arith, length-take-le (e - 6) (drop 6 s) (omega (arith, length-drop 6 s, start .pre .1 .1)), start .pre .1 .0) in
+    let l : e ≡ 6 + length (partFrom s 6 e) = omega (arith, length-take-le (e - 6) (drop 6 s) (omega (arith, length-drop 6 s, start .pre .1 .1)), start .pre .1 .0) in
     (λ i. Since (record { text = record { start = 6; end = l i }; current = at-new .new .result; «cut_off» = at-answer .answer .given .0 .0 }))
-    ∙ sym (ap (sinceAt (cut s 6 e) (at-new .new .result)) (at-answer .answer .given .1)) ∙ answered at-parse
+    ∙ sym (ap (sinceAt (partFrom s 6 e) (at-new .new .result)) (at-answer .answer .given .1)) ∙ answered at-parse
 
 pub since-with-spec : {M : Type 1} → statement M
 since-with-spec =
