@@ -34,6 +34,7 @@ use Rattle.stamps.specs.declared.line.Line.{Line}
 use Rattle.stamps.specs.declared.line.Line.the-variants.{Hull, Since, Bad}
 use Rattle.stamps.specs.declared.book.Checked.{Checked}
 use Rattle.stamps.specs.declared.book.Checked.the-variants.{Good, Refused}
+use Rattle.stamps.proofs.Reading.{bad-of-not-good}
 use Rattle.stamps.proofs.Books.{length-joined, takenBy-le, firstBad-good, firstBad-bad, le-firstBad, areGood-append, good-book, book-of-good, checkOf-long}
 use Rattle.stamps.proofs.Marks.{picked-marksOf}
 
@@ -125,11 +126,6 @@ good-book-iff bound book = (
 )
 
 -- ---- at which line a book is refused
-bad-of-not-good : (l : Line) → isGood l ≡ false → l ≡ Bad
-bad-of-not-good (Hull h) e = absurd (false≢true (sym e))
-bad-of-not-good (Since x) e = absurd (false≢true (sym e))
-bad-of-not-good Bad e = refl
-
 -- n lines are good, and the next one is bad
 abbrev FirstBadAt : ℕ → List Line → Type 0
 FirstBadAt n ls = (areGood (take n ls) ≡ true) × (drop n ls ≡ Bad ∷ drop (suc n) ls)
