@@ -1,5 +1,4 @@
--- Examples of books (RULES 13), worked out by hand and computed: each is under the words that it shows. In order: what checks return;
--- listings.
+-- Examples of books (RULES 13), worked out by hand and computed, as one table: each is under the words that it shows.
 -- Assumes nothing.
 use Prim.Native.Nat.{ℕ}
 use Prim.Native.String.{String}
@@ -36,13 +35,15 @@ hull path time = bytes "hull" ++ tab ∷ bytes path ++ tab ∷ bytes "0123456789
 abbrev since : List ℕ → String → String → List ℕ
 since text seconds offset = bytes "since" ++ tab ∷ text ++ tab ∷ bytes seconds ++ tab ∷ bytes offset
 
--- ---- what checks return
+-- ---- what a check returns, and what is listed
 data Example : Type 0 where
   checks : List ℕ → Checked → Example
+  lists : List (List ℕ) → List (List ℕ) → Example
 
 abbrev AllRight : List Example → Type 0
 AllRight [] = Unit {0}
 AllRight (checks book r ∷ es) = (checkOf maxPairs book ≡ r) × AllRight es
+AllRight (lists ls kept ∷ es) = (listing maxPairs (joined ls) ≡ joined kept) × AllRight es
 
 abbrev books : List Example
 books =
@@ -67,21 +68,13 @@ books =
     ∷ checks (joined (since (bytes "1" ++ 13 ∷ bytes "day" ++ 0 ∷ []) "1622462400" "0" ∷ [])) Good
     -- the text must be read at that current time: this one is out of range, even for `now`
     ∷ checks (joined (since (bytes "now") "253402207201" "0" ∷ [])) (Refused Book 1)
+    -- a hull above the `since` line is listed whatever its seconds are; below it, one at the cut-off is listed, and one before it is not.
+    -- The offset of a hull does not matter
+    ∷ lists (hull "a" "1 +0000" ∷ since (bytes "1 second ago") "6" "0" ∷ hull "b" "4 +0000" ∷ hull "c" "5 -0100" ∷ []) (hull "a" "1 +0000" ∷ hull "c" "5 -0100" ∷ [])
+    -- the last `since` line above counts, not the strictest
+    ∷ lists (since (bytes "now") "9" "0" ∷ since (bytes "now") "1" "0" ∷ hull "a" "5 +0000" ∷ []) (hull "a" "5 +0000" ∷ [])
     ∷ []
 
-check-examples : AllRight books
-unfolding checkOf firstBad linesIn judged lineOf sinceOf hullOf isKey isHexDigit isPath isPathByte every stampOf isWholeMinutes printed joined relativeOf byPairs namedOf from steps step landed landing pairsFrom agoFrom known unitOf unitNamed singular countOf spelled wordsOf headerOf headerOfWords headerOffset secondsOf offsetOf fieldsOf lastField fieldOf fiveOrSeven timeInRange offsetInRange secondsInRange wholeMinutes signByte headerSign headerBytes left takenBy endedLines fitSigned fit signedOf unsignedOf digitsOf readFrom has firstPlace run signedBefore signed decimal digitsUpTo full pieces words trimStart trimEnd trim sameLetters same ascii lowerOf isSign isAlphanumeric isDigit isSpace
-check-examples = (refl, (refl, (refl, (refl, (refl, (refl, (refl, (refl, (refl, (refl, (refl, (refl, tt))))))))))))
-
--- ---- listings
--- a hull above the `since` line is listed whatever its seconds are; below it, one at the cut-off is listed, and one before it is not. The
--- offset of a hull does not matter
-at-or-after-the-cut-off : listing maxPairs (joined (hull "a" "1 +0000" ∷ since (bytes "1 second ago") "6" "0" ∷ hull "b" "4 +0000" ∷ hull "c" "5 -0100" ∷ []))
-    ≡ joined (hull "a" "1 +0000" ∷ hull "c" "5 -0100" ∷ [])
-unfolding listing listed lineOf sinceOf hullOf isKey isHexDigit isPath isPathByte every stampOf isWholeMinutes printed joined relativeOf byPairs namedOf from steps step landed landing pairsFrom agoFrom known unitOf unitNamed singular countOf spelled wordsOf headerOf headerOfWords headerOffset secondsOf offsetOf fieldsOf lastField fieldOf fiveOrSeven timeInRange offsetInRange secondsInRange wholeMinutes signByte headerSign headerBytes endedLines fitSigned fit signedOf unsignedOf digitsOf readFrom has firstPlace run signedBefore signed decimal digitsUpTo full pieces words trimStart trimEnd trim sameLetters same ascii lowerOf isSign isAlphanumeric isDigit isSpace
-at-or-after-the-cut-off = refl
-
--- the last `since` line above counts, not the strictest
-last-since-counts : listing maxPairs (joined (since (bytes "now") "9" "0" ∷ since (bytes "now") "1" "0" ∷ hull "a" "5 +0000" ∷ [])) ≡ joined (hull "a" "5 +0000" ∷ [])
-unfolding listing listed lineOf sinceOf hullOf isKey isHexDigit isPath isPathByte every stampOf isWholeMinutes printed joined relativeOf byPairs namedOf from steps step landed landing pairsFrom agoFrom known unitOf unitNamed singular countOf spelled wordsOf headerOf headerOfWords headerOffset secondsOf offsetOf fieldsOf lastField fieldOf fiveOrSeven timeInRange offsetInRange secondsInRange wholeMinutes signByte headerSign headerBytes endedLines fitSigned fit signedOf unsignedOf digitsOf readFrom has firstPlace run signedBefore signed decimal digitsUpTo full pieces words trimStart trimEnd trim sameLetters same ascii lowerOf isSign isAlphanumeric isDigit isSpace
-last-since-counts = refl
+book-examples : AllRight books
+unfolding checkOf firstBad linesIn judged lineOf sinceOf hullOf isKey isHexDigit isPath isPathByte every stampOf isWholeMinutes printed joined relativeOf byPairs namedOf from steps step landed landing pairsFrom agoFrom known unitOf unitNamed singular countOf spelled wordsOf headerOf headerOfWords headerOffset secondsOf offsetOf fieldsOf lastField fieldOf fiveOrSeven timeInRange offsetInRange secondsInRange wholeMinutes signByte headerSign headerBytes left takenBy endedLines fitSigned fit signedOf unsignedOf digitsOf readFrom has firstPlace run signedBefore signed decimal digitsUpTo full pieces words trimStart trimEnd trim sameLetters same ascii lowerOf isSign isAlphanumeric isDigit isSpace listing listed
+book-examples = (refl, (refl, (refl, (refl, (refl, (refl, (refl, (refl, (refl, (refl, (refl, (refl, (refl, (refl, tt))))))))))))))

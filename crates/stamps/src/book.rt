@@ -33,6 +33,9 @@ const LEAST_LINE: usize = 11;
 // The most lines of a good book, each of which has a mark: 65,536 / 11.
 const MARKS: usize = MAX_BOOK / LEAST_LINE;
 
+// The mark of a line that is listed. Any other line has the mark 0.
+const LISTED: u8 = 1;
+
 // What a check returns: a refusal has its reason and the number, from 1, of the first bad line, or 0
 // if the book is too long.
 pub enum Checked {
@@ -244,7 +247,7 @@ fn mark_of(listed: bool) -> u8
     ensures { λ r. ⌜ r ≡ markOf listed ⌝ }
 {
     if listed {
-        return 1;
+        return LISTED;
     }
     0
 }
@@ -277,5 +280,5 @@ fn is_marked(marks: &[u8], n: usize) -> bool
     if marks.len() <= n {
         return false;
     }
-    marks[n] == 1
+    marks[n] == LISTED
 }
