@@ -1,7 +1,7 @@
 #!/usr/bin/env python3
 """Judges, checks and lists a book of stamps: a reference that shares no code with the library.
 
-It was written from the words of docs/RULES.md (2.4, 3, 4.1, 7, 9.1, 13) and from nothing else.
+It was written from the words of docs/RULES.md (2.4, 3, 4.1, 7, 9.1), and for the book from those that section 13 was made from.
 Every number is a Python integer, so nothing here can overflow.
 
 Usage: book.py list < BOOK      the number, the line and the length, then the listing
