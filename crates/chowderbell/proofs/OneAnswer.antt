@@ -33,12 +33,15 @@ use Rattle.time.proofs.Time.write_iso.Reads as write-iso
 use Rattle.time.proofs.Time.write_iso_with.Reads as write-iso-with
 use Rattle.header.proofs.parse_header.Reads as parse-header
 use Rattle.header.proofs.raw.parse_raw.Reads as parse-raw
+use Rattle.header.proofs.raw.parse_raw_by.Reads as parse-raw-by
 use Rattle.iso.proofs.parse_git_date_format.Reads as parse-git-date-format
 use Rattle.iso.proofs.parse_git_date_format_with.Reads as parse-git-date-format-with
 use Rattle.relative.proofs.parse.Reads as relative-parse
 use Rattle.relative.proofs.parse_with.Reads as relative-parse-with
 use Rattle.dates.proofs.parse.Reads as dates-parse
 use Rattle.dates.proofs.parse_with.Reads as dates-parse-with
+use Rattle.dates.proofs.parse_by.Reads as dates-parse-by
+use Rattle.dates.proofs.parse_by_with.Reads as dates-parse-by-with
 use Rattle.stamps.proofs.line.read.Reads as line-read
 use Rattle.stamps.proofs.line.read_with.Reads as line-read-with
 use Rattle.stamps.proofs.write.write_hull.Reads as write-hull
@@ -50,9 +53,11 @@ use Rattle.stamps.proofs.book.list.Reads as book-list
 use Rattle.stamps.proofs.book.list_with.Reads as book-list-with
 use Rattle.chowderbell.proofs.times.chowderbell_header.Reads as chowderbell-header
 use Rattle.chowderbell.proofs.times.chowderbell_raw.Reads as chowderbell-raw
+use Rattle.chowderbell.proofs.times.chowderbell_raw_by.Reads as chowderbell-raw-by
 use Rattle.chowderbell.proofs.times.chowderbell_iso.Reads as chowderbell-iso
 use Rattle.chowderbell.proofs.times.chowderbell_relative.Reads as chowderbell-relative
 use Rattle.chowderbell.proofs.times.chowderbell_any.Reads as chowderbell-any
+use Rattle.chowderbell.proofs.times.chowderbell_any_by.Reads as chowderbell-any-by
 use Rattle.chowderbell.proofs.times.chowderbell_size.Reads as chowderbell-size
 use Rattle.chowderbell.proofs.times.chowderbell_write_header.Reads as chowderbell-write-header
 use Rattle.chowderbell.proofs.times.chowderbell_write_iso.Reads as chowderbell-write-iso
@@ -121,6 +126,9 @@ parse-header-unique κ a r s e f = one-answer
 pub parse-raw-unique : OneAnswer parse-raw.Post
 parse-raw-unique κ a r s e f = one-answer
 
+pub parse-raw-by-unique : OneAnswer parse-raw-by.Post
+parse-raw-by-unique κ a r s e f = one-answer
+
 pub parse-git-date-format-unique : OneAnswer parse-git-date-format.Post
 parse-git-date-format-unique κ a r s e f = one-answer
 
@@ -138,6 +146,12 @@ dates-parse-unique κ a r s e f = one-answer
 
 pub dates-parse-with-unique : OneAnswer dates-parse-with.Post
 dates-parse-with-unique κ a r s e f = one-answer
+
+pub dates-parse-by-unique : OneAnswer dates-parse-by.Post
+dates-parse-by-unique κ a r s e f = one-answer
+
+pub dates-parse-by-with-unique : OneAnswer dates-parse-by-with.Post
+dates-parse-by-with-unique κ a r s e f = one-answer
 
 -- ---- books of stamps: a line read, a line written with every byte of the room, a book checked, a book listed with every byte of the room
 pub line-read-unique : OneAnswer line-read.Post
@@ -178,6 +192,9 @@ chowderbell-header-unique κ a r s e f = HandedOut-unique
 pub chowderbell-raw-unique : OneAnswerAnd chowderbell-raw.Post (ℤ × ℤ) (λ κ e. (now (e .1 .0), now (e .1 .1 .0)))
 chowderbell-raw-unique κ a r s e f = HandedOut-unique
 
+pub chowderbell-raw-by-unique : OneAnswerAnd chowderbell-raw-by.Post (ℤ × ℤ) (λ κ e. (now (e .1 .1 .0), now (e .1 .1 .1 .0)))
+chowderbell-raw-by-unique κ a r s e f = HandedOut-unique
+
 pub chowderbell-iso-unique : OneAnswerAnd chowderbell-iso.Post (ℤ × ℤ) (λ κ e. (now (e .1 .0), now (e .1 .1 .0)))
 chowderbell-iso-unique κ a r s e f = HandedOut-unique
 
@@ -186,6 +203,9 @@ chowderbell-relative-unique κ a r s e f = HandedOut-unique
 
 pub chowderbell-any-unique : OneAnswerAnd chowderbell-any.Post (ℤ × ℤ) (λ κ e. (now (e .1 .1 .1 .1 .0), now (e .1 .1 .1 .1 .1 .0)))
 chowderbell-any-unique κ a r s e f = HandedOut-unique
+
+pub chowderbell-any-by-unique : OneAnswerAnd chowderbell-any-by.Post (ℤ × ℤ) (λ κ e. (now (e .1 .1 .1 .1 .1 .0), now (e .1 .1 .1 .1 .1 .1 .0)))
+chowderbell-any-by-unique κ a r s e f = HandedOut-unique
 
 -- ---- the size and the writers for C: the number returned, the length stored, and every byte of the room
 written-unique : {w : Written} {n m k l : ℕ} {t u b : List ℕ} → HandedLength w n k × (t ≡ b) → HandedLength w m l × (u ≡ b) → (n ≡ m) × _≡_ {A = ℕ × List ℕ} (k, t) (l, u)

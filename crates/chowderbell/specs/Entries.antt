@@ -1,24 +1,45 @@
--- RULES 2.1 for C: what the entries read as the current time, and what they return and store for the answer of a reader, of a writer, of
--- a check of a book and of its listing.
+-- RULES 2.1 for C: what the entries read as the current time and as the rule of raw dates, and what they return and store for the answer
+-- of a reader, of a writer, of a check of a book and of its listing.
 -- Assumes nothing.
 use Prim.Native.Nat.{ℕ}
 use mathlib.Core.Path.{_≡_}
 use mathlib.Core.Bool.{cond}
+use mathlib.Core.List.{List}
 use lib.Dec.{eqb}
 use lib.IntN.{ℤ}
+use Rattle.text.specs.Bytes.{ascii}
 use Rattle.time.specs.Answers.{timeAt, answerNumber, answerTime, writtenNumber, writtenLength}
 use Rattle.time.specs.declared.Answer.{Answer}
+use Rattle.time.specs.declared.Answer.the-variants.{Refused}
+use Rattle.time.specs.declared.Refusal.the-variants.{NotAscii, Form}
 use Rattle.time.specs.declared.Now.{Now}
 use Rattle.time.specs.declared.Now.the-variants.{Missing, At}
 use Rattle.time.specs.declared.Written.{Written}
+use Rattle.header.specs.Raw.{Limits, limitsOf}
+use Rattle.header.specs.declared.raw.Rule.the-variants.{One, Two}
 use Rattle.stamps.specs.Book.{checkedNumber, checkedLine}
 use Rattle.stamps.specs.Listing.{listedNumber, listedLength, listedLine}
 use Rattle.stamps.specs.declared.book.Checked.{Checked}
 use Rattle.stamps.specs.declared.book.Listed.{Listed}
+use Rattle.chowderbell.specs.declared.times.Named.{Named}
+use Rattle.chowderbell.specs.declared.times.Named.the-variants.{By, Nothing}
 
 -- the current time: missing if the byte is 0, and otherwise the two numbers
 abbrev pub nowOf : ℕ → ℤ → ℤ → Now
 nowOf hasNow seconds offset = cond (eqb hasNow 0) Missing (At (timeAt seconds offset))
+
+-- the rule that a number names
+abbrev pub ruleOf : ℕ → Named
+ruleOf n = cond (eqb n 1) (By One) (cond (eqb n 2) (By Two) Nothing)
+
+-- without a rule every text is refused by 2, after 1
+abbrev pub noRule : List ℕ → Answer
+noRule s = cond (ascii s) (Refused Form) (Refused NotAscii)
+
+-- RULES 5.8: what a reader answers to s whose caller names the rule; `by` is what it answers by limits
+abbrev pub ruled : Named → (Limits → Answer) → List ℕ → Answer
+ruled (By r) by s = by (limitsOf r)
+ruled Nothing by s = noRule s
 
 -- a reader returns the number of its answer and stores the time, which is 0 at offset 0 for a refusal
 pub record HandedOut (a : Answer) (number : ℕ) (seconds offset : ℤ) : Type 0 where

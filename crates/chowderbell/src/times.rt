@@ -11,13 +11,23 @@ ghost use Rattle.header.specs.Raw.{rawOf, rule1};
 ghost use Rattle.iso.specs.Iso.{isoOf};
 ghost use Rattle.relative.specs.Relative.{maxPairs, relativeOf};
 ghost use Rattle.dates.specs.Any.{anyOf};
-ghost use Rattle.chowderbell.specs.Entries.{nowOf, HandedOut, HandedLength};
+ghost use Rattle.chowderbell.specs.Entries.{nowOf, ruleOf, noRule, ruled, HandedOut, HandedLength};
+use header::raw;
+use header::raw::Rule;
+use text::bytes;
 use time::Answer;
 use time::Now;
+use time::Refusal;
 use time::Time;
 use time::Written;
 
 pub(crate) const SUCCESS: u8 = 0;
+
+// The rule that a number names, or that it names none.
+enum Named {
+    By(Rule),
+    Nothing,
+}
 
 #[no_mangle]
 pub extern "C" fn chowderbell_header(text: &[u8], seconds: &mut i64, offset: &mut i32) -> u8
@@ -30,7 +40,20 @@ pub extern "C" fn chowderbell_header(text: &[u8], seconds: &mut i64, offset: &mu
 pub extern "C" fn chowderbell_raw(text: &[u8], seconds: &mut i64, offset: &mut i32) -> u8
     ensures { λ r. ⌜ HandedOut (rawOf rule1 (now (text .entry))) r (now (seconds .exit)) (now (offset .exit)) ⌝ }
 {
-    hand_out(header::raw::parse_raw(text), seconds, offset)
+    hand_out(raw::parse_raw(text), seconds, offset)
+}
+
+// The number of the rule comes from the caller, so it may name none.
+#[no_mangle]
+pub extern "C" fn chowderbell_raw_by(
+    rule: u32,
+    text: &[u8],
+    seconds: &mut i64,
+    offset: &mut i32,
+) -> u8
+    ensures { λ r. ⌜ HandedOut (ruled (ruleOf rule) (λ l. rawOf l (now (text .entry))) (now (text .entry))) r (now (seconds .exit)) (now (offset .exit)) ⌝ }
+{
+    hand_out(raw_by(rule_of(rule), text), seconds, offset)
 }
 
 #[no_mangle]
@@ -72,6 +95,29 @@ pub extern "C" fn chowderbell_any(
 {
     hand_out(
         dates::parse(text, now_of(has_now, now_seconds, now_offset)),
+        seconds,
+        offset,
+    )
+}
+
+#[no_mangle]
+pub extern "C" fn chowderbell_any_by(
+    rule: u32,
+    text: &[u8],
+    has_now: u8,
+    now_seconds: i64,
+    now_offset: i32,
+    seconds: &mut i64,
+    offset: &mut i32,
+) -> u8
+    ensures { λ r. ⌜ HandedOut (ruled (ruleOf rule) (λ l. anyOf l (now (text .entry)) (nowOf «has_now» «now_seconds» «now_offset»)) (now (text .entry))) r (now (seconds .exit)) (now (offset .exit)) ⌝ }
+{
+    hand_out(
+        any_by(
+            rule_of(rule),
+            text,
+            now_of(has_now, now_seconds, now_offset),
+        ),
         seconds,
         offset,
     )
@@ -120,6 +166,46 @@ fn now_of(has_now: u8, now_seconds: i64, now_offset: i32) -> Now
         return Now::Missing;
     }
     Now::At(Time::new(now_seconds, now_offset))
+}
+
+fn rule_of(number: u32) -> Named
+    ensures { λ r. ⌜ r ≡ ruleOf number ⌝ }
+{
+    if number == 1 {
+        return Named::By(Rule::One);
+    }
+    if number == 2 {
+        return Named::By(Rule::Two);
+    }
+    Named::Nothing
+}
+
+fn raw_by(named: Named, text: &[u8]) -> Answer
+    ensures { λ r. ⌜ r ≡ ruled named (λ l. rawOf l (now (text .entry))) (now (text .entry)) ⌝ }
+{
+    let Named::By(rule) = named else {
+        return without_rule(text);
+    };
+    raw::parse_raw_by(text, rule)
+}
+
+fn any_by(named: Named, text: &[u8], current: Now) -> Answer
+    ensures { λ r. ⌜ r ≡ ruled named (λ l. anyOf l (now (text .entry)) current) (now (text .entry)) ⌝ }
+{
+    let Named::By(rule) = named else {
+        return without_rule(text);
+    };
+    dates::parse_by(text, rule, current)
+}
+
+// Without a rule every text is refused: by 1 if it holds a byte of 128 or more, and by 2 otherwise.
+fn without_rule(text: &[u8]) -> Answer
+    ensures { λ r. ⌜ r ≡ noRule (now (text .entry)) ⌝ }
+{
+    if bytes::is_ascii(text) {
+        return Answer::Refused(Refusal::Form);
+    }
+    Answer::Refused(Refusal::NotAscii)
 }
 
 // Returns the number of a reader's answer and stores its time, which is 0 at offset 0 for a refusal.

@@ -1,8 +1,10 @@
 // Reads a date in any form, as Git writes it or people type it: the forms are tried one after the other (RULES 8).
 ghost use mathlib.Core.Path.{_≡_};
 ghost use Rattle.calendar.specs.Table.{IsMonths};
-ghost use Rattle.header.specs.Raw.{rule1};
+ghost use Rattle.header.specs.Raw.{rule1, limitsOf};
 ghost use Rattle.dates.specs.Any.{settles as settlesOf, isSettled, numbered as numberedOf, markedOf, plainOf, anyOf};
+use header::raw;
+use header::raw::Rule;
 use text::number;
 use text::number::Integer;
 use text::number::Width;
@@ -17,20 +19,35 @@ const LEAST_PLAIN: i64 = 100000000;
 // The least number of 64 signed bits.
 const LEAST_64: i64 = -9223372036854775808;
 
-// Reads a date in any form. Only a relative date uses the current time.
+// Reads a date in any form. Raw dates are read by rule 1. Only a relative date uses the current time.
 pub fn parse(s: &[u8], current: Now) -> Answer
     ensures { λ r. ⌜ r ≡ anyOf rule1 (now (s .entry)) current ⌝ }
 {
     parse_with(&[], s, current)
 }
 
-// The same with a table of months, or a leading part of it, for callers that read many texts. No test for bytes of 128 or more is
-// needed here, because each reader below makes its own.
+// The same with a table of months, or a leading part of it, for callers that read many texts.
 pub fn parse_with(months: &[u32], s: &[u8], current: Now) -> Answer
     requires { ⌜ IsMonths (now months) ⌝ }
     ensures { λ r. ⌜ r ≡ anyOf rule1 (now (s .entry)) current ⌝ }
 {
-    let plain = parse_plain(s);
+    parse_by_with(months, s, Rule::One, current)
+}
+
+// Reads a date in any form. Raw dates are read by the rule that the caller names.
+pub fn parse_by(s: &[u8], rule: Rule, current: Now) -> Answer
+    ensures { λ r. ⌜ r ≡ anyOf (limitsOf rule) (now (s .entry)) current ⌝ }
+{
+    parse_by_with(&[], s, rule, current)
+}
+
+// The same with a table of months, as in `parse_with`. No test for bytes of 128 or more is needed here, because each reader below
+// makes its own.
+pub fn parse_by_with(months: &[u32], s: &[u8], rule: Rule, current: Now) -> Answer
+    requires { ⌜ IsMonths (now months) ⌝ }
+    ensures { λ r. ⌜ r ≡ anyOf (limitsOf rule) (now (s .entry)) current ⌝ }
+{
+    let plain = parse_plain(s, rule);
     if is_settled(plain) {
         return plain;
     }
@@ -42,30 +59,30 @@ pub fn parse_with(months: &[u32], s: &[u8], current: Now) -> Answer
     if is_settled(relative) {
         return relative;
     }
-    header::raw::parse_raw(s)
+    raw::parse_raw_by(s, rule)
 }
 
 // The forms that need no calendar: `@` and then a raw date or a number, or else a plain number of at least LEAST_PLAIN. A text that
 // starts with `@` is not a number, so only one of the two is tried.
-fn parse_plain(s: &[u8]) -> Answer
-    ensures { λ r. ⌜ r ≡ plainOf rule1 (now (s .entry)) ⌝ }
+fn parse_plain(s: &[u8], rule: Rule) -> Answer
+    ensures { λ r. ⌜ r ≡ plainOf (limitsOf rule) (now (s .entry)) ⌝ }
 {
     if s.len() == 0 {
         return Answer::Refused(Refusal::Form);
     }
     if s[0] == b'@' {
-        return parse_marked(&s[1..]);
+        return parse_marked(&s[1..], rule);
     }
     numbered(LEAST_PLAIN, number::signed_number(s, Width::Bits64))
 }
 
 // Reads what follows `@`: as a raw date, or else as any number of 64 signed bits.
-fn parse_marked(s: &[u8]) -> Answer
-    ensures { λ r. ⌜ r ≡ markedOf rule1 (now (s .entry)) ⌝ }
+fn parse_marked(s: &[u8], rule: Rule) -> Answer
+    ensures { λ r. ⌜ r ≡ markedOf (limitsOf rule) (now (s .entry)) ⌝ }
 {
-    let raw = header::raw::parse_raw(s);
-    if is_settled(raw) {
-        return raw;
+    let marked = raw::parse_raw_by(s, rule);
+    if is_settled(marked) {
+        return marked;
     }
     numbered(LEAST_64, number::signed_number(s, Width::Bits64))
 }

@@ -10,5 +10,6 @@ pub mod Usual
 pub mod Shortcuts
 pub mod ReadBack
 pub mod Reach
+pub mod Rules
 pub mod Alike
 pub mod Examples

@@ -1,11 +1,11 @@
--- Raw dates (RULES 5.6 and 5.7). The limits on hours and minutes are a parameter; those of RULES 5.7 are called rule 1. Two
--- examples: `5 +1445` is 5 at offset 53100, and `5 ++5+0` is 5 at offset 18000.
+-- Raw dates (RULES 5.6 and 5.7). The limits on hours and minutes are a parameter; a rule fixes them. Three examples: by both rules
+-- `5 +1445` is 5 at offset 53100 and `5 ++5+0` is 5 at offset 18000; `5 +0520` is 5 at offset 19200 by rule 2, and 2 by rule 1.
 -- Assumes nothing.
 use Prim.Native.Nat.{ℕ}
 use mathlib.Core.Bool.{Bool, cond, _&&_, _||_}
 use mathlib.Core.List.{List, [], _∷_}
 use lib.IntN.{ℤ, pos}
-use lib.Signed.{leZ}
+use lib.Signed.{leZ, ltZ}
 use Rattle.ints.specs.Equal.{eqZ}
 use Rattle.text.specs.Bytes.{isSpace, ascii}
 use Rattle.text.specs.Words.{words}
@@ -21,14 +21,14 @@ use Rattle.header.specs.declared.offset.Fields.{Fields}
 use Rattle.header.specs.declared.offset.Parsed.{Parsed}
 use Rattle.header.specs.declared.offset.Parsed.the-variants.{Offset, Nothing as NoOffset}
 use Rattle.header.specs.declared.raw.Rule.{Rule}
-use Rattle.header.specs.declared.raw.Rule.the-variants.{One}
+use Rattle.header.specs.declared.raw.Rule.the-variants.{One, Two}
 
 -- which hours and which minutes are allowed
 pub record Limits : Type 0 where
   pub hours : ℤ → Bool
   pub minutes : ℤ → Bool
 
--- hours are at most 14; minutes are 0, 15, 30 or 45
+-- rule 1: hours are at most 14; minutes are 0, 15, 30 or 45
 abbrev pub rule1 : Limits
 rule1 =
     record {
@@ -36,9 +36,14 @@ rule1 =
       minutes = λ m. eqZ m (pos 0) || eqZ m (pos 15) || eqZ m (pos 30) || eqZ m (pos 45);
     }
 
+-- rule 2: hours are below 24; minutes are below 60
+abbrev pub rule2 : Limits
+rule2 = record { hours = λ h. ltZ h (pos 24); minutes = λ m. ltZ m (pos 60) }
+
 -- the limits of a rule
 abbrev pub limitsOf : Rule → Limits
 limitsOf One = rule1
+limitsOf Two = rule2
 
 -- the fields are within the limits, and seconds are 0
 unfoldable pub allows : Limits → Fields → Bool

@@ -1,5 +1,6 @@
--- What the theorems about headers speak of (docs/PROMISES.md): the seconds that 64 bits hold; the offsets that a header can give,
--- and a header for each of them; the texts on which the raw and the header reader agree. No contract cites these.
+-- What the theorems about headers and raw dates speak of (docs/PROMISES.md): the seconds that 64 bits hold; the offsets that a
+-- header can give, and a header for each of them; what a raw date is, within any limits; limits within others; the texts on which
+-- the raw and the header reader agree. No contract cites these.
 -- Assumes nothing.
 use Prim.Native.Nat.{ℕ, _-_, _*_, _/_, _^_, min}
 use mathlib.Core.Path.{_≡_}
@@ -9,11 +10,18 @@ use mathlib.Core.Logic.{_⊎_}
 use lib.IntN.{ℤ, pos, negsuc, natAbs}
 use lib.ListN.{getD}
 use Rattle.ints.specs.Range.{In}
-use Rattle.text.specs.Bytes.{isDigit}
+use Rattle.text.specs.Bytes.{isSpace, isDigit, ascii}
+use Rattle.text.specs.Words.{words}
 use Rattle.text.specs.Decimal.{signedBefore, twoBefore}
+use Rattle.text.specs.declared.number.Integer.the-variants.{Is}
 use Rattle.time.specs.Header.{signByte, space}
 use Rattle.time.specs.declared.Time.{Time}
-use Rattle.header.specs.Offset.{secondWord}
+use Rattle.header.specs.Offset.{secondWord, fieldsOf, offsetOf}
+use Rattle.header.specs.Header.{number64}
+use Rattle.header.specs.Raw.{Limits, allows}
+use Rattle.header.specs.declared.offset.Field.the-variants.{Byte}
+use Rattle.header.specs.declared.offset.Fields.{Fields}
+use Rattle.header.specs.declared.offset.Parsed.the-variants.{Offset}
 
 -- the seconds that 64 bits hold
 abbrev pub Seconds64 : ℤ → Type 0
@@ -40,6 +48,22 @@ sevenBytes o = signByte o ∷ twoBefore (hoursIn (natAbs o)) (twoBefore (minutes
 -- a header of these seconds and this offset
 abbrev pub headerWith : ℤ → ℤ → List ℕ
 headerWith z o = signedBefore z (space ∷ sevenBytes o)
+
+-- s is a raw date of the time t: ASCII, and two words, a 64-bit number and an offset whose unsigned fields the limits allow
+pub record RawDate (l : Limits) (s : List ℕ) (t : Time) : Type 0 where
+  pub ascii-is : ascii s ≡ true
+  pub first : List ℕ
+  pub second : List ℕ
+  pub fields : Fields
+  pub words-are : words isSpace s ≡ first ∷ second ∷ []
+  pub number-is : number64 first ≡ Is (t .seconds)
+  pub fields-are : fieldsOf Byte second ≡ Offset fields
+  pub allowed : allows l fields ≡ true
+  pub offset-is : offsetOf fields ≡ t .offset
+
+-- the second limits allow whatever the first allow
+abbrev pub Within : Limits → Limits → Type 0
+Within l m = (f : Fields) → allows l f ≡ true → allows m f ≡ true
 
 -- where raw accepts s as t, the two readers agree if the byte after the offset's sign is a digit, or the offset is 0
 abbrev pub Alike : List ℕ → Time → Type 0

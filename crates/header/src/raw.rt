@@ -1,5 +1,5 @@
 // The raw reader (RULES 5.6 and 5.7): exactly two words, a number and an offset, with limits on the
-// hours and the minutes. Anything else is refused.
+// hours and the minutes. A rule fixes the limits. Anything else is refused.
 ghost use mathlib.Core.Path.{_≡_};
 ghost use Rattle.header.specs.Raw.{rule1, limitsOf, allows as allowsOf, rawTime, rawOf};
 ghost use Rattle.header.specs.Held.{AllSmall, LeadsWithNumber};
@@ -15,9 +15,10 @@ use text::words;
 use time::Answer;
 use time::Refusal;
 
-// Which limits hold for hours and minutes. Those of RULES 5.7 are called rule 1 in the code.
-enum Rule {
+// Which limits hold for hours and minutes: rule 1, which is gix-date's, or rule 2, which is wider.
+pub enum Rule {
     One,
+    Two,
 }
 
 // Reads a raw date, by rule 1. The answer is refusal 1 if the text holds a byte of 128 or more, and
@@ -28,9 +29,9 @@ pub fn parse_raw(s: &[u8]) -> Answer
     parse_raw_by(s, Rule::One)
 }
 
-// A number alone and the usual form are recognised as soon as the number ends, as in
-// `parse_header`.
-fn parse_raw_by(s: &[u8], rule: Rule) -> Answer
+// Reads a raw date by either rule, and refuses as `parse_raw` does. A number alone and the usual form
+// are recognised as soon as the number ends, as in `parse_header`.
+pub fn parse_raw_by(s: &[u8], rule: Rule) -> Answer
     ensures { λ r. ⌜ r ≡ rawOf (limitsOf rule) (now (s .entry)) ⌝ }
 {
     let opening = walk::open(s);
@@ -85,7 +86,8 @@ fn raw_time(rule: Rule, n: Integer, p: Parsed) -> Answer
     Answer::Refused(Refusal::Form)
 }
 
-// Rule 1: hours are at most 14, and minutes are 0, 15, 30 or 45. By every rule seconds are 0.
+// Rule 1: hours are at most 14, and minutes are 0, 15, 30 or 45. Rule 2: hours are below 24, and
+// minutes are below 60. By both rules seconds are 0.
 fn allows(rule: Rule, f: Fields) -> bool
     ensures { λ r. ⌜ r ≡ allowsOf (limitsOf rule) f ⌝ }
 {
@@ -94,6 +96,7 @@ fn allows(rule: Rule, f: Fields) -> bool
     let x = f.seconds;
     match rule {
         Rule::One => (h <= 14) & is_quarter(m) & (x == 0),
+        Rule::Two => (h < 24) & (m < 60) & (x == 0),
     }
 }
 

@@ -7,13 +7,13 @@ use Rattle.dates.proofs.parse_marked.Tie as tie
 
 returns : tie.Need-returns
 unfolding markedOf
-returns c = rw (← c .before .before .parse-raw .ensures, ← c .before .is-settled .ensures, c .if1 .taken)
+returns c = rw (← c .before .before .parse-raw-by .ensures, ← c .before .is-settled .ensures, c .if1 .taken)
 
 returns-2 : tie.Need-returns-2
 unfolding markedOf numberFrom
 returns-2 c =
     let at-if = c .before .before in
-    rw (← at-if .before .before .parse-raw .ensures, ← at-if .before .is-settled .ensures, at-if .if1 .left, c .numbered .ensures, c .before .signed-number .ensures)
+    rw (← at-if .before .before .parse-raw-by .ensures, ← at-if .before .is-settled .ensures, at-if .if1 .left, c .numbered .ensures, c .before .signed-number .ensures)
 
 pub parse-marked-spec : {M : Type 1} → statement M
 parse-marked-spec =

@@ -4,7 +4,7 @@ use mathlib.Core.Path.{_≡_, _∙_, ap}
 use mathlib.Core.Bool.{Bool, _&&_}
 use lib.Dec.{eqb}
 use lib.IntN.{ℤ, pos}
-use lib.Signed.{leZ, mag}
+use lib.Signed.{leZ, ltZ, mag}
 use Prim.Native.Nat.{_^_, _<_}
 use native.Mathlib.Omega.{arith}
 use mir.Syntax.{w64}
@@ -12,25 +12,42 @@ use mir.Val.{toZ, ofZ, hbits}
 use borrow.Author.Needs.{needs}
 use Rattle.ints.proofs.Machine.{back}
 use Rattle.ints.proofs.Equals.{eqb-ofZ}
-use Rattle.header.specs.Raw.{rule1, allows as allowsOf, limitsOf}
+use Rattle.header.specs.Raw.{Limits, rule1, rule2, allows as allowsOf}
 use Rattle.header.specs.declared.offset.Fields.{Fields}
-use Rattle.header.specs.declared.raw.Rule.{Rule}
-use Rattle.header.specs.declared.raw.Rule.the-variants.{One}
 use Rattle.header.proofs.raw.allows.Statement.{statement}
 use Rattle.header.proofs.raw.allows.Tie as tie
 
--- the tests of a rule, on fields that 64 bits hold
-is-rule : (rule : Rule) (f : Fields) (q : Bool) → mag (f .hours) < 2 ^ hbits w64 → mag (f .seconds) < 2 ^ hbits w64 → q ≡ rule1 .minutes (f .minutes)
-    → ((leZ (toZ w64 (ofZ w64 (f .hours))) (pos 14) && q) && eqb (ofZ w64 (f .seconds)) 0) ≡ allowsOf (limitsOf rule) f
+-- a number as it is held in 64 bits
+abbrev held : ℤ → ℤ
+held z = toZ w64 (ofZ w64 z)
+
+-- tests of hours and minutes that are those of the limits, and the test of seconds
+is-allowed : (l : Limits) (f : Fields) (h m : Bool) → h ≡ l .hours (f .hours) → m ≡ l .minutes (f .minutes) → mag (f .seconds) < 2 ^ hbits w64
+    → ((h && m) && eqb (ofZ w64 (f .seconds)) 0) ≡ allowsOf l f
 unfolding allowsOf
-is-rule One f q h x m = rw (back w64 (f .hours) h, m, eqb-ofZ w64 (f .seconds) (pos 0) (record { sfits = x }) (record { sfits = omega arith }))
+is-allowed l f h m hours minutes x = rw (hours, minutes, eqb-ofZ w64 (f .seconds) (pos 0) (record { sfits = x }) (record { sfits = omega arith }))
 
 returns : tie.Need-returns
-returns c = let at-hours = c .before .before .before in
-    let a = at-hours .before .args in
-    let m = back w64 (a .f .minutes) (c .before .before .struct-told2 .given .1 .1 .0 .1) in
-    is-rule (a .rule) (a .f) (c .is-quarter .result) (at-hours .struct-told .given .1 .0 .1) (c .before .struct-told3 .given .1 .1 .1 .0 .1)
-    (c .is-quarter .ensures ∙ ap (λ (z : ℤ). rule1 .minutes z) m)
+returns c =
+    let at-seconds = c .before .before .before in
+    let at-hours = at-seconds .before .before in
+    let f = at-hours .before .args .f in
+    rw (c .before .enum-told .given .1)
+    (is-allowed rule1 f (leZ (held (f .hours)) (pos 14)) (c .is-quarter .result)
+    (ap (rule1 .hours) (back w64 (f .hours) (at-hours .struct-told .given .1 .0 .1)))
+    (c .is-quarter .ensures ∙ ap (rule1 .minutes) (back w64 (f .minutes) (at-seconds .before .struct-told2 .given .1 .1 .0 .1)))
+    (at-seconds .struct-told3 .given .1 .1 .1 .0 .1))
+
+returns-2 : tie.Need-returns-2
+returns-2 c =
+    let at-seconds = c .before .before in
+    let at-hours = at-seconds .before .before in
+    let f = at-hours .before .args .f in
+    rw (c .enum-told2 .given .1)
+    (is-allowed rule2 f (ltZ (held (f .hours)) (pos 24)) (ltZ (held (f .minutes)) (pos 60))
+    (ap (rule2 .hours) (back w64 (f .hours) (at-hours .struct-told .given .1 .0 .1)))
+    (ap (rule2 .minutes) (back w64 (f .minutes) (at-seconds .before .struct-told2 .given .1 .1 .0 .1)))
+    (at-seconds .struct-told3 .given .1 .1 .1 .0 .1))
 
 pub allows-spec : {M : Type 1} → statement M
-allows-spec = tie.close (tie.spec (λ c κs. search needs) returns)
+allows-spec = tie.close (tie.spec (λ c. search needs) (λ c κs. search needs) (λ c. search needs) returns returns-2)

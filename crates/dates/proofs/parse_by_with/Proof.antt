@@ -1,13 +1,13 @@
--- `dates::parse_with` meets its contract: each return is the step that settles the answer, or the last.
+-- `dates::parse_by_with` meets its contract: each return is the step that settles the answer, or the last.
 -- Assumes nothing.
 use mathlib.Core.Path.{_≡_}
-use Rattle.header.specs.Raw.{rule1, rawOf}
+use Rattle.header.specs.Raw.{limitsOf, rawOf}
 use Rattle.relative.specs.Relative.{maxPairs, relativeOf}
 use Rattle.dates.specs.Any.{orElse, anyOf}
 use Rattle.dates.proofs.Steps.{anyOf-in-turn}
 use borrow.Author.Needs.{needs}
-use Rattle.dates.proofs.parse_with.Statement.{statement}
-use Rattle.dates.proofs.parse_with.Tie as tie
+use Rattle.dates.proofs.parse_by_with.Statement.{statement}
+use Rattle.dates.proofs.parse_by_with.Tie as tie
 
 -- the plain forms settle
 returns : tie.Need-returns
@@ -15,7 +15,7 @@ returns c = rw (anyOf-in-turn, ← c .before .before .parse-plain .ensures, ← 
 
 -- they do not: the ISO forms are next
 from-iso : (c : tie.After-parse-git-date-format-with) → let a = c .before .before .before .before .before .before .args in
-    anyOf rule1 (a .s .now) (a .current) ≡ orElse (c .parse-git-date-format-with .result) (orElse (relativeOf maxPairs (a .s .now) (a .current)) (rawOf rule1 (a .s .now)))
+    anyOf (limitsOf (a .rule)) (a .s .now) (a .current) ≡ orElse (c .parse-git-date-format-with .result) (orElse (relativeOf maxPairs (a .s .now) (a .current)) (rawOf (limitsOf (a .rule)) (a .s .now)))
 from-iso c =
     let at-if = c .before in
     rw (anyOf-in-turn, ← at-if .before .before .parse-plain .ensures, ← at-if .before .is-settled .ensures, at-if .if1 .left, c .parse-git-date-format-with .ensures)
@@ -25,7 +25,7 @@ returns-2 c = rw (from-iso (c .before .before), ← c .before .is-settled2 .ensu
 
 -- relative is next
 from-relative : (c : tie.After-parse-with) → let a = c .before .before .before .before .before .before .before .before .before .args in
-    anyOf rule1 (a .s .now) (a .current) ≡ orElse (c .parse-with .result) (rawOf rule1 (a .s .now))
+    anyOf (limitsOf (a .rule)) (a .s .now) (a .current) ≡ orElse (c .parse-with .result) (rawOf (limitsOf (a .rule)) (a .s .now))
 from-relative c =
     let at-if = c .before in
     rw (from-iso (at-if .before .before), ← at-if .before .is-settled2 .ensures, at-if .if2 .left, c .parse-with .ensures)
@@ -37,10 +37,10 @@ returns-3 c = rw (from-relative (c .before .before), ← c .before .is-settled3 
 returns-4 : tie.Need-returns-4
 returns-4 c =
     let at-if = c .before in
-    rw (from-relative (at-if .before .before), ← at-if .before .is-settled3 .ensures, at-if .if3 .left, c .parse-raw .ensures)
+    rw (from-relative (at-if .before .before), ← at-if .before .is-settled3 .ensures, at-if .if3 .left, c .parse-raw-by .ensures)
 
-pub parse-with-spec : {M : Type 1} → statement M
-parse-with-spec =
+pub parse-by-with-spec : {M : Type 1} → statement M
+parse-by-with-spec =
     tie.close
     (tie.spec
     (λ c κs. search needs)

@@ -1,0 +1,153 @@
+-- What a raw reader means, within any limits: it accepts exactly the raw dates (`raw-accepts`, `raw-accepts-only`), and refuses
+-- every other ASCII text by 2 (`raw-refuses`). If the second of two limits allow whatever the first allow, they answer alike
+-- whatever the first accept (`raw-within`); rule 1 and rule 2 are such limits (`rule-2-answers-alike`).
+-- Assumes nothing.
+use mathlib.Core.Path.{_≡_, refl, sym, ap, _∙_}
+use mathlib.Core.Bool.{true, _&&_}
+use mathlib.Core.List.{List, [], _∷_}
+use Prim.Native.Nat.{ℕ, _<_}
+use native.Mathlib.Omega.{arith}
+use borrow.Author.Tests.{leb-true, eqb-true, lt-ltb}
+use lib.Dec.{eqb}
+use lib.IntN.{ℤ, pos, negsuc}
+use lib.ListN.{getD, drop}
+use Rattle.ints.specs.Equal.{eqZ}
+use Rattle.text.specs.Bytes.{isSpace, ascii}
+use Rattle.text.specs.Words.{words}
+use Rattle.text.specs.declared.number.Integer.{Integer}
+use Rattle.text.specs.declared.number.Integer.the-variants.{Is, Nothing as NoInteger}
+use Rattle.text.proofs.Lists.{by-test, both}
+use Rattle.time.specs.Answers.{timeAt}
+use Rattle.time.specs.declared.Time.{Time}
+use Rattle.time.specs.declared.Answer.the-variants.{Time as At, Refused}
+use Rattle.time.specs.declared.Refusal.the-variants.{Form}
+use Rattle.header.specs.Offset.{onlyWord, fieldsOf, offsetOf}
+use Rattle.header.specs.Header.{number64}
+use Rattle.header.specs.Raw.{Limits, rule1, rule2, allows, rawTime, rawOfWords, rawOf}
+use Rattle.header.specs.Theorems.{RawDate, Within}
+use Rattle.header.specs.declared.offset.Field.the-variants.{Byte}
+use Rattle.header.specs.declared.offset.Fields.{Fields}
+use Rattle.header.specs.declared.offset.Parsed.{Parsed}
+use Rattle.header.specs.declared.offset.Parsed.the-variants.{Offset, Nothing as NoOffset}
+use Rattle.header.proofs.Unsigned.{fieldsOf-some}
+use Rattle.header.proofs.Readers.{fieldsOf-nil, rawOfWords-is}
+
+-- ---- what is accepted
+pub raw-accepts : (l : Limits) (s : List ℕ) (t : Time) → RawDate l s t → rawOf l s ≡ At t
+unfolding rawOf rawOfWords
+raw-accepts l s t d = rw (d .ascii-is, d .words-are, d .number-is, d .fields-are, d .allowed, d .offset-is)
+
+-- a number and fields that are accepted
+record Accepted (l : Limits) (i : Integer) (p : Parsed) (t : Time) : Type 0 where
+  number : i ≡ Is (t .seconds)
+  fields : Fields
+  parsed : p ≡ Offset fields
+  allowed : allows l fields ≡ true
+  offset-is : offsetOf fields ≡ t .offset
+
+accepted : (l : Limits) (i : Integer) (p : Parsed) (t : Time) → rawTime l i p ≡ At t → Accepted l i p t
+accepted l (Is z) (Offset f) t e =
+    by-test (allows l f)
+    (λ a.
+    let k : At (timeAt z (offsetOf f)) ≡ At t = rw a at e in
+    let same : timeAt z (offsetOf f) ≡ t = cc in
+    record {
+      number = ap (λ (u : Time). Is (u .seconds)) same;
+      fields = f;
+      parsed = refl;
+      allowed = a;
+      offset-is = ap (λ (u : Time). u .offset) same;
+    })
+    (λ a. let k = rw a at e in let q : _≡_ {A = ℕ} 0 1 = cc in absurd (omega arith))
+accepted l (Is z) NoOffset t e = let q : _≡_ {A = ℕ} 0 1 = cc in absurd (omega arith)
+accepted l NoInteger p t e = let q : _≡_ {A = ℕ} 0 1 = cc in absurd (omega arith)
+
+-- there are two words: the empty text, which stands for any other number of words, is no offset
+two-words : (l : Limits) (s : List ℕ) (t : Time) (ws : List (List ℕ)) → ascii s ≡ true → words isSpace s ≡ ws
+    → Accepted l (number64 (getD ws 0 [])) (fieldsOf Byte (onlyWord (drop 1 ws))) t → RawDate l s t
+two-words l s t [] a e r = absurd (fieldsOf-some [] (r .fields) (r .parsed) (fieldsOf-nil Byte))
+two-words l s t (w ∷ []) a e r = absurd (fieldsOf-some [] (r .fields) (r .parsed) (fieldsOf-nil Byte))
+two-words l s t (w ∷ v ∷ []) a e r =
+    record {
+      ascii-is = a;
+      first = w;
+      second = v;
+      fields = r .fields;
+      words-are = e;
+      number-is = r .number;
+      fields-are = r .parsed;
+      allowed = r .allowed;
+      offset-is = r .offset-is;
+    }
+two-words l s t (w ∷ v ∷ u ∷ ws) a e r = absurd (fieldsOf-some [] (r .fields) (r .parsed) (fieldsOf-nil Byte))
+
+pub raw-accepts-only : (l : Limits) (s : List ℕ) (t : Time) → rawOf l s ≡ At t → RawDate l s t
+unfolding rawOf
+raw-accepts-only l s t e =
+    by-test (ascii s)
+    (λ a. two-words l s t (words isSpace s) a refl (accepted l _ _ t (sym (rawOfWords-is l (words isSpace s)) ∙ rw a at e)))
+    (λ a. let k = rw a at e in let q : _≡_ {A = ℕ} 0 1 = cc in absurd (omega arith))
+
+-- ---- what is refused
+refused : (l : Limits) (i : Integer) (p : Parsed) → ((t : Time) → rawTime l i p ≡ At t → ⊥) → rawTime l i p ≡ Refused Form
+refused l (Is z) (Offset f) never = by-test (allows l f) (λ a. absurd (never (timeAt z (offsetOf f)) (rw a))) (λ a. rw a)
+refused l (Is z) NoOffset never = refl
+refused l NoInteger p never = refl
+
+pub raw-refuses : (l : Limits) (s : List ℕ) → ascii s ≡ true → ((t : Time) → RawDate l s t → ⊥) → rawOf l s ≡ Refused Form
+unfolding rawOf
+raw-refuses l s a never = is ∙ refused l number offset (λ t e. never t (raw-accepts-only l s t (is ∙ e)))
+  where
+    number : Integer
+    number = number64 (getD (words isSpace s) 0 [])
+
+    offset : Parsed
+    offset = fieldsOf Byte (onlyWord (drop 1 (words isSpace s)))
+
+    is : rawOf l s ≡ rawTime l number offset
+    is = rw a (rawOfWords-is l (words isSpace s))
+
+-- ---- limits within others
+pub raw-within : (l m : Limits) → Within l m → (s : List ℕ) (t : Time) → rawOf l s ≡ At t → rawOf m s ≡ At t
+raw-within l m w s t e =
+    let d = raw-accepts-only l s t e in
+    raw-accepts m s t
+    (record {
+      ascii-is = d .ascii-is;
+      first = d .first;
+      second = d .second;
+      fields = d .fields;
+      words-are = d .words-are;
+      number-is = d .number-is;
+      fields-are = d .fields-are;
+      allowed = w (d .fields) (d .allowed);
+      offset-is = d .offset-is;
+    })
+
+hours-within : (h : ℤ) → rule1 .hours h ≡ true → rule2 .hours h ≡ true
+hours-within (pos h) e = lt-ltb h 24 (omega (arith, leb-true h 14 e))
+hours-within (negsuc h) e = refl
+
+minutes-within : (m : ℤ) → rule1 .minutes m ≡ true → rule2 .minutes m ≡ true
+minutes-within (pos m) e = lt-ltb m 60 below
+  where
+    below : m < 60
+    below =
+        by-test (eqb m 0) (λ a. omega (arith, eqb-true m 0 a))
+        (λ a.
+        by-test (eqb m 15) (λ b. omega (arith, eqb-true m 15 b))
+        (λ b.
+        by-test (eqb m 30) (λ c. omega (arith, eqb-true m 30 c))
+        (λ c. omega (arith, eqb-true m 45 (rw (a, b, c) at e)))))
+minutes-within (negsuc m) e = refl
+
+rule-1-within-rule-2 : Within rule1 rule2
+unfolding allows
+rule-1-within-rule-2 f e =
+    let all = both (rule1 .hours (f .hours) && rule1 .minutes (f .minutes)) (eqZ (f .seconds) (pos 0)) e in
+    let two = both (rule1 .hours (f .hours)) (rule1 .minutes (f .minutes)) (all .0) in
+    rw (hours-within (f .hours) (two .0), minutes-within (f .minutes) (two .1), all .1)
+
+-- whatever rule 1 accepts, rule 2 answers alike
+pub rule-2-answers-alike : (s : List ℕ) (t : Time) → rawOf rule1 s ≡ At t → rawOf rule2 s ≡ At t
+rule-2-answers-alike = raw-within rule1 rule2 rule-1-within-rule-2
