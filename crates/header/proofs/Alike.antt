@@ -7,46 +7,26 @@ use mathlib.Core.Bool.{Bool, true, false, cond}
 use mathlib.Core.List.{List}
 use mathlib.Core.Logic.{inl, inr, ⊎-elim}
 use Prim.Native.Nat.{ℕ}
-use native.Mathlib.Omega.{arith}
 use lib.IntN.{ℤ, pos}
 use lib.ListN.{getD}
-use Rattle.text.specs.Bytes.{isSpace, isDigit, ascii}
+use Rattle.text.specs.Bytes.{isSpace, isDigit}
 use Rattle.text.specs.Words.{words}
-use Rattle.text.specs.declared.number.Integer.{Integer}
-use Rattle.text.specs.declared.number.Integer.the-variants.{Is, Nothing as NoInteger}
+use Rattle.text.specs.declared.number.Integer.the-variants.{Is}
 use Rattle.text.proofs.Lists.{by-test}
 use Rattle.time.specs.Answers.{timeAt}
 use Rattle.time.specs.declared.Time.{Time}
 use Rattle.time.specs.declared.Answer.the-variants.{Time as At}
 use Rattle.header.specs.Offset.{secondWord, fieldsOf, offsetOf}
 use Rattle.header.specs.Header.{number64, secondsOf, headerOffset, headerTime, headerOf}
-use Rattle.header.specs.Raw.{Limits, allows, rawTime, rawOf}
+use Rattle.header.specs.Raw.{Limits, rule2, rawOf}
 use Rattle.header.specs.Held.{firstWord}
-use Rattle.header.specs.Theorems.{Alike}
+use Rattle.header.specs.Theorems.{RawDate, Alike}
 use Rattle.header.specs.declared.offset.Field.the-variants.{Byte}
 use Rattle.header.specs.declared.offset.Fields.{Fields}
-use Rattle.header.specs.declared.offset.Parsed.{Parsed}
 use Rattle.header.specs.declared.offset.Parsed.the-variants.{Offset, Nothing as NoOffset}
 use Rattle.header.proofs.Unsigned.{fieldsOf-signed}
-use Rattle.header.proofs.Readers.{headerOfWords-is, rawOfWords-is, no-colon-of-raw}
-
--- ---- what raw accepts
-record Accepted (i : Integer) (p : Parsed) (t : Time) : Type 0 where
-  number : i ≡ Is (t .seconds)
-  fields : Fields
-  parsed : p ≡ Offset fields
-  offset-is : offsetOf fields ≡ t .offset
-
-accepted : (l : Limits) (i : Integer) (p : Parsed) (t : Time) → rawTime l i p ≡ At t → Accepted i p t
-accepted l (Is z) (Offset f) t e =
-    by-test (allows l f)
-    (λ a.
-    let k : At (timeAt z (offsetOf f)) ≡ At t = rw a at e in
-    let same : timeAt z (offsetOf f) ≡ t = cc in
-    record { number = ap (λ (u : Time). Is (u .seconds)) same; fields = f; parsed = refl; offset-is = ap (λ (u : Time). u .offset) same })
-    (λ a. let k = rw a at e in let q : _≡_ {A = ℕ} 0 1 = cc in absurd (omega arith))
-accepted l (Is z) NoOffset t e = let q : _≡_ {A = ℕ} 0 1 = cc in absurd (omega arith)
-accepted l NoInteger p t e = let q : _≡_ {A = ℕ} 0 1 = cc in absurd (omega arith)
+use Rattle.header.proofs.Readers.{headerOfWords-is, no-colon-of-raw}
+use Rattle.header.proofs.Rules.{raw-accepts-only}
 
 -- the offset that the header reader gives where raw gives o: o if a digit follows the sign, else 0
 abbrev keptOffset : List ℕ → ℤ → ℤ
@@ -56,23 +36,28 @@ headerTime-cond : (z : ℤ) (d : Bool) (f : Fields) → headerTime (Is z) (cond 
 headerTime-cond z true f = refl
 headerTime-cond z false f = refl
 
+-- the words of a raw date
+module _ {l : Limits} {s : List ℕ} {t : Time} (d : RawDate l s t) where
+  number-first : number64 (firstWord s) ≡ Is (t .seconds)
+  number-first = rw (d .words-are) (d .number-is)
+
+  fields-second : fieldsOf Byte (secondWord s) ≡ Offset (d .fields)
+  fields-second = rw (d .words-are) (d .fields-are)
+
 -- what the header reader answers to a text that the raw reader accepts, for any limits
 header-of-raw : (l : Limits) (s : List ℕ) (t : Time) → rawOf l s ≡ At t → headerOf s ≡ At (timeAt (t .seconds) (keptOffset (secondWord s) (t .offset)))
-unfolding rawOf headerOf secondsOf headerOffset
+unfolding headerOf secondsOf headerOffset
 header-of-raw l s t e =
-    by-test (ascii s)
-    (λ a.
-    let r : Accepted (number64 (firstWord s)) (fieldsOf Byte (secondWord s)) t = accepted l _ _ t (sym (rawOfWords-is l (words isSpace s)) ∙ rw a at e) in
+    let d = raw-accepts-only l s t e in
     rw (
-      a,
-      no-colon-of-raw s (t .seconds) (r .fields) (r .number) (r .parsed),
+      d .ascii-is,
+      no-colon-of-raw s (t .seconds) (d .fields) (number-first d) (fields-second d),
       headerOfWords-is (words isSpace s),
-      r .number,
-      fieldsOf-signed (secondWord s) (r .fields) (r .parsed),
-      headerTime-cond (t .seconds) (isDigit (getD (secondWord s) 1 0)) (r .fields),
-      r .offset-is,
-    ))
-    (λ a. let k = rw a at e in let q : _≡_ {A = ℕ} 0 1 = cc in absurd (omega arith))
+      number-first d,
+      fieldsOf-signed (secondWord s) (d .fields) (fields-second d),
+      headerTime-cond (t .seconds) (isDigit (getD (secondWord s) 1 0)) (d .fields),
+      d .offset-is,
+    )
 
 -- they agree if the byte after the offset's sign is a digit, or the offset is 0
 pub raw-header-alike : (l : Limits) (s : List ℕ) (t : Time) → rawOf l s ≡ At t → Alike s t → headerOf s ≡ rawOf l s
@@ -92,3 +77,7 @@ raw-header-alike-only l s t e same =
     let k : At (timeAt (t .seconds) (pos 0)) ≡ At t = sym (rw a at (header-of-raw l s t e)) ∙ same ∙ e in
     let z : timeAt (t .seconds) (pos 0) ≡ t = cc in
     inr (sym (ap (λ (u : Time). u .offset) z)))
+
+-- so what rule 2 accepts, beyond rule 1 too, the header reader answers alike where a digit follows the sign
+pub rule-2-as-header : (s : List ℕ) (t : Time) → rawOf rule2 s ≡ At t → isDigit (getD (secondWord s) 1 0) ≡ true → headerOf s ≡ At t
+rule-2-as-header s t e digit = raw-header-alike rule2 s t e (inl digit) ∙ e

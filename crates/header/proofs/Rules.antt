@@ -21,9 +21,10 @@ use Rattle.time.specs.Answers.{timeAt}
 use Rattle.time.specs.declared.Time.{Time}
 use Rattle.time.specs.declared.Answer.the-variants.{Time as At, Refused}
 use Rattle.time.specs.declared.Refusal.the-variants.{Form}
-use Rattle.header.specs.Offset.{onlyWord, fieldsOf, offsetOf}
+use Rattle.header.specs.Offset.{onlyWord, secondWord, fieldsOf, offsetOf}
 use Rattle.header.specs.Header.{number64}
 use Rattle.header.specs.Raw.{Limits, rule1, rule2, allows, rawTime, rawOfWords, rawOf}
+use Rattle.header.specs.Held.{firstWord}
 use Rattle.header.specs.Theorems.{RawDate, Within}
 use Rattle.header.specs.declared.offset.Field.the-variants.{Byte}
 use Rattle.header.specs.declared.offset.Fields.{Fields}
@@ -96,15 +97,9 @@ refused l NoInteger p never = refl
 
 pub raw-refuses : (l : Limits) (s : List ℕ) → ascii s ≡ true → ((t : Time) → RawDate l s t → ⊥) → rawOf l s ≡ Refused Form
 unfolding rawOf
-raw-refuses l s a never = is ∙ refused l number offset (λ t e. never t (raw-accepts-only l s t (is ∙ e)))
+raw-refuses l s a never = is ∙ refused l (number64 (firstWord s)) (fieldsOf Byte (secondWord s)) (λ t e. never t (raw-accepts-only l s t (is ∙ e)))
   where
-    number : Integer
-    number = number64 (getD (words isSpace s) 0 [])
-
-    offset : Parsed
-    offset = fieldsOf Byte (onlyWord (drop 1 (words isSpace s)))
-
-    is : rawOf l s ≡ rawTime l number offset
+    is : rawOf l s ≡ rawTime l (number64 (firstWord s)) (fieldsOf Byte (secondWord s))
     is = rw a (rawOfWords-is l (words isSpace s))
 
 -- ---- limits within others
@@ -141,7 +136,7 @@ minutes-within (pos m) e = lt-ltb m 60 below
         (λ c. omega (arith, eqb-true m 45 (rw (a, b, c) at e)))))
 minutes-within (negsuc m) e = refl
 
-rule-1-within-rule-2 : Within rule1 rule2
+pub rule-1-within-rule-2 : Within rule1 rule2
 unfolding allows
 rule-1-within-rule-2 f e =
     let all = both (rule1 .hours (f .hours) && rule1 .minutes (f .minutes)) (eqZ (f .seconds) (pos 0)) e in
