@@ -1,5 +1,6 @@
--- The worked examples of headers and raw dates (RULES 11.1 to 11.4), proved of the definitions. In order: those marked P, one
--- table and one statement; the others, and texts that could be read in two ways, each under the words that decide.
+-- The worked examples of headers and raw dates (RULES 11.1 to 11.4 and 11.12), proved of the definitions. In order: those marked
+-- P, one table and one statement; the others, and texts that could be read in two ways, each under the words that decide; raw
+-- dates by rule 2.
 -- Assumes nothing.
 use mathlib.Core.Path.{refl}
 use mathlib.Core.List.{List, [], _∷_, _++_}
@@ -18,7 +19,7 @@ use Rattle.time.specs.declared.Answer.the-variants.{Time, Refused}
 use Rattle.time.specs.declared.Refusal.the-variants.{NotAscii, Form}
 use Rattle.header.specs.Offset.{fiveOrSeven, fieldOf, lastField, fieldsOf, offsetOf}
 use Rattle.header.specs.Header.{secondsOf, headerOffset, headerOfWords, headerOf}
-use Rattle.header.specs.Raw.{rule1, allows, rawOfWords, rawOf}
+use Rattle.header.specs.Raw.{rule1, rule2, allows, rawOfWords, rawOf}
 use Rattle.header.specs.Examples.{five, marked}
 
 -- ---- the examples marked P
@@ -80,3 +81,24 @@ other-examples : AllRight others
 unfolding isSpace isDigit isSign ascii run firstPlace has words pieces full readFrom digitsOf unsignedOf signedOf fit fitSigned fiveOrSeven fieldOf lastField fieldsOf offsetOf secondsOf headerOffset headerOfWords headerOf allows rawOfWords rawOf
 other-examples =
     (refl, (refl, (refl, (refl, (refl, (refl, (refl, (refl, (refl, (refl, (refl, (refl, (refl, (refl, (refl, (refl, (refl, (refl, (refl, (refl, (refl, (refl, (refl, (refl, (refl, (refl, (refl, tt)))))))))))))))))))))))))))
+
+-- ---- raw dates by rule 2
+abbrev by-rule-2 : List Row
+by-rule-2 =
+    reads (rawOf rule2 (bytes "5 +0520")) (five (pos 19200))
+    ∷ reads (rawOf rule1 (bytes "5 +0520")) (Refused Form)
+    ∷ reads (rawOf rule2 (bytes "5 +2000")) (five (pos 72000))
+    ∷ reads (rawOf rule1 (bytes "5 +2000")) (Refused Form)
+    ∷ reads (rawOf rule2 (bytes "5 -2359")) (five (negsuc 86339))
+    ∷ reads (rawOf rule2 (bytes "5 +2400")) (Refused Form)
+    ∷ reads (rawOf rule2 (bytes "5 +0060")) (Refused Form)
+    -- RULES 5.7: by both rules "seconds are 0"
+    ∷ reads (rawOf rule2 (bytes "5 +010000")) (five (pos 3600))
+    ∷ reads (rawOf rule2 (bytes "5 +010001")) (Refused Form)
+    -- RULES 5.7: by both rules fields "may open with `+`"
+    ∷ reads (rawOf rule2 (bytes "5 ++5+7")) (five (pos 18420))
+    ∷ []
+
+rule-2-examples : AllRight by-rule-2
+unfolding isSpace isDigit isSign ascii run words pieces full readFrom digitsOf unsignedOf signedOf fit fitSigned fiveOrSeven fieldOf lastField fieldsOf offsetOf allows rawOfWords rawOf
+rule-2-examples = (refl, (refl, (refl, (refl, (refl, (refl, (refl, (refl, (refl, (refl, tt))))))))))
