@@ -3,12 +3,12 @@
 use mathlib.Core.Path.{_≡_, _∙_, ap}
 use mathlib.Core.Bool.{Bool, _&&_}
 use lib.Dec.{eqb}
-use lib.IntN.{ℤ, pos}
-use lib.Signed.{leZ, ltZ, mag}
+use lib.IntN.{pos}
+use lib.Signed.{mag}
 use Prim.Native.Nat.{_^_, _<_}
 use native.Mathlib.Omega.{arith}
 use mir.Syntax.{w64}
-use mir.Val.{toZ, ofZ, hbits}
+use mir.Val.{ofZ, hbits}
 use borrow.Author.Needs.{needs}
 use Rattle.ints.proofs.Machine.{back}
 use Rattle.ints.proofs.Equals.{eqb-ofZ}
@@ -17,15 +17,11 @@ use Rattle.header.specs.declared.offset.Fields.{Fields}
 use Rattle.header.proofs.raw.allows.Statement.{statement}
 use Rattle.header.proofs.raw.allows.Tie as tie
 
--- a number as it is held in 64 bits
-abbrev held : ℤ → ℤ
-held z = toZ w64 (ofZ w64 z)
-
 -- tests of hours and minutes that are those of the limits, and the test of seconds
-is-allowed : (l : Limits) (f : Fields) (h m : Bool) → h ≡ l .hours (f .hours) → m ≡ l .minutes (f .minutes) → mag (f .seconds) < 2 ^ hbits w64
+is-allowed : (l : Limits) (f : Fields) {h m : Bool} → h ≡ l .hours (f .hours) → m ≡ l .minutes (f .minutes) → mag (f .seconds) < 2 ^ hbits w64
     → ((h && m) && eqb (ofZ w64 (f .seconds)) 0) ≡ allowsOf l f
 unfolding allowsOf
-is-allowed l f h m hours minutes x = rw (hours, minutes, eqb-ofZ w64 (f .seconds) (pos 0) (record { sfits = x }) (record { sfits = omega arith }))
+is-allowed l f hours minutes x = rw (hours, minutes, eqb-ofZ w64 (f .seconds) (pos 0) (record { sfits = x }) (record { sfits = omega arith }))
 
 returns : tie.Need-returns
 returns c =
@@ -33,7 +29,7 @@ returns c =
     let at-hours = at-seconds .before .before in
     let f = at-hours .before .args .f in
     rw (c .before .enum-told .given .1)
-    (is-allowed rule1 f (leZ (held (f .hours)) (pos 14)) (c .is-quarter .result)
+    (is-allowed rule1 f
     (ap (rule1 .hours) (back w64 (f .hours) (at-hours .struct-told .given .1 .0 .1)))
     (c .is-quarter .ensures ∙ ap (rule1 .minutes) (back w64 (f .minutes) (at-seconds .before .struct-told2 .given .1 .1 .0 .1)))
     (at-seconds .struct-told3 .given .1 .1 .1 .0 .1))
@@ -44,7 +40,7 @@ returns-2 c =
     let at-hours = at-seconds .before .before in
     let f = at-hours .before .args .f in
     rw (c .enum-told2 .given .1)
-    (is-allowed rule2 f (ltZ (held (f .hours)) (pos 24)) (ltZ (held (f .minutes)) (pos 60))
+    (is-allowed rule2 f
     (ap (rule2 .hours) (back w64 (f .hours) (at-hours .struct-told .given .1 .0 .1)))
     (ap (rule2 .minutes) (back w64 (f .minutes) (at-seconds .before .struct-told2 .given .1 .1 .0 .1)))
     (at-seconds .struct-told3 .given .1 .1 .1 .0 .1))
