@@ -1,5 +1,5 @@
 -- An offset's word whose fields are unsigned numbers, as in a raw date: read as signed numbers they are the same
--- (`fieldsOf-signed`), and there is no `:` in the word (`no-colon-of-fieldsOf`).
+-- (`fieldsOf-signed`), none is negative, and there is no `:` in the word (`no-colon-of-fieldsOf`).
 -- Assumes nothing.
 use mathlib.Core.Path.{_≡_, refl, sym, _∙_}
 use mathlib.Core.Bool.{Bool, true, false, false≢true}
@@ -8,12 +8,12 @@ use Prim.Native.Nat.{ℕ, _≤_}
 use native.Mathlib.Omega.{arith}
 use borrow.Author.Tests.{eqb-true, ne-eqb}
 use lib.Dec.{eqb}
-use lib.IntN.{ℤ}
+use lib.IntN.{ℤ, pos, negsuc}
 use lib.ListN.{length, take, drop, getD, drop-of-length-le}
 use lib.Seq.{drop-drop}
 use Rattle.text.specs.Bytes.{isSign}
 use Rattle.text.specs.Places.{has}
-use Rattle.text.specs.Number.{unsignedOf, plus}
+use Rattle.text.specs.Number.{unsignedOf, fit, plus}
 use Rattle.text.specs.declared.number.Number.{Number}
 use Rattle.text.specs.declared.number.Number.the-variants.{Value, Nothing as NoNumber}
 use Rattle.text.specs.declared.number.Integer.{Integer}
@@ -72,6 +72,29 @@ together-numbers minus NoInteger m x f e = let z : _≡_ {A = ℕ} 0 1 = cc in a
 together-numbers minus (Is h) NoInteger x f e = let z : _≡_ {A = ℕ} 0 1 = cc in absurd (omega arith)
 together-numbers minus (Is h) (Is m) NoInteger f e = let z : _≡_ {A = ℕ} 0 1 = cc in absurd (omega arith)
 
+-- a number is not negative
+abbrev pub NotNegative : ℤ → Type 0
+NotNegative (pos n) = Unit {0}
+NotNegative (negsuc n) = ⊥
+
+fieldOf-not-negative : (w : List ℕ) (at : ℕ) (z : ℤ) → fieldOf Byte w at ≡ Is z → NotNegative z
+unfolding fieldOf
+fieldOf-not-negative w at (pos n) e = tt
+fieldOf-not-negative w at (negsuc n) e = go (fit 255 (unsignedOf (bytesAt w at))) e
+  where
+    go : (x : Number) → plus x ≡ Is (negsuc n) → ⊥
+    go (Value k) k-is = let q : _≡_ {A = ℕ} 0 1 = cc in omega arith
+    go NoNumber k-is = let q : _≡_ {A = ℕ} 0 1 = cc in omega arith
+
+together-not-negative : (minus : Bool) (h m x : Integer) (f : Fields) → together minus h m x ≡ Offset f
+    → ((z : ℤ) → h ≡ Is z → NotNegative z) → ((z : ℤ) → m ≡ Is z → NotNegative z) → NotNegative (f .hours) × NotNegative (f .minutes)
+together-not-negative minus (Is h) (Is m) (Is x) f e p q =
+    let same : record { minus = minus; hours = h; minutes = m; seconds = x } ≡ f = cc in
+    (rw (← same) (p h refl), rw (← same) (q m refl))
+together-not-negative minus NoInteger m x f e p q = let z : _≡_ {A = ℕ} 0 1 = cc in absurd (omega arith)
+together-not-negative minus (Is h) NoInteger x f e p q = let z : _≡_ {A = ℕ} 0 1 = cc in absurd (omega arith)
+together-not-negative minus (Is h) (Is m) NoInteger f e p q = let z : _≡_ {A = ℕ} 0 1 = cc in absurd (omega arith)
+
 -- ---- an offset that raw accepts
 module _ (w : List ℕ) (f : Fields) (e : fieldsOf Byte w ≡ Offset f) where
   pub fieldsOf-some : fieldsOf Byte w ≡ NoOffset → ⊥
@@ -92,7 +115,11 @@ module _ (w : List ℕ) (f : Fields) (e : fieldsOf Byte w ≡ Offset f) where
       fieldsOf-of-tests Signed w right-length right-sign
       ∙ together-same _ (fieldOf Byte w 1) (fieldOf Byte w 3) (lastField Byte w) f opened (λ z k. field-same w 1 z k .signed) (λ z k. field-same w 3 z k .signed) (last-same w)
 
-  -- and no `:`
+  -- its hours and minutes are not negative
+  pub fieldsOf-not-negative : NotNegative (f .hours) × NotNegative (f .minutes)
+  fieldsOf-not-negative = together-not-negative _ (fieldOf Byte w 1) (fieldOf Byte w 3) (lastField Byte w) f opened (fieldOf-not-negative w 1) (fieldOf-not-negative w 3)
+
+  -- and it holds no `:`
   numbers : Numbers (fieldOf Byte w 1) (fieldOf Byte w 3) (lastField Byte w)
   numbers = together-numbers _ (fieldOf Byte w 1) (fieldOf Byte w 3) (lastField Byte w) f opened
 
