@@ -1,4 +1,9 @@
--- In order: "any" as its steps in turn; the examples of RULES 11 that are marked P; two answers that meet one equation.
+-- In order: "any" as its steps in turn; a raw date holds no byte above `9`; what the steps answer to a text that begins with `@`;
+-- "any" by two limits, of which the second allow whatever the first allow; the examples of RULES 11 that are marked P; two
+-- answers that meet one equation.
 pub mod Steps
+pub mod LowBytes
+pub mod AtSign
+pub mod Limits
 pub mod Examples
 pub mod Contracts
