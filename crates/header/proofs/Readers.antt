@@ -29,7 +29,7 @@ use Rattle.header.specs.declared.offset.Parsed.the-variants.{Offset, Not
 use Rattle.header.specs.declared.walk.First.{First}
 use Rattle.header.specs.declared.walk.Walked.the-variants.{Words}
 use Rattle.header.proofs.FirstWord.{number64-nil}
-use Rattle.header.proofs.Unsigned.{fieldsOf-some, no-colon-of-fieldsOf}
+use Rattle.header.proofs.Unsigned.{fieldsOf-some, between-of-fieldsOf}
 
 -- ---- from the first word and the only other
 secondsOf-nil : secondsOf [] ≡ NoInteger
@@ -61,7 +61,7 @@ no-colon-of-number64 w z e = no-colon-of-between 43 w (between-of-signedOf w z (
 lacking : (ws : List (List ℕ)) (z : ℤ) (f : Fields) → number64 (getD ws 0 []) ≡ Is z → fieldsOf Byte (onlyWord (drop 1 ws)) ≡ Offset f → Lacking 58 ws
 lacking [] z f n p = tt
 lacking (w ∷ []) z f n p = (no-colon-of-number64 w z n, tt)
-lacking (w ∷ v ∷ []) z f n p = (no-colon-of-number64 w z n, (no-colon-of-fieldsOf v f p, tt))
+lacking (w ∷ v ∷ []) z f n p = (no-colon-of-number64 w z n, (no-colon-of-between 43 v (between-of-fieldsOf v f p), tt))
 lacking (w ∷ v ∷ u ∷ ws) z f n p = absurd (fieldsOf-some [] f p (fieldsOf-nil Byte))
 
 pub no-colon-of-raw : (s : List ℕ) (z : ℤ) (f : Fields) → number64 (firstWord s) ≡ Is z → fieldsOf Byte (secondWord s) ≡ Offset f → has 58 s ≡ false

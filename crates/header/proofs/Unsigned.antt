@@ -1,48 +1,50 @@
 -- An offset's word whose fields are unsigned numbers, as in a raw date: read as signed numbers they are the same
--- (`fieldsOf-signed`), none is negative, and there is no `:` in the word (`no-colon-of-fieldsOf`).
+-- (`fieldsOf-signed`), hours and minutes are not negative, and the word has signs and digits alone (`between-of-fieldsOf`).
 -- Assumes nothing.
 use mathlib.Core.Path.{_≡_, refl, sym, _∙_}
-use mathlib.Core.Bool.{Bool, true, false, false≢true}
+use mathlib.Core.Bool.{Bool, true, false≢true}
 use mathlib.Core.List.{List, [], _∷_}
 use Prim.Native.Nat.{ℕ, _≤_}
 use native.Mathlib.Omega.{arith}
-use borrow.Author.Tests.{eqb-true, ne-eqb}
+use borrow.Author.Tests.{eqb-true}
 use lib.Dec.{eqb}
 use lib.IntN.{ℤ, pos, negsuc}
-use lib.ListN.{length, take, drop, getD, drop-of-length-le}
+use lib.ListN.{length, take, drop, getD, drop-of-length-le, take-append-drop}
 use lib.Seq.{drop-drop}
 use Rattle.text.specs.Bytes.{isSign}
-use Rattle.text.specs.Places.{has}
 use Rattle.text.specs.Number.{unsignedOf, fit, plus}
 use Rattle.text.specs.declared.number.Number.{Number}
 use Rattle.text.specs.declared.number.Number.the-variants.{Value, Nothing as NoNumber}
 use Rattle.text.specs.declared.number.Integer.{Integer}
 use Rattle.text.specs.declared.number.Integer.the-variants.{Is, Nothing as NoInteger}
 use Rattle.text.proofs.Lists.{by-test}
-use Rattle.text.proofs.Runs.{has-nil}
 use Rattle.text.proofs.Numbers.{fit-take}
+use Rattle.text.proofs.Decimals.{Between, Between-append}
 use Rattle.header.specs.Offset.{fiveOrSeven, fieldOf, lastField, together, fieldsOf}
 use Rattle.header.specs.declared.offset.Field.the-variants.{Signed, Byte}
 use Rattle.header.specs.declared.offset.Fields.{Fields}
 use Rattle.header.specs.declared.offset.Parsed.the-variants.{Offset, Nothing as NoOffset}
-use Rattle.text.proofs.Texts.{not-has-cons, not-has-cut, no-colon-of-between, between-of-unsignedOf, signedOf-of-unsignedOf}
+use Rattle.text.proofs.Texts.{between-of-unsignedOf, signedOf-of-unsignedOf}
 use Rattle.header.proofs.Offsets.{fieldsOf-of-tests, fieldsOf-of-length, fieldsOf-of-sign}
 
+between-cut : (n : ℕ) (w : List ℕ) → Between 43 57 (take n w) → Between 43 57 (drop n w) → Between 43 57 w
+between-cut n w a b = rw (take-append-drop n w) at (Between-append 43 57 (take n w) (drop n w) a b)
+
 -- ---- fields
--- a field that is an unsigned number is the same signed number, and has no `:` in it
+-- a field that is an unsigned number is the same signed number, and its bytes lie between `+` and `9`
 abbrev bytesAt : List ℕ → ℕ → List ℕ
 bytesAt w at = take 2 (drop at w)
 
 record Same (w : List ℕ) (at : ℕ) (z : ℤ) : Type 0 where
   signed : fieldOf Signed w at ≡ Is z
-  plain : has 58 (bytesAt w at) ≡ false
+  between : Between 43 57 (bytesAt w at)
 
 field-same : (w : List ℕ) (at : ℕ) (z : ℤ) → fieldOf Byte w at ≡ Is z → Same w at z
 unfolding fieldOf
 field-same w at z e = go (unsignedOf (bytesAt w at)) refl (rw (fit-take 255 (drop at w) (omega arith)) at e)
   where
     go : (x : Number) → unsignedOf (bytesAt w at) ≡ x → plus x ≡ Is z → Same w at z
-    go (Value n) u k = record { signed = signedOf-of-unsignedOf (bytesAt w at) n u ∙ k; plain = no-colon-of-between 43 (bytesAt w at) (between-of-unsignedOf n (bytesAt w at) u) }
+    go (Value n) u k = record { signed = signedOf-of-unsignedOf (bytesAt w at) n u ∙ k; between = between-of-unsignedOf n (bytesAt w at) u }
     go NoNumber u k = let q : _≡_ {A = ℕ} 0 1 = cc in absurd (omega arith)
 
 last-same : (w : List ℕ) (z : ℤ) → lastField Byte w ≡ Is z → lastField Signed w ≡ Is z
@@ -119,32 +121,33 @@ module _ (w : List ℕ) (f : Fields) (e : fieldsOf Byte w ≡ Offset f) where
   pub fieldsOf-not-negative : NotNegative (f .hours) × NotNegative (f .minutes)
   fieldsOf-not-negative = together-not-negative _ (fieldOf Byte w 1) (fieldOf Byte w 3) (lastField Byte w) f opened (fieldOf-not-negative w 1) (fieldOf-not-negative w 3)
 
-  -- and it holds no `:`
+  -- and its bytes lie between `+` and `9`
   numbers : Numbers (fieldOf Byte w 1) (fieldOf Byte w 3) (lastField Byte w)
   numbers = together-numbers _ (fieldOf Byte w 1) (fieldOf Byte w 3) (lastField Byte w) f opened
 
-  no-colon-from-5 : has 58 (drop 5 w) ≡ false
+  between-from-5 : Between 43 57 (drop 5 w)
   unfolding lastField fiveOrSeven
-  no-colon-from-5 =
+  between-from-5 =
       by-test (eqb (length w) 7)
       (λ a.
       let end : drop 2 (drop 5 w) ≡ [] = drop-drop 2 5 w ∙ drop-of-length-le w {i = 7} (omega (arith, eqb-true (length w) 7 a)) in
-      not-has-cut 58 2 (drop 5 w) (field-same w 5 (numbers .seconds) (rw a at (numbers .seconds-is)) .plain) (rw end (has-nil 58)))
+      between-cut 2 (drop 5 w) (field-same w 5 (numbers .seconds) (rw a at (numbers .seconds-is)) .between) (rw end tt))
       (λ a.
-      by-test (eqb (length w) 5) (λ b. rw (drop-of-length-le w (five b)) (has-nil 58)) (λ b. absurd (false≢true (rw (a, b) at right-length))))
+      by-test (eqb (length w) 5) (λ b. rw (drop-of-length-le w (five b)) tt) (λ b. absurd (false≢true (rw (a, b) at right-length))))
     where
       five : eqb (length w) 5 ≡ true → length w ≤ 5
       five b = omega (arith, eqb-true (length w) 5 b)
 
-  no-colon-from-1 : has 58 (drop 1 w) ≡ false
-  no-colon-from-1 =
-      not-has-cut 58 2 (drop 1 w) (field-same w 1 (numbers .hours) (numbers .hours-is) .plain)
-      (rw (drop-drop 2 1 w) (not-has-cut 58 2 (drop 3 w) (field-same w 3 (numbers .minutes) (numbers .minutes-is) .plain) (rw (drop-drop 2 3 w) no-colon-from-5)))
+  between-from-1 : Between 43 57 (drop 1 w)
+  between-from-1 =
+      between-cut 2 (drop 1 w) (field-same w 1 (numbers .hours) (numbers .hours-is) .between)
+      (rw (drop-drop 2 1 w) (between-cut 2 (drop 3 w) (field-same w 3 (numbers .minutes) (numbers .minutes-is) .between) (rw (drop-drop 2 3 w) between-from-5)))
 
-no-colon-sign : (w : List ℕ) → isSign (getD w 0 0) ≡ true → has 58 (take 1 w) ≡ false
+between-sign : (w : List ℕ) → isSign (getD w 0 0) ≡ true → Between 43 57 (take 1 w)
 unfolding isSign
-no-colon-sign [] h = has-nil 58
-no-colon-sign (b ∷ w) h = not-has-cons 58 b [] (ne-eqb b 58 (λ e. false≢true (rw e at h))) (has-nil 58)
+between-sign [] h = tt
+between-sign (b ∷ w) h =
+    by-test (eqb b 43) (λ e. let k = eqb-true b 43 e in (omega arith, omega arith, tt)) (λ e. let k = eqb-true b 45 (rw e at h) in (omega arith, omega arith, tt))
 
-pub no-colon-of-fieldsOf : (w : List ℕ) (f : Fields) → fieldsOf Byte w ≡ Offset f → has 58 w ≡ false
-no-colon-of-fieldsOf w f e = not-has-cut 58 1 w (no-colon-sign w (right-sign w f e)) (no-colon-from-1 w f e)
+pub between-of-fieldsOf : (w : List ℕ) (f : Fields) → fieldsOf Byte w ≡ Offset f → Between 43 57 w
+between-of-fieldsOf w f e = between-cut 1 w (between-sign w (right-sign w f e)) (between-from-1 w f e)
