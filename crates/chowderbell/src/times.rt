@@ -23,6 +23,11 @@ use time::Written;
 
 pub(crate) const SUCCESS: u8 = 0;
 
+// The numbers by which callers name a rule.
+const RULE_1: u32 = 1;
+
+const RULE_2: u32 = 2;
+
 // The rule that a number names, or that it names none.
 enum Named {
     By(Rule),
@@ -82,6 +87,8 @@ pub extern "C" fn chowderbell_relative(
     )
 }
 
+// By rule 1. The call of `dates` is in one entry alone, so that the compiler inlines it there; called from two places it is not,
+// and a number took half as long again.
 #[no_mangle]
 pub extern "C" fn chowderbell_any(
     text: &[u8],
@@ -93,8 +100,12 @@ pub extern "C" fn chowderbell_any(
 ) -> u8
     ensures { λ r. ⌜ HandedOut (anyOf rule1 (now (text .entry)) (nowOf «has_now» «now_seconds» «now_offset»)) r (now (seconds .exit)) (now (offset .exit)) ⌝ }
 {
-    hand_out(
-        dates::parse(text, now_of(has_now, now_seconds, now_offset)),
+    chowderbell_any_by(
+        RULE_1,
+        text,
+        has_now,
+        now_seconds,
+        now_offset,
         seconds,
         offset,
     )
@@ -171,10 +182,10 @@ fn now_of(has_now: u8, now_seconds: i64, now_offset: i32) -> Now
 fn rule_of(number: u32) -> Named
     ensures { λ r. ⌜ r ≡ ruleOf number ⌝ }
 {
-    if number == 1 {
+    if number == RULE_1 {
         return Named::By(Rule::One);
     }
-    if number == 2 {
+    if number == RULE_2 {
         return Named::By(Rule::Two);
     }
     Named::Nothing

@@ -8,10 +8,8 @@ use Rattle.chowderbell.proofs.times.chowderbell_any.Tie as tie
 
 returns : tie.Need-returns
 returns c =
-    let at-parse = c .before .before .before in
-    let start = at-parse .before .before .before in
-    let now-is = rw (toZ-ofZ {w = w64} (start .fits .now-seconds), toZ-ofZ {w = w32} (start .fits .now-offset)) at (at-parse .before .now-of .ensures) in
-    rw (← now-is, ← at-parse .parse .ensures) (c .hand-out .ensures)
+    let start = c .before .before .before .before in
+    rw (toZ-ofZ {w = w64} (start .fits .now-seconds), toZ-ofZ {w = w32} (start .fits .now-offset)) at (c .chowderbell-any-by .ensures)
 
 pub chowderbell-any-spec : {M : Type 1} → statement M
-chowderbell-any-spec = tie.close (tie.spec (λ c κs. search needs) (λ c κs. search needs) (λ c κs. search needs) returns)
+chowderbell-any-spec = tie.close (tie.spec (λ c κs. search needs) returns)
