@@ -6,7 +6,9 @@
 # gix-date/ stay as they are too: they are copied to target/differential/gix-date, and there
 #   - a module `visible` is added at the end of parse/mod.rs and of parse/relative.rs;
 #   - `parse_cut` is added at the end of parse/function.rs: the text of `parse` less its six calls into
-#     jiff's text readers.
+#     jiff's text readers;
+#   - `parse_raw_2` is added at the end of parse/raw.rs: the text of `parse_raw` with the limits of rule 2
+#     on hours and minutes; and `parse_cut_2`, the text of `parse_cut` with `parse_raw_2` for `parse_raw`.
 #
 # Usage: oracle.sh [--debs DIR] [--sources FILE] [--any-version]
 #   --debs DIR      take the four .deb files from DIR and ask no network
@@ -14,7 +16,7 @@
 #   --any-version   take the versions that sid has today, whatever they are
 #
 # Exit status: 0 the oracle is built; 1 cargo could not build it; 2 bad usage, or a tool is missing;
-# 3 the packages cannot be had; 4 the files under gix-date/ are not those that the cut is written for.
+# 3 the packages cannot be had; 4 the files under gix-date/ are not those that these edits are written for.
 set -eu
 
 here=$(cd "$(dirname "$0")" && pwd)
@@ -187,6 +189,31 @@ cut_parse() {
     ' "$1"
 }
 
+# `parse_raw` with the limits of rule 2, from the text of parse/raw.rs: one line differs. Status 1 if that
+# line is not the one that this is written for.
+raw_by_rule_2() {
+    awk '
+        /^pub fn parse_raw\(/ { on = 1; sub(/parse_raw\(/, "parse_raw_2("); print "\n/// `parse_raw` with hours below 24 and minutes below 60." }
+        !on { next }
+        $0 == "    if hours > 14 || (minutes != 0 && minutes != 15 && minutes != 30 && minutes != 45) || offset_seconds != 0 {" {
+            $0 = "    if hours >= 24 || minutes >= 60 || offset_seconds != 0 {"
+            changed++
+        }
+        { print }
+        /^}$/ { exit }
+        END { exit !(changed == 1) }
+    ' "$1"
+}
+
+# `parse_cut` by rule 2, from its text: its two calls of `parse_raw` differ. Status 1 if there are not two.
+cut_by_rule_2() {
+    awk '
+        { sub(/`parse` less/, "`parse` by rule 2, less"); sub(/parse_cut\(/, "parse_cut_2(") }
+        { calls += gsub(/parse_raw\(/, "crate::parse::raw::parse_raw_2("); print }
+        END { exit !(calls == 2) }
+    ' "$1"
+}
+
 # Copies gix-date to the build folder and makes its private readers visible there. A copy that is up to
 # date is left alone, so that cargo builds it once.
 make_visible() {
@@ -199,7 +226,12 @@ make_visible() {
     cat "$here/oracle/parse-relative.rs" >>"$work/gix-date/src/parse/relative.rs"
     cut_parse "$here/gix-date/src/parse/function.rs" >"$scratch/cut" ||
         stop 4 'parse in gix-date/src/parse/function.rs is not the text that the cut is written for'
-    cat "$scratch/cut" >>"$work/gix-date/src/parse/function.rs"
+    raw_by_rule_2 "$here/gix-date/src/parse/raw.rs" >"$scratch/raw-2" ||
+        stop 4 'parse_raw in gix-date/src/parse/raw.rs is not the text that the change of its limits is written for'
+    cut_by_rule_2 "$scratch/cut" >"$scratch/cut-2" ||
+        stop 4 'parse in gix-date/src/parse/function.rs does not call parse_raw twice'
+    cat "$scratch/cut" "$scratch/cut-2" >>"$work/gix-date/src/parse/function.rs"
+    cat "$scratch/raw-2" >>"$work/gix-date/src/parse/raw.rs"
     printf '%s\n' "$sum" >"$work/gix-date/made-from"
 }
 

@@ -9,7 +9,7 @@
  *   number                        given exactly when
  *   0  CHOWDERBELL_OK             it succeeded
  *   1  CHOWDERBELL_NOT_ASCII      the text holds a byte of 128 or more
- *   2  CHOWDERBELL_FORM           the text is not of the form asked for
+ *   2  CHOWDERBELL_FORM           the text is not of the form asked for; or the number of a rule is not 1 or 2
  *   3  CHOWDERBELL_MISSING        the text is relative and the current time is missing
  *   4  CHOWDERBELL_CURRENT        the text is relative and the current time's seconds or offset is out of range
  *   5  CHOWDERBELL_PAIRS          the text is relative with more than 32 pairs of a count and a unit
@@ -48,6 +48,10 @@ extern "C" {
 #define CHOWDERBELL_ROOM 8
 #define CHOWDERBELL_BOOK 10
 
+/* The rules for the offset of a raw date. A caller names one by its number. */
+#define CHOWDERBELL_RULE_1 1 /* hours to 14; minutes 0, 15, 30 or 45 */
+#define CHOWDERBELL_RULE_2 2 /* hours to 23; minutes to 59 */
+
 /* The bytes of the longest header, and of every ISO line. */
 #define CHOWDERBELL_HEADER_MAX 26
 #define CHOWDERBELL_ISO_LENGTH 25
@@ -63,8 +67,15 @@ extern "C" {
 /* A commit header's date, "1745582210 +0200". A bad offset is read as 0 and is not refused. Returns 0, 1 or 2. */
 uint8_t chowderbell_header(const uint8_t *text, size_t len, int64_t *seconds, int32_t *offset);
 
-/* A raw date, strictly: two words, hours to 14, minutes 0, 15, 30 or 45. Returns 0, 1 or 2. */
+/* A raw date, strictly: two words, hours to 14, minutes 0, 15, 30 or 45. This is rule 1 below. Returns 0, 1 or 2. */
 uint8_t chowderbell_raw(const uint8_t *text, size_t len, int64_t *seconds, int32_t *offset);
+
+/* A raw date by the rule with this number.
+     rule 1  lets through an offset with hours to 14 and minutes 0, 15, 30 or 45: "+0545", "-1400".
+     rule 2  lets through an offset with hours to 23 and minutes to 59: also "+0520", "-2000", "+2359".
+   By both rules an offset may have seconds, which must be 0: "+054500". What rule 1 reads, rule 2 reads as the same time.
+   For any number but 1 or 2 every text is refused: by 1 if it holds a byte of 128 or more, otherwise by 2. Returns 0, 1 or 2. */
+uint8_t chowderbell_raw_by(uint32_t rule, const uint8_t *text, size_t len, int64_t *seconds, int32_t *offset);
 
 /* An ISO date: "2008-02-14 20:30:45 -0500", "20080214T203045-04:00", "2008.02.14 20:30:45". Returns 0, 1 or 2. */
 uint8_t chowderbell_iso(const uint8_t *text, size_t len, int64_t *seconds, int32_t *offset);
@@ -75,9 +86,14 @@ uint8_t chowderbell_relative(const uint8_t *text, size_t len, uint8_t has_now, i
                              int64_t *seconds, int32_t *offset);
 
 /* A date in any form, tried in this order: "@" and then a raw date or a number; a number of at least 100000000, as seconds at
-   offset 0; an ISO date; a relative date; a raw date. Returns 0 to 6. */
+   offset 0; an ISO date; a relative date; a raw date. Raw dates are read by rule 1. Returns 0 to 6. */
 uint8_t chowderbell_any(const uint8_t *text, size_t len, uint8_t has_now, int64_t now_seconds, int32_t now_offset,
                         int64_t *seconds, int32_t *offset);
+
+/* A date in any form, tried in the same order, with raw dates read by the rule with this number, also behind "@". For any number
+   but 1 or 2 every text is refused, "now" too: by 1 if it holds a byte of 128 or more, otherwise by 2. Returns 0 to 6. */
+uint8_t chowderbell_any_by(uint32_t rule, const uint8_t *text, size_t len, uint8_t has_now, int64_t now_seconds,
+                           int32_t now_offset, int64_t *seconds, int32_t *offset);
 
 /* Returns how many bytes the header of a time has, 7 to 26, also for an offset that is too wide to write. This is a length and not
    a number of the table above. */

@@ -6,12 +6,19 @@ pub mod visible {
 
     /// `parse` less its six calls into jiff's text readers.
     pub use super::function::parse_cut as any;
+    /// The same with raw dates read by rule 2.
+    pub use super::function::parse_cut_2 as any_2;
     /// How many pairs `relative::parse` found.
     pub use super::relative::visible::pairs;
 
     /// `raw::parse_raw`.
     pub fn raw(input: &str) -> Option<Time> {
         super::raw::parse_raw(input)
+    }
+
+    /// `raw::parse_raw` by rule 2: with hours below 24 and minutes below 60.
+    pub fn raw_2(input: &str) -> Option<Time> {
+        super::raw::parse_raw_2(input)
     }
 
     /// `git::parse_git_date_format`.

@@ -19,6 +19,8 @@ const SECONDS_BEFORE: i64 = 0x5a5a_5a5a_5a5a_5a5a;
 const OFFSET_BEFORE: i32 = 0x5a5a_5a5a;
 const LENGTH_BEFORE: usize = 0x5a5a;
 const ROOM_BEFORE: u8 = 0xa5;
+/// Numbers that name no rule. A text is asked by one of them, by its length.
+const NO_RULES: [u32; 4] = [0, 3, 4, u32::MAX];
 
 /// What a side was asked.
 #[derive(Clone, PartialEq, Eq)]
@@ -48,9 +50,9 @@ impl fmt::Display for Question {
     fn fmt(&self, f: &mut fmt::Formatter<'_>) -> fmt::Result {
         match self {
             Question::Read { form, text, now } => {
-                write!(f, "{} \"{}\"", form.name(), text.escape_ascii())?;
+                write!(f, "{form} \"{}\"", text.escape_ascii())?;
                 match now {
-                    Some((seconds, offset)) if matches!(form, Form::Relative | Form::Any) => {
+                    Some((seconds, offset)) if matches!(form, Form::Relative | Form::Any | Form::AnyBy(_)) => {
                         write!(f, ", current time {seconds} {offset}")
                     }
                     _ => Ok(()),
@@ -90,8 +92,42 @@ pub struct Row {
     pub smallest: Option<Difference>,
 }
 
-const SIZE_ROW: usize = FORMS.len();
-const ROWS: usize = FORMS.len() + 3;
+/// The rows of the summary. A reader by a rule has one for each rule, and one for all numbers that name none.
+const ROW_NAMES: [&str; 14] = [
+    "header",
+    "raw",
+    "raw by 1",
+    "raw by 2",
+    "raw by no rule",
+    "iso",
+    "relative",
+    "any",
+    "any by 1",
+    "any by 2",
+    "any by no rule",
+    "size",
+    "header writer",
+    "ISO writer",
+];
+const ROWS: usize = ROW_NAMES.len();
+const SIZE_ROW: usize = 11;
+
+/// The row of a reader.
+fn row_of(form: Form) -> usize {
+    match form {
+        Form::Header => 0,
+        Form::Raw => 1,
+        Form::RawBy(1) => 2,
+        Form::RawBy(2) => 3,
+        Form::RawBy(_) => 4,
+        Form::Iso => 5,
+        Form::Relative => 6,
+        Form::Any => 7,
+        Form::AnyBy(1) => 8,
+        Form::AnyBy(2) => 9,
+        Form::AnyBy(_) => 10,
+    }
+}
 
 /// Everything that was compared.
 pub struct Ledger<'a> {
@@ -168,20 +204,33 @@ impl<'a> Ledger<'a> {
         }
     }
 
-    /// Asks one reader, and compares number, seconds and offset. On a refusal seconds and offset must be 0.
+    /// Asks the reader of a form. Raw and "any" are also asked by rule 1, by rule 2 and by a number that names no rule.
     pub fn ask(&mut self, form: Form, text: &[u8], now: &Now) {
+        self.ask_one(form, text, now);
+        let by: fn(u32) -> Form = match form {
+            Form::Raw => Form::RawBy,
+            Form::Any => Form::AnyBy,
+            _ => return,
+        };
+        for rule in [1, 2, NO_RULES[text.len() % NO_RULES.len()]] {
+            self.ask_one(by(rule), text, now);
+        }
+    }
+
+    /// Asks one reader, and compares number, seconds and offset. On a refusal seconds and offset must be 0.
+    fn ask_one(&mut self, form: Form, text: &[u8], now: &Now) {
         if self.is_over() {
             return;
         }
         let (wanted, by) = oracle::wanted(form, text, now);
         let got = self.read(form, text, now);
-        let row = &mut self.rows[form as usize];
+        let row = &mut self.rows[row_of(form)];
         row.compared += 1;
         row.accepted += u64::from(wanted.number == 0);
         row.by_rules += u64::from(by == By::Rules);
         if got != wanted {
             let question = Question::Read { form, text: text.to_vec(), now: now.time };
-            self.note(form as usize, question, shown(wanted), shown(got));
+            self.note(row_of(form), question, shown(wanted), shown(got));
         }
         self.tick();
     }
@@ -250,7 +299,7 @@ impl<'a> Ledger<'a> {
         memory.copy_from_slice(text);
         let (mut seconds, mut offset) = (SECONDS_BEFORE, OFFSET_BEFORE);
         let number = self.side.read(form, memory, now, &mut seconds, &mut offset);
-        assert!(memory == text, "{} changed its text \"{}\"", form.name(), text.escape_ascii());
+        assert!(memory == text, "{form} changed its text \"{}\"", text.escape_ascii());
         Answer { number, seconds, offset }
     }
 
@@ -349,8 +398,9 @@ impl<'a> Ledger<'a> {
         }
         println!("{:<14} {:>14} {:>62}", "all", grouped(self.compared()), grouped(self.differ()));
         println!(
-            "\"rules alone\": answers that gix-date cannot give (4), or that differ from its own on purpose (1, 5)."
+            "\"rules alone\": answers that gix-date cannot give (4; 2 by a number that names no rule), or that differ"
         );
+        println!("from its own on purpose (1, 5). By rule 2 the others are gix-date's with the limits of that rule.");
         for (row, name) in ROW_NAMES.iter().enumerate() {
             if let Some(difference) = self.smallest_of(row) {
                 println!("\nsmallest of {name}: {difference}");
@@ -358,8 +408,6 @@ impl<'a> Ledger<'a> {
         }
     }
 }
-
-const ROW_NAMES: [&str; ROWS] = ["header", "raw", "iso", "relative", "any", "size", "header writer", "ISO writer"];
 
 fn shown(answer: Answer) -> String {
     format!("{} {} {}", answer.number, answer.seconds, answer.offset)

@@ -1,8 +1,13 @@
 //! What gix-date answers, with the numbers of RULES 2.
 //!
 //! gix-date says "read" or "not read". The number of a text that is not read follows from the reader that failed and from
-//! the current time. Three answers follow from the rules alone, because gix-date has nothing like them: 1 for a byte of
-//! 128 or more, 4 for a current time out of range, 5 for more than 32 pairs.
+//! the current time. Four answers follow from the rules alone, because gix-date has nothing like them: 1 for a byte of
+//! 128 or more, 2 for a number that names no rule, 4 for a current time out of range, 5 for more than 32 pairs.
+//!
+//! gix-date reads raw dates by rule 1 (RULES 5.7). By rule 2 the answers are those of its own code with the two limits
+//! of that rule.
+
+use std::fmt;
 
 use gix_date::Time;
 use gix_date::parse::visible;
@@ -20,26 +25,33 @@ pub const MAX_PAIRS: usize = 32;
 pub const LEAST_PLAIN: i64 = 100_000_000;
 
 /// A form of text. Each has its reader.
-#[derive(Clone, Copy, PartialEq, Eq, PartialOrd, Ord, Debug)]
+#[derive(Clone, Copy, PartialEq, Eq, Debug)]
 pub enum Form {
     Header,
     Raw,
+    /// A raw date by the rule with this number.
+    RawBy(u32),
     Iso,
     Relative,
     Any,
+    /// A date in any form, with raw dates by the rule with this number.
+    AnyBy(u32),
 }
 
+/// The forms whose readers take no rule: those of `whenread`.
 pub const FORMS: [Form; 5] = [Form::Header, Form::Raw, Form::Iso, Form::Relative, Form::Any];
 
-impl Form {
-    /// Its name in a line of `whenread`.
-    pub fn name(self) -> &'static str {
+/// Its name. Without a rule, that is its name in a line of `whenread`.
+impl fmt::Display for Form {
+    fn fmt(&self, f: &mut fmt::Formatter<'_>) -> fmt::Result {
         match self {
-            Form::Header => "header",
-            Form::Raw => "raw",
-            Form::Iso => "iso",
-            Form::Relative => "relative",
-            Form::Any => "any",
+            Form::Header => f.write_str("header"),
+            Form::Raw => f.write_str("raw"),
+            Form::RawBy(rule) => write!(f, "raw by rule {rule}"),
+            Form::Iso => f.write_str("iso"),
+            Form::Relative => f.write_str("relative"),
+            Form::Any => f.write_str("any"),
+            Form::AnyBy(rule) => write!(f, "any by rule {rule}"),
         }
     }
 }
@@ -65,10 +77,29 @@ impl Answer {
 /// Where an answer comes from.
 #[derive(Clone, Copy, PartialEq, Eq, Debug)]
 pub enum By {
-    /// gix-date: it read the text, or did not.
+    /// gix-date, which by rule 2 has the limits of that rule: it read the text, or did not.
     Rust,
-    /// The rules alone: they differ from gix-date on purpose (1, 5), or gix-date cannot be asked (4).
+    /// The rules alone: they differ from gix-date on purpose (1, 5), or gix-date cannot be asked (4, and 2 for a number
+    /// that names no rule).
     Rules,
+}
+
+/// What depends on the rule of raw dates: gix-date's readers of these and of "any".
+struct Readers {
+    raw: fn(&str) -> Option<Time>,
+    any: fn(&str, Option<Zoned>) -> Option<Time>,
+}
+
+const BY_RULE_1: Readers = Readers { raw: visible::raw, any: |text, now| visible::any(text, now).ok() };
+const BY_RULE_2: Readers = Readers { raw: visible::raw_2, any: |text, now| visible::any_2(text, now).ok() };
+
+/// The readers by the rule with this number, if it names one.
+fn readers_by(rule: u32) -> Option<Readers> {
+    match rule {
+        1 => Some(BY_RULE_1),
+        2 => Some(BY_RULE_2),
+        _ => None,
+    }
 }
 
 /// A current time, also in the form that gix-date takes.
@@ -111,7 +142,8 @@ pub fn wanted(form: Form, text: &[u8], now: &Now) -> (Answer, By) {
     };
     match form {
         Form::Header => plain(gix_date::parse_header(text)),
-        Form::Raw => plain(visible::raw(text)),
+        Form::Raw => plain((BY_RULE_1.raw)(text)),
+        Form::RawBy(rule) => readers_by(rule).map_or(NO_RULE, |readers| plain((readers.raw)(text))),
         Form::Iso => plain(visible::iso(text)),
         Form::Relative => match visible::relative(text, now.zoned()) {
             None => (Answer::refused(2), By::Rust),
@@ -119,21 +151,30 @@ pub fn wanted(form: Form, text: &[u8], now: &Now) -> (Answer, By) {
             Some(Ok(zoned)) => (landed(&zoned), By::Rust),
             Some(Err(_)) => unread(now),
         },
-        Form::Any => match visible::any(text, now.zoned()) {
-            Ok(_) if has_too_many_pairs(text) && is_read_as_relative(text) => (Answer::refused(5), By::Rules),
-            Ok(time) => (Answer::read(time), By::Rust),
-            Err(_) => match visible::relative(text, None) {
-                None => (Answer::refused(2), By::Rust),
-                Some(_) if has_too_many_pairs(text) => (Answer::refused(5), By::Rules),
-                Some(_) => unread(now),
-            },
-        },
+        Form::Any => any(BY_RULE_1, text, now),
+        Form::AnyBy(rule) => readers_by(rule).map_or(NO_RULE, |readers| any(readers, text, now)),
     }
 }
+
+/// The answer to every ASCII text if the number of the rule names none.
+const NO_RULE: (Answer, By) = (Answer { number: 2, seconds: 0, offset: 0 }, By::Rules);
 
 /// The answer of a reader that needs no current time.
 fn plain(time: Option<Time>) -> (Answer, By) {
     (time.map_or(Answer::refused(2), Answer::read), By::Rust)
+}
+
+/// The answer of "any".
+fn any(readers: Readers, text: &str, now: &Now) -> (Answer, By) {
+    match (readers.any)(text, now.zoned()) {
+        Some(_) if has_too_many_pairs(text) && is_read_as_relative(readers, text) => (Answer::refused(5), By::Rules),
+        Some(time) => (Answer::read(time), By::Rust),
+        None => match visible::relative(text, None) {
+            None => (Answer::refused(2), By::Rust),
+            Some(_) if has_too_many_pairs(text) => (Answer::refused(5), By::Rules),
+            Some(_) => unread(now),
+        },
+    }
 }
 
 /// The answer to a relative text that gives no time.
@@ -153,8 +194,8 @@ fn has_too_many_pairs(text: &str) -> bool {
 }
 
 /// Whether "any" gets as far as the relative form. Only used for texts with many pairs.
-fn is_read_as_relative(text: &str) -> bool {
-    let at = text.strip_prefix('@').is_some_and(|rest| visible::raw(rest).is_some() || rest.parse::<i64>().is_ok());
+fn is_read_as_relative(readers: Readers, text: &str) -> bool {
+    let at = text.strip_prefix('@').is_some_and(|rest| (readers.raw)(rest).is_some() || rest.parse::<i64>().is_ok());
     let number = text.parse::<i64>().is_ok_and(|number| number >= LEAST_PLAIN);
     !at && !number && visible::iso(text).is_none() && visible::relative(text, None).is_some()
 }

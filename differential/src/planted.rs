@@ -45,6 +45,28 @@ pub const MISTAKES: &[Mistake] = &[
     Mistake { name: "\"any\" trims", read: any_trims, ..RIGHT },
     Mistake { name: "\"any\" reads numbers from 99999999 on", read: any_reads_99999999, ..RIGHT },
     Mistake { name: "a refusal leaves what was in seconds and offset", leaves_outputs: true, ..RIGHT },
+    Mistake { name: "rule 2 lets hours 24 through", read: hours_24, ..RIGHT },
+    Mistake { name: "rule 2 lets minutes 60 through", read: minutes_60, ..RIGHT },
+    Mistake { name: "rule 2 lets seconds through", read: offset_seconds, ..RIGHT },
+    Mistake { name: "rule 2 refuses fields that open with `+`", read: no_plus_in_fields, ..RIGHT },
+    Mistake { name: "rule 3 is read as rule 1", read: |f, t, n| taken_for(f, t, n, 3, 1), ..RIGHT },
+    Mistake { name: "rule 0 is read as rule 1", read: |f, t, n| taken_for(f, t, n, 0, 1), ..RIGHT },
+    Mistake { name: "rule 2 is read as rule 1", read: |f, t, n| taken_for(f, t, n, 2, 1), ..RIGHT },
+    Mistake { name: "rule 1 is read as rule 2", read: |f, t, n| taken_for(f, t, n, 1, 2), ..RIGHT },
+    Mistake { name: "only the low byte of a rule's number counts", read: low_byte_of_rule, ..RIGHT },
+    Mistake { name: "calls without a rule keep to rule 2", read: unruled_by_rule_2, ..RIGHT },
+    Mistake {
+        name: "\"any\" keeps to its rule only after `@`",
+        read: |f, t, n| any_by_rule_1(f, t, n, false),
+        ..RIGHT
+    },
+    Mistake {
+        name: "\"any\" keeps to its rule only without `@`",
+        read: |f, t, n| any_by_rule_1(f, t, n, true),
+        ..RIGHT
+    },
+    Mistake { name: "\"any\" reads `now` by rule 3", read: relative_without_rule, ..RIGHT },
+    Mistake { name: "by rule 3, byte 128 is refused by 2", read: no_rule_before_1, ..RIGHT },
     Mistake { name: "size is always 26", size: |_, _| 26, ..WRITERS },
     Mistake { name: "size miscounts 1000000000000000000", size: miscounts, ..WRITERS },
     Mistake { name: "the writer writes nothing", write: writes_nothing, ..WRITERS },
@@ -216,6 +238,91 @@ fn any_trims(form: Form, text: &[u8], now: &Now) -> Option<Answer> {
 
 fn any_reads_99999999(form: Form, text: &[u8], _: &Now) -> Option<Answer> {
     (form == Form::Any && text == b"99999999").then_some(time(99999999, 0))
+}
+
+/// The number of the rule, if the form has one.
+fn rule_of(form: Form) -> Option<u32> {
+    match form {
+        Form::RawBy(rule) | Form::AnyBy(rule) => Some(rule),
+        _ => None,
+    }
+}
+
+/// By rule 2: the text with `field` at `place` of its offset replaced, if the offset has it there. Also the offset's sign.
+fn replaced(form: Form, text: &[u8], place: usize, field: &str, instead: &str) -> Option<(i32, Vec<u8>)> {
+    let offset = second_word(text).filter(|_| rule_of(form) == Some(2))?;
+    if offset.get(place..place + 2)? != field {
+        return None;
+    }
+    let mut changed = std::str::from_utf8(text).ok()?.to_string();
+    let at = changed.rfind(offset)? + place;
+    changed.replace_range(at..at + 2, instead);
+    Some((if offset.starts_with('-') { -1 } else { 1 }, changed.into_bytes()))
+}
+
+/// The answer with `more` seconds in its offset, if it is a time.
+fn wider(answer: Answer, more: i32) -> Option<Answer> {
+    (answer.number == 0).then(|| time(answer.seconds, answer.offset + more))
+}
+
+fn hours_24(form: Form, text: &[u8], now: &Now) -> Option<Answer> {
+    let (sign, text) = replaced(form, text, 1, "24", "23")?;
+    wider(right(form, &text, now), sign * 3600)
+}
+
+fn minutes_60(form: Form, text: &[u8], now: &Now) -> Option<Answer> {
+    let (sign, text) = replaced(form, text, 3, "60", "59")?;
+    wider(right(form, &text, now), sign * 60)
+}
+
+fn offset_seconds(form: Form, text: &[u8], now: &Now) -> Option<Answer> {
+    let (sign, text) = replaced(form, text, 5, "01", "00")?;
+    wider(right(form, &text, now), sign)
+}
+
+fn no_plus_in_fields(form: Form, text: &[u8], _: &Now) -> Option<Answer> {
+    let fields = second_word(text)?.get(1..)?;
+    (form == Form::RawBy(2) && fields.contains('+')).then_some(refused(2))
+}
+
+/// The form by another rule, if it has a rule.
+fn with_rule(form: Form, rule: u32) -> Form {
+    match form {
+        Form::RawBy(_) => Form::RawBy(rule),
+        Form::AnyBy(_) => Form::AnyBy(rule),
+        _ => form,
+    }
+}
+
+/// The right answer by rule `other` where `rule` was asked for.
+fn taken_for(form: Form, text: &[u8], now: &Now, rule: u32, other: u32) -> Option<Answer> {
+    (rule_of(form) == Some(rule)).then(|| right(with_rule(form, other), text, now))
+}
+
+fn low_byte_of_rule(form: Form, text: &[u8], now: &Now) -> Option<Answer> {
+    rule_of(form).map(|rule| right(with_rule(form, rule & 255), text, now))
+}
+
+fn unruled_by_rule_2(form: Form, text: &[u8], now: &Now) -> Option<Answer> {
+    match form {
+        Form::Raw => Some(right(Form::RawBy(2), text, now)),
+        Form::Any => Some(right(Form::AnyBy(2), text, now)),
+        _ => None,
+    }
+}
+
+/// "Any" by rule 1 where rule 2 was asked for: of texts that begin with `@`, or of those that do not.
+fn any_by_rule_1(form: Form, text: &[u8], now: &Now, at: bool) -> Option<Answer> {
+    (form == Form::AnyBy(2) && text.starts_with(b"@") == at).then(|| right(Form::AnyBy(1), text, now))
+}
+
+fn relative_without_rule(form: Form, text: &[u8], now: &Now) -> Option<Answer> {
+    let answer = (form == Form::AnyBy(3)).then(|| right(Form::Relative, text, now))?;
+    Some(answer).filter(|answer| answer.number == 0)
+}
+
+fn no_rule_before_1(form: Form, _: &[u8], _: &Now) -> Option<Answer> {
+    (rule_of(form) == Some(3)).then_some(refused(2))
 }
 
 fn miscounts(seconds: i64, offset: i32) -> usize {

@@ -5,7 +5,7 @@ use chowderbell::entries;
 
 use crate::oracle::{Form, Now, Writer};
 
-/// Five readers, `size` and two writers, with all that they write.
+/// The readers, `size` and two writers, with all that they write.
 pub trait Side {
     /// Reads `text`. Returns the number, and leaves in `seconds` and `offset` what the reader wrote there.
     fn read(&self, form: Form, text: &[u8], now: &Now, seconds: &mut i64, offset: &mut i32) -> u8;
@@ -30,14 +30,20 @@ impl Ours {
         match form {
             Form::Header => entries::header(text, seconds, offset),
             Form::Raw => entries::raw(text, seconds, offset),
+            #[cfg(feature = "rules")]
+            Form::RawBy(rule) => entries::raw_by(rule, text, seconds, offset),
             Form::Iso => entries::iso(text, seconds, offset),
             Form::Relative => entries::relative(text, has_now, now_seconds, now_offset, seconds, offset),
             Form::Any => entries::any(text, has_now, now_seconds, now_offset, seconds, offset),
+            #[cfg(feature = "rules")]
+            Form::AnyBy(rule) => entries::any_by(rule, text, has_now, now_seconds, now_offset, seconds, offset),
+            #[cfg(not(feature = "rules"))]
+            Form::RawBy(_) | Form::AnyBy(_) => panic!("built without the calls that take a rule"),
         }
     }
 }
 
-#[cfg(feature = "ours")]
+#[cfg(feature = "rules")]
 impl Side for Ours {
     fn read(&self, form: Form, text: &[u8], now: &Now, seconds: &mut i64, offset: &mut i32) -> u8 {
         // Any value but 0 means that there is a current time. Without one, its numbers must not matter.

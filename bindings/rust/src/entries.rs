@@ -13,6 +13,7 @@ mod c {
     extern "C" {
         pub fn chowderbell_header(text: *const u8, len: usize, seconds: *mut i64, offset: *mut i32) -> u8;
         pub fn chowderbell_raw(text: *const u8, len: usize, seconds: *mut i64, offset: *mut i32) -> u8;
+        pub fn chowderbell_raw_by(rule: u32, text: *const u8, len: usize, seconds: *mut i64, offset: *mut i32) -> u8;
         pub fn chowderbell_iso(text: *const u8, len: usize, seconds: *mut i64, offset: *mut i32) -> u8;
         pub fn chowderbell_relative(
             text: *const u8,
@@ -24,6 +25,16 @@ mod c {
             offset: *mut i32,
         ) -> u8;
         pub fn chowderbell_any(
+            text: *const u8,
+            len: usize,
+            has_now: u8,
+            now_seconds: i64,
+            now_offset: i32,
+            seconds: *mut i64,
+            offset: *mut i32,
+        ) -> u8;
+        pub fn chowderbell_any_by(
+            rule: u32,
             text: *const u8,
             len: usize,
             has_now: u8,
@@ -55,11 +66,20 @@ pub fn header(text: &[u8], seconds: &mut i64, offset: &mut i32) -> u8 {
     unsafe { c::chowderbell_header(text.as_ptr(), text.len(), seconds, offset) }
 }
 
-/// Reads a raw date, the header's strict form. Returns 0, 1 or 2.
+/// Reads a raw date, the header's strict form, by rule 1. Returns 0, 1 or 2.
 #[inline]
 #[must_use]
 pub fn raw(text: &[u8], seconds: &mut i64, offset: &mut i32) -> u8 {
     unsafe { c::chowderbell_raw(text.as_ptr(), text.len(), seconds, offset) }
+}
+
+/// Reads a raw date by the rule with this number, [`RULE_1`](crate::RULE_1) or [`RULE_2`](crate::RULE_2). Returns 0, 1 or 2.
+///
+/// By any other number every text is refused: by 1 if it holds a byte of 128 or more, otherwise by 2.
+#[inline]
+#[must_use]
+pub fn raw_by(rule: u32, text: &[u8], seconds: &mut i64, offset: &mut i32) -> u8 {
+    unsafe { c::chowderbell_raw_by(rule, text.as_ptr(), text.len(), seconds, offset) }
 }
 
 /// Reads one of the three ISO forms. Returns 0, 1 or 2.
@@ -85,13 +105,30 @@ pub fn relative(
     unsafe { c::chowderbell_relative(text.as_ptr(), text.len(), has_now, now_seconds, now_offset, seconds, offset) }
 }
 
-/// Reads a date of any form. Returns 0 to 6.
+/// Reads a date of any form, with raw dates read by rule 1. Returns 0 to 6.
 ///
 /// The current time is missing if `has_now` is 0. Its two numbers are not used then.
 #[inline]
 #[must_use]
 pub fn any(text: &[u8], has_now: u8, now_seconds: i64, now_offset: i32, seconds: &mut i64, offset: &mut i32) -> u8 {
     unsafe { c::chowderbell_any(text.as_ptr(), text.len(), has_now, now_seconds, now_offset, seconds, offset) }
+}
+
+/// Reads a date of any form, with raw dates read by the rule with this number. Returns 0 to 6.
+///
+/// A number that names no rule is as for [`raw_by`], and the current time as for [`any`].
+#[inline]
+#[must_use]
+pub fn any_by(
+    rule: u32,
+    text: &[u8],
+    has_now: u8,
+    now_seconds: i64,
+    now_offset: i32,
+    seconds: &mut i64,
+    offset: &mut i32,
+) -> u8 {
+    unsafe { c::chowderbell_any_by(rule, text.as_ptr(), text.len(), has_now, now_seconds, now_offset, seconds, offset) }
 }
 
 /// The length of the header date, which [`write_header`] writes; also if the offset is too wide to be written.

@@ -15,6 +15,11 @@ mod time;
 pub use refusal::{Refusal, UnknownNumber};
 pub use time::{Time, TimeBuf, HEADER_MAX, ISO_LENGTH};
 
+/// The number of rule 1 for the offset of a raw date: its hours are at most 14, its minutes 0, 15, 30 or 45.
+pub const RULE_1: u32 = 1;
+/// The number of rule 2 for the offset of a raw date: its hours are at most 23, its minutes at most 59.
+pub const RULE_2: u32 = 2;
+
 /// Reads the date of a commit header: `1745582210 +0200`.
 ///
 /// It is as lenient as gix-date: if the first word is not a number, its leading digits are read, and an offset that
@@ -36,7 +41,8 @@ pub fn parse_header(text: impl AsRef<[u8]>) -> Result<Time, Refusal> {
 
 /// Reads a raw date: a number and an offset, and nothing else.
 ///
-/// The offset's hours are at most 14, its minutes 0, 15, 30 or 45, its seconds 0.
+/// The offset's hours are at most 14, its minutes 0, 15, 30 or 45, its seconds 0. That is rule 1; [`parse_raw_by`] takes
+/// either rule.
 ///
 /// # Errors
 /// [`Refusal::NotAscii`], [`Refusal::Form`].
@@ -49,6 +55,26 @@ pub fn parse_header(text: impl AsRef<[u8]>) -> Result<Time, Refusal> {
 /// ```
 pub fn parse_raw(text: impl AsRef<[u8]>) -> Result<Time, Refusal> {
     read(|seconds, offset| entries::raw(text.as_ref(), seconds, offset))
+}
+
+/// Reads a raw date by the rule with this number, [`RULE_1`] or [`RULE_2`].
+///
+/// A rule limits the hours and the minutes of the offset. Its seconds are 0 by both rules. What rule 1 reads, rule 2
+/// reads as the same time.
+///
+/// # Errors
+/// [`Refusal::NotAscii`], [`Refusal::Form`]. A number that names no rule gives [`Refusal::Form`] for every ASCII text.
+///
+/// ```
+/// use chowderbell::{parse_raw_by, Refusal, Time, RULE_1, RULE_2};
+///
+/// assert_eq!(parse_raw_by(RULE_2, "1745582210 +0520"), Ok(Time::new(1745582210, 19200)));
+/// assert_eq!(parse_raw_by(RULE_1, "1745582210 +0520"), Err(Refusal::Form));
+/// assert_eq!(parse_raw_by(RULE_2, "1745582210 +2400"), Err(Refusal::Form));
+/// assert_eq!(parse_raw_by(3, "1745582210 +0100"), Err(Refusal::Form)); // there is no rule 3
+/// ```
+pub fn parse_raw_by(rule: u32, text: impl AsRef<[u8]>) -> Result<Time, Refusal> {
+    read(|seconds, offset| entries::raw_by(rule, text.as_ref(), seconds, offset))
 }
 
 /// Reads an ISO date with a time, in one of three forms: dotted, compact, flexible.
@@ -92,6 +118,8 @@ pub fn parse_relative(text: impl AsRef<[u8]>, now: Option<Time>) -> Result<Time,
 
 /// Reads a date of any form: `@` and seconds, plain seconds from 100000000 on, ISO, relative, raw.
 ///
+/// Raw dates are read by rule 1; [`parse_by`] takes either rule.
+///
 /// # Errors
 /// Those of [`parse_relative`] if the text is relative, else [`Refusal::NotAscii`] or [`Refusal::Form`].
 ///
@@ -106,6 +134,24 @@ pub fn parse_relative(text: impl AsRef<[u8]>, now: Option<Time>) -> Result<Time,
 pub fn parse(text: impl AsRef<[u8]>, now: Option<Time>) -> Result<Time, Refusal> {
     let (has_now, at) = current(now);
     read(|seconds, offset| entries::any(text.as_ref(), has_now, at.seconds, at.offset, seconds, offset))
+}
+
+/// Reads a date of any form, with raw dates read by the rule with this number, [`RULE_1`] or [`RULE_2`].
+///
+/// # Errors
+/// Those of [`parse`]. A number that names no rule gives [`Refusal::Form`] for every ASCII text, also for `now`.
+///
+/// ```
+/// use chowderbell::{parse_by, Refusal, Time, RULE_1, RULE_2};
+///
+/// assert_eq!(parse_by(RULE_2, "@5 +0520", None), Ok(Time::new(5, 19200)));
+/// assert_eq!(parse_by(RULE_1, "@5 +0520", None), Err(Refusal::Form));
+/// assert_eq!(parse_by(RULE_2, "now", Some(Time::new(86400, 3600))), Ok(Time::new(86400, 3600)));
+/// assert_eq!(parse_by(3, "now", Some(Time::new(86400, 3600))), Err(Refusal::Form)); // there is no rule 3
+/// ```
+pub fn parse_by(rule: u32, text: impl AsRef<[u8]>, now: Option<Time>) -> Result<Time, Refusal> {
+    let (has_now, at) = current(now);
+    read(|seconds, offset| entries::any_by(rule, text.as_ref(), has_now, at.seconds, at.offset, seconds, offset))
 }
 
 /// The current time as the entries take it: `has_now`, and the time.

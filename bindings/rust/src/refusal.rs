@@ -8,7 +8,7 @@ use core::fmt;
 pub enum Refusal {
     /// 1: the text holds a byte of 128 or more.
     NotAscii = 1,
-    /// 2: the text is not of the form asked for.
+    /// 2: the text is not of the form asked for; or the number of a rule is not 1 or 2.
     Form = 2,
     /// 3: the text is relative, and the current time is missing.
     Missing = 3,

@@ -1,7 +1,8 @@
 //! The examples of RULES 11 and each refusal, through the safe calls. One row is one case.
 
 use chowderbell::Refusal::{self, *};
-use chowderbell::{parse, parse_header, parse_iso, parse_raw, parse_relative, Time};
+use chowderbell::{parse, parse_by, parse_header, parse_iso, parse_raw, parse_raw_by, parse_relative};
+use chowderbell::{Time, RULE_1, RULE_2};
 
 /// Noon of 31 May 2021 at offset 0.
 const NOW: Time = Time::new(1622462400, 0);
@@ -64,6 +65,71 @@ fn raw() {
         ("\u{80}", Err(NotAscii)),
     ];
     hold("raw", &rows, |text| parse_raw(text));
+    hold("raw by rule 1", &rows, |text| parse_raw_by(RULE_1, text));
+}
+
+#[test]
+fn raw_by_rule_2() {
+    let rows = [
+        ("5 +0520", Ok((5, 19200))),
+        ("5 -0520", Ok((5, -19200))),
+        ("5 +2000", Ok((5, 72000))),
+        ("5 +2359", Ok((5, 86340))),
+        ("5 -2359", Ok((5, -86340))),
+        ("5 +235900", Ok((5, 86340))),
+        ("5 ++5+7", Ok((5, 18420))),
+        ("5 +0001", Ok((5, 60))),
+        (" 5\x0b+0520\n", Ok((5, 19200))),
+        ("-9223372036854775808 +0520", Ok((i64::MIN, 19200))),
+        ("5 +2400", Err(Form)),
+        ("5 -2400", Err(Form)),
+        ("5 +0060", Err(Form)),
+        ("5 +2360", Err(Form)),
+        ("5 +9999", Err(Form)),
+        ("5 +010001", Err(Form)),
+        ("5 +01-5", Err(Form)),
+        ("5 0520", Err(Form)),
+        ("5 +05:20", Err(Form)),
+        ("5 +0520 x", Err(Form)),
+        ("5", Err(Form)),
+        ("9223372036854775808 +0520", Err(Form)),
+        ("12abc +0520", Err(Form)),
+        ("", Err(Form)),
+        ("\u{80}", Err(NotAscii)),
+    ];
+    hold("raw by rule 2", &rows, |text| parse_raw_by(RULE_2, text));
+    // behind `@` "any" reads a raw date first; only a number that stands alone is read there too
+    let rows = rows.map(|(text, answer)| (text, if text == "5" { Ok((5, 0)) } else { answer }));
+    hold("any by rule 2, behind @", &rows, |text| parse_by(RULE_2, format!("@{text}"), None));
+}
+
+/// Every sign, hour and minute of two digits: which rule reads them, and as which offset.
+#[test]
+fn every_hour_and_minute() {
+    for (sign, hours, minutes) in ["+", "-"].iter().flat_map(|sign| (0..10000).map(move |n| (sign, n / 100, n % 100))) {
+        let text = format!("1745582210 {sign}{hours:02}{minutes:02}");
+        let size = (hours * 60 + minutes) * 60;
+        let time = Time::new(1745582210, if *sign == "-" { -size } else { size });
+        let by = |is_read| if is_read { Ok(time) } else { Err(Form) };
+        let (one, two) = (by(hours <= 14 && minutes % 15 == 0 && minutes <= 45), by(hours < 24 && minutes < 60));
+        let got = [parse_raw(&text), parse_raw_by(RULE_1, &text), parse_raw_by(RULE_2, &text)];
+        assert_eq!(got, [one, one, two], "raw {text:?}");
+        let got = [parse(&text, None), parse_by(RULE_1, &text, None), parse_by(RULE_2, &text, None)];
+        assert_eq!(got, [one, one, two], "any {text:?}");
+    }
+}
+
+#[test]
+fn no_such_rule() {
+    let rows =
+        [("now", Err(Form)), ("5 +0100", Err(Form)), ("@5", Err(Form)), ("", Err(Form)), ("\u{80}", Err(NotAscii))];
+    // a number of which only the low bytes are 1 or 2 names no rule either
+    for rule in [0, 3, 4, 255, 256, 257, 258, 65537, 65538, 1 << 31, (1 << 31) + 1, u32::MAX - 1, u32::MAX] {
+        hold(&format!("raw by rule {rule}"), &rows, |text| parse_raw_by(rule, text));
+        for now in [None, Some(NOW), Some(Time::new(i64::MIN, 0))] {
+            hold(&format!("any by rule {rule}"), &rows, |text| parse_by(rule, text, now));
+        }
+    }
 }
 
 #[test]
@@ -106,6 +172,8 @@ fn relative() {
     ];
     hold("relative", &rows, |text| parse_relative(text, Some(NOW)));
     hold("any", &rows, |text| parse(text, Some(NOW)));
+    hold("any by rule 1", &rows, |text| parse_by(RULE_1, text, Some(NOW)));
+    hold("any by rule 2", &rows, |text| parse_by(RULE_2, text, Some(NOW)));
     let leap = Some(Time::new(1582934400, 0));
     hold("relative", &[("1 year", Ok((1551398400, 0)))], |text| parse_relative(text, leap));
 }
@@ -168,4 +236,32 @@ fn any() {
         ("\u{e9}", Err(NotAscii)),
     ];
     hold("any", &rows, |text| parse(text, None));
+    hold("any by rule 1", &rows, |text| parse_by(RULE_1, text, None));
+}
+
+#[test]
+fn any_by_rule_2() {
+    let rows = [
+        ("@5 +0520", Ok((5, 19200))),
+        ("5 +0520", Ok((5, 19200))),
+        ("@5 -2000", Ok((5, -72000))),
+        ("@5 +0100", Ok((5, 3600))),
+        ("@5 +2400", Err(Form)),
+        ("5 +2400", Err(Form)),
+        ("@5", Ok((5, 0))),
+        ("100000000", Ok((100000000, 0))),
+        ("2008-02-14T20:30:45Z", Ok((S, 0))),
+        ("yesterday", Ok((NOW.seconds - 86400, 0))),
+        // read as a relative date, which comes before a raw one
+        ("5 +0520 ago", Ok((NOW.seconds - 5, 0))),
+        ("", Err(Form)),
+        ("\u{e9}", Err(NotAscii)),
+    ];
+    hold("any by rule 2", &rows, |text| parse_by(RULE_2, text, Some(NOW)));
+    let without = [("now", Err(Missing)), ("5 +0520", Ok((5, 19200))), ("@5 +0520", Ok((5, 19200)))];
+    hold("any by rule 2", &without, |text| parse_by(RULE_2, text, None));
+    let out = Some(Time::new(i64::MIN, 0));
+    hold("any by rule 2", &[("now", Err(Current)), ("5 +0520", Ok((5, 19200)))], |text| parse_by(RULE_2, text, out));
+    let by_rule_1 = [("@5 +0520", Err(Form)), ("5 +0520", Err(Form)), ("5 +2000", Err(Form))];
+    hold("any by rule 1", &by_rule_1, |text| parse_by(RULE_1, text, Some(NOW)));
 }

@@ -75,11 +75,21 @@ fn a_refusal_leaves_zeros() {
     (seconds, offset) = (77, 77);
     assert_eq!(entries::relative(b"now", 0, 1, 1, &mut seconds, &mut offset), 3);
     assert_eq!((seconds, offset), (0, 0));
+    for (rule, text, number) in [(2, "5 +2400", 2), (3, "5 +0100", 2), (3, "\u{80}", 1)] {
+        (seconds, offset) = (77, 77);
+        assert_eq!(entries::raw_by(rule, text.as_bytes(), &mut seconds, &mut offset), number, "raw by {rule} {text:?}");
+        assert_eq!((seconds, offset), (0, 0), "raw by {rule} {text:?}");
+        (seconds, offset) = (77, 77);
+        let any = entries::any_by(rule, text.as_bytes(), 1, 1, 1, &mut seconds, &mut offset);
+        assert_eq!((any, seconds, offset), (number, 0, 0), "any by {rule} {text:?}");
+    }
     assert_eq!(entries::write_header(0, 360000, &mut [0; 30], &mut length), 7);
     assert_eq!(length, 0);
     // any value but 0 means that there is a current time
     assert_eq!(entries::relative(b"now", 255, 1, 2, &mut seconds, &mut offset), 0);
     assert_eq!((seconds, offset), (1, 2));
+    assert_eq!(entries::any_by(2, b"now", 255, 3, 4, &mut seconds, &mut offset), 0);
+    assert_eq!((seconds, offset), (3, 4));
 }
 
 #[test]

@@ -81,7 +81,7 @@ fn reader<'a>(name: &str, form: Form, texts: Vec<String>) -> Row<'a> {
     for text in &texts {
         let (wanted, _) = oracle::wanted(form, text.as_bytes(), &current);
         let got = our_answer(form, text.as_bytes());
-        assert_eq!(got, (wanted.number, wanted.seconds, wanted.offset), "{} {text:?}", form.name());
+        assert_eq!(got, (wanted.number, wanted.seconds, wanted.offset), "{form} {text:?}");
     }
     let now = current.zoned().expect("a current time in range");
     let ours_texts = texts.clone();
@@ -93,11 +93,13 @@ fn reader<'a>(name: &str, form: Form, texts: Vec<String>) -> Row<'a> {
                 let text = black_box(text.as_str());
                 match form {
                     Form::Header => drop(black_box(gix_date::parse_header(text))),
-                    Form::Raw => drop(black_box(visible::raw(text))),
+                    Form::Raw | Form::RawBy(1) => drop(black_box(visible::raw(text))),
+                    Form::RawBy(_) => drop(black_box(visible::raw_2(text))),
                     Form::Iso => drop(black_box(visible::iso(text))),
                     // the current time is taken by value
                     Form::Relative => drop(black_box(visible::relative(text, Some(now.clone())))),
-                    Form::Any => drop(black_box(visible::any(text, Some(now.clone())))),
+                    Form::Any | Form::AnyBy(1) => drop(black_box(visible::any(text, Some(now.clone())))),
+                    Form::AnyBy(_) => drop(black_box(visible::any_2(text, Some(now.clone())))),
                 }
             }
         }),
@@ -128,7 +130,7 @@ fn readers<'a>() -> Vec<Row<'a>> {
     };
     let row =
         |name: &str, form: Form, text: &dyn Fn(i64) -> String| reader(name, form, (0..INPUTS).map(text).collect());
-    vec![
+    let mut rows = vec![
         row("header", Form::Header, &header),
         row("header, no offset", Form::Header, &|k| seconds(k).to_string()),
         row("raw", Form::Raw, &header),
@@ -152,7 +154,18 @@ fn readers<'a>() -> Vec<Row<'a>> {
         row("any, relative", Form::Any, &ago),
         row("any, raw", Form::Any, &header),
         row("any, refused", Form::Any, &|k| format!("no date at all {k}x")),
-    ]
+    ];
+    if cfg!(feature = "rules") {
+        let wider = |k: i64| format!("{} {}", seconds(k), ["+0520", "-2000", "+2359", "-0001"][(k % 4) as usize]);
+        rows.extend([
+            row("raw by rule 1", Form::RawBy(1), &header),
+            row("raw by rule 2", Form::RawBy(2), &header),
+            row("raw by rule 2, wider offsets", Form::RawBy(2), &wider),
+            row("any by rule 1, raw", Form::AnyBy(1), &header),
+            row("any by rule 2, raw", Form::AnyBy(2), &header),
+        ]);
+    }
+    rows
 }
 
 /// The header writer and `size`, on common times and on seconds of 19 digits.

@@ -52,7 +52,7 @@ impl Sample {
             Some((seconds, offset)) => format!("{seconds}\t{offset}"),
             None => "-\t-".to_string(),
         };
-        let line = format!("{}\t{current}\t{}", form.name(), std::str::from_utf8(text).expect("ASCII"));
+        let line = format!("{form}\t{current}\t{}", std::str::from_utf8(text).expect("ASCII"));
         let is_new = self.seen.insert(line.clone());
         if is_new {
             self.lines.push((line, answer));
@@ -65,10 +65,10 @@ impl Sample {
 fn text_for(form: Form, rng: &mut Rng) -> Vec<u8> {
     let mut text = Vec::new();
     match form {
-        Form::Header | Form::Raw => texts::header(rng, &mut text),
+        Form::Header | Form::Raw | Form::RawBy(_) => texts::header(rng, &mut text),
         Form::Iso => texts::iso(rng, &mut text),
         Form::Relative => texts::relative(rng, &mut text),
-        Form::Any => texts::good(rng, &mut text),
+        Form::Any | Form::AnyBy(_) => texts::good(rng, &mut text),
     }
     if rng.once_in(3) {
         texts::damage(rng, &mut text);
@@ -150,12 +150,12 @@ fn main() -> ExitCode {
     for form in FORMS {
         let of_form: Vec<&Answer> = lines
             .iter()
-            .filter(|(line, _)| line.split('\t').next() == Some(form.name()))
+            .filter(|(line, _)| line.split('\t').next() == Some(&form.to_string()))
             .map(|(_, answer)| answer)
             .collect();
         let count = |number: u8| of_form.iter().filter(|answer| answer.number == number).count();
         let counts: Vec<String> = [0, 2, 3, 6].iter().map(|number| format!("{} of {number}", count(*number))).collect();
-        println!("{:<9} {:>5} lines: {}", form.name(), of_form.len(), counts.join(", "));
+        println!("{:<9} {:>5} lines: {}", form.to_string(), of_form.len(), counts.join(", "));
     }
     println!("{:<9} {:>5} lines", "all", lines.len());
     ExitCode::SUCCESS
