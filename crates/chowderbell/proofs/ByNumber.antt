@@ -1,5 +1,5 @@
--- RULES 5.8: what a caller gets who names a rule by its number: by 1 the answer by rule 1, by 2 that by rule 2, and by any other number
--- no answer but 2, or 1 for a text with a byte of 128 or more.
+-- RULES 5.8: what the number of a rule gives: 1 the answer by rule 1, 2 that by rule 2, any other number the refusal 2, or 1
+-- for a text with a byte of 128 or more.
 -- Assumes nothing.
 use mathlib.Core.Path.{_≡_, refl}
 use mathlib.Core.List.{List}

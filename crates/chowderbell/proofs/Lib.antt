@@ -1,3 +1,3 @@
--- In order: what a caller gets who names a rule by its number; two answers that meet the contract of a public call are equal.
+-- In order: what the number of a rule gives; two answers that meet the contract of a public call are equal.
 pub mod ByNumber
 pub mod OneAnswer

@@ -1,5 +1,5 @@
--- RULES 2.1 for C: what the entries read as the current time and as the rule of raw dates, and what they return and store for the answer
--- of a reader, of a writer, of a check of a book and of its listing.
+-- RULES 2.1 and 5.8 for C: what the entries read as the current time and as the rule of raw dates, and what they return and
+-- store for the answer of a reader, of a writer, of a check of a book and of its listing.
 -- Assumes nothing.
 use Prim.Native.Nat.{ℕ}
 use mathlib.Core.Path.{_≡_}
@@ -36,7 +36,7 @@ ruleOf n = cond (eqb n 1) (By One) (cond (eqb n 2) (By Two) Nothing)
 abbrev pub noRule : List ℕ → Answer
 noRule s = cond (ascii s) (Refused Form) (Refused NotAscii)
 
--- RULES 5.8: what a reader answers to s whose caller names the rule; `by` is what it answers by limits
+-- the answer to s if the caller names a rule; `by` gives the answer within limits
 abbrev pub ruled : Named → (Limits → Answer) → List ℕ → Answer
 ruled (By r) by s = by (limitsOf r)
 ruled Nothing by s = noRule s

@@ -87,8 +87,8 @@ pub extern "C" fn chowderbell_relative(
     )
 }
 
-// By rule 1. The call of `dates` is in one entry alone, so that the compiler inlines it there; called from two places it is not,
-// and a number took half as long again.
+// By rule 1. `dates` is called in one entry alone, so that the compiler inlines it there. Called
+// from two places it is not, and every call is slower (docs/SPEED.md).
 #[no_mangle]
 pub extern "C" fn chowderbell_any(
     text: &[u8],

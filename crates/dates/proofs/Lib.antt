@@ -1,5 +1,5 @@
 -- In order: "any" as its steps in turn; a raw date holds no byte above `9`; what the steps answer to a text that begins with `@`;
--- "any" by two limits, of which the second allow whatever the first allow; the examples of RULES 11 that are marked P; two
+-- "any" within two limits, of which the second allows all that the first allows; the examples of RULES 11 that are marked P; two
 -- answers that meet one equation.
 pub mod Steps
 pub mod LowBytes

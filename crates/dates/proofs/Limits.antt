@@ -1,5 +1,5 @@
--- "Any" by two limits l and m, where m allow whatever l allow: every answer by l other than 2 is also the answer by m
--- (`any-within`). Rule 1 and rule 2 are such limits (`any-by-rule-2-answers-alike`).
+-- "Any" within two limits l and m, of which m allows all that l allows: every answer within l other than 2 is also the answer
+-- within m (`any-within`). Rule 1 and rule 2 are such limits (`any-by-rule-2-answers-alike`).
 --
 -- The limits matter in two places: "any" reads a raw date after `@`, and as its last step. At the last step, all steps before it
 -- have answered the same, and a raw date by l is the same raw date by m. After `@` there may be a raw date by m that is none by
@@ -32,7 +32,8 @@ use Rattle.time.specs.declared.Answer.the-variants.{Time as At, Refused}
 use Rattle.header.specs.Header.{number64}
 use Rattle.header.specs.Raw.{Limits, rule1, rule2, rawOf}
 use Rattle.header.specs.Theorems.{RawDate, Within}
-use Rattle.header.proofs.Rules.{raw-accepts, raw-accepts-only, raw-refuses, raw-within, rule-1-within-rule-2}
+use Rattle.header.proofs.RawDates.{raw-accepts, raw-accepts-only, raw-refuses, raw-within}
+use Rattle.header.proofs.Rules.{rule-1-within-rule-2}
 use Rattle.iso.specs.Iso.{isoOf}
 use Rattle.relative.specs.Relative.{maxPairs, relativeOf}
 use Rattle.dates.specs.Any.{isSettled, orElse, least64, numbered, numberFrom, markedOf, plainOf, anyOf}

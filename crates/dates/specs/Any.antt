@@ -1,5 +1,5 @@
--- RULES 8, "any": the forms in the order in which they are tried. The limits on a raw date's offset are a parameter; by RULES 8.3 they
--- are those of rule 1 unless the caller names a rule.
+-- RULES 8, "any": the forms in the order in which they are tried. The limits on a raw date's offset are a parameter; by RULES 8.3
+-- they are those of rule 1 unless the caller names a rule.
 -- Assumes nothing.
 use Prim.Native.Nat.{ℕ, _-_, _^_}
 use Prim.Native.Char.{code}

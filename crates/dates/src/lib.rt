@@ -19,7 +19,7 @@ const LEAST_PLAIN: i64 = 100000000;
 // The least number of 64 signed bits.
 const LEAST_64: i64 = -9223372036854775808;
 
-// Reads a date in any form. Raw dates are read by rule 1. Only a relative date uses the current time.
+// Reads a date in any form, raw dates by rule 1. Only a relative date uses the current time.
 pub fn parse(s: &[u8], current: Now) -> Answer
     ensures { λ r. ⌜ r ≡ anyOf rule1 (now (s .entry)) current ⌝ }
 {
@@ -41,8 +41,8 @@ pub fn parse_by(s: &[u8], rule: Rule, current: Now) -> Answer
     parse_by_with(&[], s, rule, current)
 }
 
-// The same with a table of months, as in `parse_with`. No test for bytes of 128 or more is needed here, because each reader below
-// makes its own.
+// The same with a table of months, as in `parse_with`. No test for bytes of 128 or more is needed
+// here, because each reader below makes its own.
 pub fn parse_by_with(months: &[u32], s: &[u8], rule: Rule, current: Now) -> Answer
     requires { ⌜ IsMonths (now months) ⌝ }
     ensures { λ r. ⌜ r ≡ anyOf (limitsOf rule) (now (s .entry)) current ⌝ }

@@ -26,7 +26,7 @@ use Rattle.header.specs.declared.offset.Fields.{Fields}
 use Rattle.header.specs.declared.offset.Parsed.the-variants.{Offset, Nothing as NoOffset}
 use Rattle.header.proofs.Unsigned.{fieldsOf-signed}
 use Rattle.header.proofs.Readers.{headerOfWords-is, no-colon-of-raw}
-use Rattle.header.proofs.Rules.{raw-accepts-only}
+use Rattle.header.proofs.RawDates.{raw-accepts-only}
 
 -- the offset that the header reader gives where raw gives o: o if a digit follows the sign, else 0
 abbrev keptOffset : List ℕ → ℤ → ℤ

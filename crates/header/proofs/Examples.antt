@@ -90,15 +90,20 @@ by-rule-2 =
     ∷ reads (rawOf rule2 (bytes "5 +2000")) (five (pos 72000))
     ∷ reads (rawOf rule1 (bytes "5 +2000")) (Refused Form)
     ∷ reads (rawOf rule2 (bytes "5 -2359")) (five (negsuc 86339))
+    ∷ reads (rawOf rule1 (bytes "5 -2359")) (Refused Form)
     ∷ reads (rawOf rule2 (bytes "5 +2400")) (Refused Form)
+    ∷ reads (rawOf rule1 (bytes "5 +2400")) (Refused Form)
     ∷ reads (rawOf rule2 (bytes "5 +0060")) (Refused Form)
+    ∷ reads (rawOf rule1 (bytes "5 +0060")) (Refused Form)
     -- RULES 5.7: by both rules "seconds are 0"
     ∷ reads (rawOf rule2 (bytes "5 +010000")) (five (pos 3600))
     ∷ reads (rawOf rule2 (bytes "5 +010001")) (Refused Form)
+    ∷ reads (rawOf rule1 (bytes "5 +010001")) (Refused Form)
     -- RULES 5.7: by both rules fields "may open with `+`"
     ∷ reads (rawOf rule2 (bytes "5 ++5+7")) (five (pos 18420))
+    ∷ reads (rawOf rule1 (bytes "5 ++5+7")) (Refused Form)
     ∷ []
 
 rule-2-examples : AllRight by-rule-2
 unfolding isSpace isDigit isSign ascii run words pieces full readFrom digitsOf unsignedOf signedOf fit fitSigned fiveOrSeven fieldOf lastField fieldsOf offsetOf allows rawOfWords rawOf
-rule-2-examples = (refl, (refl, (refl, (refl, (refl, (refl, (refl, (refl, (refl, (refl, tt))))))))))
+rule-2-examples = (refl, (refl, (refl, (refl, (refl, (refl, (refl, (refl, (refl, (refl, (refl, (refl, (refl, (refl, (refl, tt)))))))))))))))

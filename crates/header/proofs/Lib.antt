@@ -1,6 +1,7 @@
 -- Laws. In order: an offset's word; an offset's word of unsigned fields; the first word's number; one pass over a text; what the
 -- readers answer by it; the usual tail; what they answer to it and to a number alone; what is written is read
--- back; the offsets that a header can give; where the raw and the header reader answer alike; the worked examples.
+-- back; the offsets that a header can give; what a raw reader means, within any limits; rule 1 and rule 2; where the raw and the
+-- header reader answer alike; the worked examples.
 pub mod Offsets
 pub mod Unsigned
 pub mod FirstWord
@@ -10,6 +11,7 @@ pub mod Usual
 pub mod Shortcuts
 pub mod ReadBack
 pub mod Reach
+pub mod RawDates
 pub mod Rules
 pub mod Alike
 pub mod Examples

@@ -51,25 +51,19 @@ last-same : (w : List ℕ) (z : ℤ) → lastField Byte w ≡ Is z → lastField
 unfolding lastField
 last-same w z k = by-test (eqb (length w) 7) (λ e. rw e (field-same w 5 z (rw e at k) .signed)) (λ e. rw e (rw e at k))
 
-together-same : (minus : Bool) (h m x : Integer) {h′ m′ x′ : Integer} (f : Fields)
-    → together minus h m x ≡ Offset f → ((z : ℤ) → h ≡ Is z → h′ ≡ Is z) → ((z : ℤ) → m ≡ Is z → m′ ≡ Is z) → ((z : ℤ) → x ≡ Is z → x′ ≡ Is z)
-    → together minus h′ m′ x′ ≡ Offset f
-together-same minus (Is h) (Is m) (Is x) f e p q r = rw (p h refl, q m refl, r x refl) e
-together-same minus NoInteger m x f e p q r = let z : _≡_ {A = ℕ} 0 1 = cc in absurd (omega arith)
-together-same minus (Is h) NoInteger x f e p q r = let z : _≡_ {A = ℕ} 0 1 = cc in absurd (omega arith)
-together-same minus (Is h) (Is m) NoInteger f e p q r = let z : _≡_ {A = ℕ} 0 1 = cc in absurd (omega arith)
-
--- all three are numbers
-record Numbers (h m x : Integer) : Type 0 where
+-- all three are numbers, and they are the fields
+record Numbers (minus : Bool) (h m x : Integer) (f : Fields) : Type 0 where
   hours : ℤ
   hours-is : h ≡ Is hours
   minutes : ℤ
   minutes-is : m ≡ Is minutes
   seconds : ℤ
   seconds-is : x ≡ Is seconds
+  fields-are : record { minus = minus; hours = hours; minutes = minutes; seconds = seconds } ≡ f
 
-together-numbers : (minus : Bool) (h m x : Integer) (f : Fields) → together minus h m x ≡ Offset f → Numbers h m x
-together-numbers minus (Is h) (Is m) (Is x) f e = record { hours = h; hours-is = refl; minutes = m; minutes-is = refl; seconds = x; seconds-is = refl }
+together-numbers : (minus : Bool) (h m x : Integer) (f : Fields) → together minus h m x ≡ Offset f → Numbers minus h m x f
+together-numbers minus (Is h) (Is m) (Is x) f e =
+    record { hours = h; hours-is = refl; minutes = m; minutes-is = refl; seconds = x; seconds-is = refl; fields-are = cc }
 together-numbers minus NoInteger m x f e = let z : _≡_ {A = ℕ} 0 1 = cc in absurd (omega arith)
 together-numbers minus (Is h) NoInteger x f e = let z : _≡_ {A = ℕ} 0 1 = cc in absurd (omega arith)
 together-numbers minus (Is h) (Is m) NoInteger f e = let z : _≡_ {A = ℕ} 0 1 = cc in absurd (omega arith)
@@ -88,15 +82,6 @@ fieldOf-not-negative w at (negsuc n) e = go (fit 255 (unsignedOf (bytesAt w at))
     go (Value k) k-is = let q : _≡_ {A = ℕ} 0 1 = cc in omega arith
     go NoNumber k-is = let q : _≡_ {A = ℕ} 0 1 = cc in omega arith
 
-together-not-negative : (minus : Bool) (h m x : Integer) (f : Fields) → together minus h m x ≡ Offset f
-    → ((z : ℤ) → h ≡ Is z → NotNegative z) → ((z : ℤ) → m ≡ Is z → NotNegative z) → NotNegative (f .hours) × NotNegative (f .minutes)
-together-not-negative minus (Is h) (Is m) (Is x) f e p q =
-    let same : record { minus = minus; hours = h; minutes = m; seconds = x } ≡ f = cc in
-    (rw (← same) (p h refl), rw (← same) (q m refl))
-together-not-negative minus NoInteger m x f e p q = let z : _≡_ {A = ℕ} 0 1 = cc in absurd (omega arith)
-together-not-negative minus (Is h) NoInteger x f e p q = let z : _≡_ {A = ℕ} 0 1 = cc in absurd (omega arith)
-together-not-negative minus (Is h) (Is m) NoInteger f e p q = let z : _≡_ {A = ℕ} 0 1 = cc in absurd (omega arith)
-
 -- ---- an offset that raw accepts
 module _ (w : List ℕ) (f : Fields) (e : fieldsOf Byte w ≡ Offset f) where
   pub fieldsOf-some : fieldsOf Byte w ≡ NoOffset → ⊥
@@ -111,20 +96,28 @@ module _ (w : List ℕ) (f : Fields) (e : fieldsOf Byte w ≡ Offset f) where
   opened : together (eqb (getD w 0 0) 45) (fieldOf Byte w 1) (fieldOf Byte w 3) (lastField Byte w) ≡ Offset f
   opened = sym (fieldsOf-of-tests Byte w right-length right-sign) ∙ e
 
+  numbers : Numbers (eqb (getD w 0 0) 45) (fieldOf Byte w 1) (fieldOf Byte w 3) (lastField Byte w) f
+  numbers = together-numbers _ (fieldOf Byte w 1) (fieldOf Byte w 3) (lastField Byte w) f opened
+
+  hours-same : Same w 1 (numbers .hours)
+  hours-same = field-same w 1 (numbers .hours) (numbers .hours-is)
+
+  minutes-same : Same w 3 (numbers .minutes)
+  minutes-same = field-same w 3 (numbers .minutes) (numbers .minutes-is)
+
   -- it holds the same fields, signed
   pub fieldsOf-signed : fieldsOf Signed w ≡ Offset f
   fieldsOf-signed =
       fieldsOf-of-tests Signed w right-length right-sign
-      ∙ together-same _ (fieldOf Byte w 1) (fieldOf Byte w 3) (lastField Byte w) f opened (λ z k. field-same w 1 z k .signed) (λ z k. field-same w 3 z k .signed) (last-same w)
+      ∙ rw (hours-same .signed, minutes-same .signed, last-same w (numbers .seconds) (numbers .seconds-is), numbers .fields-are)
 
   -- its hours and minutes are not negative
   pub fieldsOf-not-negative : NotNegative (f .hours) × NotNegative (f .minutes)
-  fieldsOf-not-negative = together-not-negative _ (fieldOf Byte w 1) (fieldOf Byte w 3) (lastField Byte w) f opened (fieldOf-not-negative w 1) (fieldOf-not-negative w 3)
+  fieldsOf-not-negative =
+      rw (← numbers .fields-are)
+      (fieldOf-not-negative w 1 (numbers .hours) (numbers .hours-is), fieldOf-not-negative w 3 (numbers .minutes) (numbers .minutes-is))
 
   -- and its bytes lie between `+` and `9`
-  numbers : Numbers (fieldOf Byte w 1) (fieldOf Byte w 3) (lastField Byte w)
-  numbers = together-numbers _ (fieldOf Byte w 1) (fieldOf Byte w 3) (lastField Byte w) f opened
-
   between-from-5 : Between 43 57 (drop 5 w)
   unfolding lastField fiveOrSeven
   between-from-5 =
@@ -140,8 +133,8 @@ module _ (w : List ℕ) (f : Fields) (e : fieldsOf Byte w ≡ Offset f) where
 
   between-from-1 : Between 43 57 (drop 1 w)
   between-from-1 =
-      between-cut 2 (drop 1 w) (field-same w 1 (numbers .hours) (numbers .hours-is) .between)
-      (rw (drop-drop 2 1 w) (between-cut 2 (drop 3 w) (field-same w 3 (numbers .minutes) (numbers .minutes-is) .between) (rw (drop-drop 2 3 w) between-from-5)))
+      between-cut 2 (drop 1 w) (hours-same .between)
+      (rw (drop-drop 2 1 w) (between-cut 2 (drop 3 w) (minutes-same .between) (rw (drop-drop 2 3 w) between-from-5)))
 
 between-sign : (w : List ℕ) → isSign (getD w 0 0) ≡ true → Between 43 57 (take 1 w)
 unfolding isSign

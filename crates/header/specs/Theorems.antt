@@ -61,7 +61,7 @@ pub record RawDate (l : Limits) (s : List ℕ) (t : Time) : Type 0 where
   pub allowed : allows l fields ≡ true
   pub offset-is : offsetOf fields ≡ t .offset
 
--- the second limits allow whatever the first allow
+-- m allows all that l allows
 abbrev pub Within : Limits → Limits → Type 0
 Within l m = (f : Fields) → allows l f ≡ true → allows m f ≡ true
 

@@ -29,8 +29,8 @@ pub fn parse_raw(s: &[u8]) -> Answer
     parse_raw_by(s, Rule::One)
 }
 
-// Reads a raw date by either rule, and refuses as `parse_raw` does. A number alone and the usual form
-// are recognised as soon as the number ends, as in `parse_header`.
+// Reads a raw date by either rule, and refuses as `parse_raw` does. A number alone and the usual
+// form are recognised as soon as the number ends, as in `parse_header`.
 pub fn parse_raw_by(s: &[u8], rule: Rule) -> Answer
     ensures { λ r. ⌜ r ≡ rawOf (limitsOf rule) (now (s .entry)) ⌝ }
 {
