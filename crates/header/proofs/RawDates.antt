@@ -1,6 +1,6 @@
--- What a raw reader means, within any limits: it accepts exactly the raw dates (`raw-accepts`, `raw-accepts-only`); it refuses a text
--- with a byte of 128 or more by 1 (`raw-not-ascii`), and every other text by 2 (`raw-refuses`). Let m allow all that l allows:
--- then whatever is accepted within l is answered alike within m (`raw-within`).
+-- What a raw reader means, within any limits: it accepts exactly the raw dates (`raw-accepts`, `raw-accepts-only`); it refuses
+-- a text with a byte of 128 or more by 1 (`raw-not-ascii`), and every other text by 2 (`raw-refuses`). Let m allow all that l
+-- allows: then whatever is accepted within l is answered alike within m (`raw-within`).
 -- Assumes nothing.
 use mathlib.Core.Path.{_≡_, refl, sym, ap, _∙_}
 use mathlib.Core.Bool.{true, false}

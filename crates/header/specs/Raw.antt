@@ -1,5 +1,6 @@
 -- Raw dates (RULES 5.6 and 5.7). The limits on hours and minutes are a parameter, which a rule fixes. Three examples: by both
--- rules `5 +1445` is 5 at offset 53100 and `5 ++5+0` is 5 at offset 18000; by rule 2 `5 +0520` is 5 at offset 19200, and 2 by rule 1.
+-- rules `5 +1445` is 5 at offset 53100 and `5 ++5+0` is 5 at offset 18000; `5 +0520` is 5 at offset 19200 by rule 2, and 2 by
+-- rule 1.
 -- Assumes nothing.
 use Prim.Native.Nat.{ℕ}
 use mathlib.Core.Bool.{Bool, cond, _&&_, _||_}
