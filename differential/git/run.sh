@@ -1,6 +1,6 @@
 #!/bin/sh
-# Asks the installed git for every offset word from +0000 to -9999 and compares its answers, by class, with those of the proved
-# library by rule 2, and both with the tables of docs/DIFFERENCES.md.
+# Asks the installed git for every offset word from +0000 to +9999 and from -0000 to -9999, and compares its answers, by class,
+# with those of the proved library by rule 2, and both with the tables of docs/DIFFERENCES.md.
 #
 # Usage: run.sh [compare|rules] [--planted]
 #   compare    our answers are the library's; the default, some five minutes

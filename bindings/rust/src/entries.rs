@@ -116,7 +116,7 @@ pub fn any(text: &[u8], has_now: u8, now_seconds: i64, now_offset: i32, seconds:
 
 /// Reads a date of any form, with raw dates read by the rule with this number. Returns 0 to 6.
 ///
-/// A number that names no rule is as for [`raw_by`], and the current time as for [`any`].
+/// By a number that names no rule every text is refused, as by [`raw_by`]. The current time is passed as to [`any`].
 #[inline]
 #[must_use]
 pub fn any_by(

@@ -116,7 +116,7 @@ pub fn parse_relative(text: impl AsRef<[u8]>, now: Option<Time>) -> Result<Time,
     read(|seconds, offset| entries::relative(text.as_ref(), has_now, at.seconds, at.offset, seconds, offset))
 }
 
-/// Reads a date of any form: `@` and seconds, plain seconds from 100000000 on, ISO, relative, raw.
+/// Reads a date of any form: `@` and then a raw date or seconds; plain seconds from 100000000 on; ISO; relative; raw.
 ///
 /// Raw dates are read by rule 1; [`parse_by`] takes either rule.
 ///
@@ -137,6 +137,8 @@ pub fn parse(text: impl AsRef<[u8]>, now: Option<Time>) -> Result<Time, Refusal>
 }
 
 /// Reads a date of any form, with raw dates read by the rule with this number, [`RULE_1`] or [`RULE_2`].
+///
+/// Wherever [`parse`] does not refuse with [`Refusal::Form`], rule 2 gives the same answer.
 ///
 /// # Errors
 /// Those of [`parse`]. A number that names no rule gives [`Refusal::Form`] for every ASCII text, also for `now`.

@@ -67,7 +67,7 @@ impl fmt::Display for Refusal {
     fn fmt(&self, f: &mut fmt::Formatter<'_>) -> fmt::Result {
         f.write_str(match self {
             Refusal::NotAscii => "the text holds a byte of 128 or more",
-            Refusal::Form => "the text is not of the form asked for",
+            Refusal::Form => "the text is not of the form asked for, or the number of a rule is not 1 or 2",
             Refusal::Missing => "the text is relative, and the current time is missing",
             Refusal::Current => "the current time is out of range",
             Refusal::Pairs => "the text is relative and has too many pairs",
