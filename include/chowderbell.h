@@ -64,13 +64,13 @@ extern "C" {
 /* Readers. When they return 0, *seconds and *offset are the time; otherwise both are set to 0.
    They read text[0] to text[len - 1] and no other byte. */
 
-/* A commit header's date, "1745582210 +0200". No rule limits the offset here: "+0520" and "+9999" are read. A word that is no offset
-   is read as 0 and is not refused. Returns 0, 1 or 2. */
+/* A commit header's date, "1745582210 +0200". No rule limits the offset here: "+0520" and "+9999" are read. A word that is no
+   offset is read as 0 and is not refused. Returns 0, 1 or 2. */
 uint8_t chowderbell_header(const uint8_t *text, size_t len, int64_t *seconds, int32_t *offset);
 
-/* A raw date, strictly: two words, a number and an offset. An offset is a sign and two or three fields of two bytes, each of them two
-   digits, or "+" and a digit: "+0545", "++5+0". Hours are to 14, minutes 0, 15, 30 or 45, seconds 0. These are the limits of
-   rule 1, below. Returns 0, 1 or 2. */
+/* A raw date, strictly: two words, a number and an offset. An offset is a sign and two or three fields of two bytes, each of them
+   two digits, or "+" and a digit: "+0545", "++5+0". Its hours are at most 14, its minutes 0, 15, 30 or 45, its seconds 0. These are
+   the limits of rule 1, below. Returns 0, 1 or 2. */
 uint8_t chowderbell_raw(const uint8_t *text, size_t len, int64_t *seconds, int32_t *offset);
 
 /* A raw date by the rule with this number.
@@ -93,9 +93,9 @@ uint8_t chowderbell_relative(const uint8_t *text, size_t len, uint8_t has_now, i
 uint8_t chowderbell_any(const uint8_t *text, size_t len, uint8_t has_now, int64_t now_seconds, int32_t now_offset,
                         int64_t *seconds, int32_t *offset);
 
-/* A date in any form, tried in the same order, with raw dates read by the rule with this number, also behind "@". For any number
-   but 1 or 2 every text is refused, "now" too: by 1 if it holds a byte of 128 or more, otherwise by 2. Wherever chowderbell_any does
-   not return 2, rule 2 gives the same answer. Returns 0 to 6. */
+/* A date in any form, tried in the same order, with raw dates read by the rule with this number, also behind "@". Wherever
+   chowderbell_any does not return 2, rule 2 gives the same answer. For any number but 1 or 2 every text is refused, "now" too: by 1
+   if it holds a byte of 128 or more, otherwise by 2. Returns 0 to 6. */
 uint8_t chowderbell_any_by(uint32_t rule, const uint8_t *text, size_t len, uint8_t has_now, int64_t now_seconds,
                            int32_t now_offset, int64_t *seconds, int32_t *offset);
 
