@@ -2,7 +2,7 @@
 # Builds gix-date and the proved library, then compares them, measures them, or writes the sample.
 #
 # Usage: run.sh [compare|bench|sample] [WORDS...]
-#   compare  compare every answer; the default, some minutes. WORDS: --times N, --seed N, --list, --planted, SUITE...
+#   compare  compare every answer; the default, some three minutes. WORDS: --times N, --seed N, --list, --planted, SUITE...
 #   bench    measure both sides. WORDS: --rounds N, or words of the rows to be measured
 #   sample   write a sample of gix-date's answers to the folder that WORDS names
 #
