@@ -2,7 +2,7 @@
 // hours and the minutes. A rule fixes the limits. Anything else is refused.
 ghost use mathlib.Core.Path.{_≡_};
 ghost use Rattle.header.specs.Raw.{rule1, limitsOf, allows as allowsOf, rawTime, rawOf};
-ghost use Rattle.header.specs.Held.{AllSmall, LeadsWithNumber};
+ghost use Rattle.header.specs.Held.{AllSmall, LeadsWithNumber, WordsRead};
 use crate::offset;
 use crate::offset::Field;
 use crate::offset::Fields;
@@ -22,15 +22,27 @@ pub enum Rule {
 }
 
 // Reads a raw date, by rule 1. The answer is refusal 1 if the text holds a byte of 128 or more, and
-// then refusal 2 if it is anything but a number and an offset within the limits.
+// then refusal 2 if it is anything but a number and an offset within the limits. A number alone and
+// the usual form are recognised as soon as the number ends, as in `parse_header`.
 pub fn parse_raw(s: &[u8]) -> Answer
     ensures { λ r. ⌜ r ≡ rawOf rule1 (now (s .entry)) ⌝ }
 {
-    parse_raw_by(s, Rule::One)
+    let opening = walk::open(s);
+    let number = opening.number;
+    let end = opening.end;
+    if end == s.len() {
+        return raw_time(Rule::One, number, Parsed::Nothing);
+    }
+    let usual = offset::usual_fields(s, end);
+    let Parsed::Offset(f) = usual else {
+        return parse_words(s, read_on(s, opening), Rule::One);
+    };
+    raw_time(Rule::One, number, Parsed::Offset(f))
 }
 
-// Reads a raw date by either rule, and refuses as `parse_raw` does. A number alone and the usual
-// form are recognised as soon as the number ends, as in `parse_header`.
+// Reads a raw date by either rule, and refuses as `parse_raw` does. The body is that of `parse_raw`
+// but for the rule: of one body the compiler makes one copy for both rules, which looks at its rule
+// for every date, and then rule 1 is slower than it was alone (docs/SPEED.md).
 pub fn parse_raw_by(s: &[u8], rule: Rule) -> Answer
     ensures { λ r. ⌜ r ≡ rawOf (limitsOf rule) (now (s .entry)) ⌝ }
 {
@@ -42,18 +54,25 @@ pub fn parse_raw_by(s: &[u8], rule: Rule) -> Answer
     }
     let usual = offset::usual_fields(s, end);
     let Parsed::Offset(f) = usual else {
-        return parse_other(s, opening, rule);
+        return parse_words(s, read_on(s, opening), rule);
     };
     raw_time(rule, number, Parsed::Offset(f))
 }
 
-// Reads a text of any other form word by word. It is not tested for a `:`, since no number and no
-// offset holds one.
-fn parse_other(s: &[u8], opening: LeadingInteger, rule: Rule) -> Answer
+// The words of a text of any other form. It is a function of its own because the compiler keeps in
+// memory what is passed to `walk::read_words`: these copies, and not those of the usual form.
+fn read_on(s: &[u8], opening: LeadingInteger) -> Walked
     requires { ⌜ LeadsWithNumber (now s) opening ⌝ }
+    ensures { λ r. ⌜ WordsRead (now (s .entry)) r ⌝ }
+{
+    walk::read_words(s, opening)
+}
+
+// The date in those words. They are not tested for a `:`, since no number and no offset holds one.
+fn parse_words(s: &[u8], walked: Walked, rule: Rule) -> Answer
+    requires { ⌜ WordsRead (now s) walked ⌝ }
     ensures { λ r. ⌜ r ≡ rawOf (limitsOf rule) (now (s .entry)) ⌝ }
 {
-    let walked = walk::read_words(s, opening);
     let Walked::Words(first) = walked else {
         return Answer::Refused(Refusal::NotAscii);
     };

@@ -37,6 +37,7 @@ parse-raw-by-spec =
     (λ c. search needs)
     (λ c. search needs)
     (λ c κs. search needs)
+    (λ c κs. search needs)
     (λ c. search needs)
     raw-time-requires-2
     returns-3)
