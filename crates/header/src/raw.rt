@@ -40,9 +40,9 @@ pub fn parse_raw(s: &[u8]) -> Answer
     raw_time(Rule::One, number, Parsed::Offset(f))
 }
 
-// Reads a raw date by either rule, and refuses as `parse_raw` does. The body is that of `parse_raw`
-// but for the rule: of one body the compiler makes one copy for both rules, which looks at its rule
-// for every date, and then rule 1 is slower than it was alone (docs/SPEED.md).
+// Reads a raw date by either rule, and refuses as `parse_raw` does. The body is that of `parse_raw`,
+// which names rule 1: so the compiler makes a copy for rule 1 alone. With one body there is one copy
+// for both rules, which tests its rule at the limits, and rule 1 is slower (docs/SPEED.md).
 pub fn parse_raw_by(s: &[u8], rule: Rule) -> Answer
     ensures { λ r. ⌜ r ≡ rawOf (limitsOf rule) (now (s .entry)) ⌝ }
 {
@@ -59,8 +59,9 @@ pub fn parse_raw_by(s: &[u8], rule: Rule) -> Answer
     raw_time(rule, number, Parsed::Offset(f))
 }
 
-// The words of a text of any other form. It is a function of its own because the compiler keeps in
-// memory what is passed to `walk::read_words`: these copies, and not those of the usual form.
+// The words of a text of any other form. The compiler keeps in memory what is passed on to
+// `walk::read_words`. Here that is a copy of `s` and `opening`, made for these texts alone, and the
+// usual form is read from registers.
 fn read_on(s: &[u8], opening: LeadingInteger) -> Walked
     requires { ⌜ LeadsWithNumber (now s) opening ⌝ }
     ensures { λ r. ⌜ WordsRead (now (s .entry)) r ⌝ }

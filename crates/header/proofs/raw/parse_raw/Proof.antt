@@ -1,5 +1,4 @@
--- `header::raw::parse_raw` meets its contract: for a number alone and for the usual form, the number and the fields after it
--- decide; any other text is read word by word.
+-- `header::raw::parse_raw` meets its contract, by the laws that prove `parse_raw_by`, at rule 1.
 -- Assumes nothing.
 use mathlib.Core.Path.{sym, _∙_}
 use Rattle.header.proofs.Shortcuts.{end-le-length, usual-small, rawOf-of-usual, rawOf-of-alone}
@@ -13,6 +12,10 @@ returns c = c .raw-time .ensures ∙ sym (rawOf-of-alone _ _ (c .before .before 
 
 usual-fields-requires : tie.Need-usual-fields-requires
 usual-fields-requires c κs = end-le-length _ _ (c .before .«open» .ensures)
+
+-- a text of any other form
+returns-2 : tie.Need-returns-2
+returns-2 c = c .parse-words .ensures
 
 -- the usual form
 raw-time-requires-2 : tie.Need-raw-time-requires-2
@@ -38,6 +41,6 @@ parse-raw-spec =
     (λ c. search needs)
     (λ c κs. search needs)
     (λ c κs. search needs)
-    (λ c. search needs)
+    returns-2
     raw-time-requires-2
     returns-3)

@@ -14,6 +14,10 @@ returns c = c .raw-time .ensures ∙ sym (rawOf-of-alone _ _ (c .before .before 
 usual-fields-requires : tie.Need-usual-fields-requires
 usual-fields-requires c κs = end-le-length _ _ (c .before .«open» .ensures)
 
+-- a text of any other form
+returns-2 : tie.Need-returns-2
+returns-2 c = c .parse-words .ensures
+
 -- the usual form
 raw-time-requires-2 : tie.Need-raw-time-requires-2
 raw-time-requires-2 c κs =
@@ -38,6 +42,6 @@ parse-raw-by-spec =
     (λ c. search needs)
     (λ c κs. search needs)
     (λ c κs. search needs)
-    (λ c. search needs)
+    returns-2
     raw-time-requires-2
     returns-3)
