@@ -2,7 +2,7 @@
 -- the forms that need no calendar, by the first byte; that the steps need no test for such a byte in front of them, because a step
 -- that looks at the whole text answers 1 by itself.
 -- Assumes nothing.
-use mathlib.Core.Path.{_≡_, refl, sym}
+use mathlib.Core.Path.{_≡_, refl, sym, _∙_}
 use mathlib.Core.Bool.{false, false≢true}
 use mathlib.Core.List.{List, [], _∷_}
 use Prim.Native.Nat.{ℕ}
@@ -21,7 +21,7 @@ use Rattle.time.specs.declared.Answer.the-variants.{Time, Refused}
 use Rattle.header.specs.Raw.{Limits, rawOf}
 use Rattle.iso.specs.Iso.{isoOf}
 use Rattle.relative.specs.Relative.{maxPairs, relativeOf}
-use Rattle.dates.specs.Any.{orElse, leastPlain, numberFrom, markedOf, atOf, plainOf, anyOf}
+use Rattle.dates.specs.Any.{isSettled, orElse, leastPlain, numberFrom, markedOf, atOf, plainOf, anyOf}
 
 -- ---- a byte of 128 or more
 numberFrom-not-ascii : (least : ℤ) (s : List ℕ) → ascii s ≡ false → numberFrom least s ≡ Refused Form
@@ -68,6 +68,12 @@ plainOf-not-ascii l (b ∷ s) h =
     (λ e. rw (e, numberFrom-not-ascii leastPlain (b ∷ s) h))
 
 -- ---- the steps: no test for 1 is needed in front of them
-pub anyOf-in-turn : (l : Limits) (s : List ℕ) (now : Now) → anyOf l s now ≡ orElse (plainOf l s) (orElse (isoOf s) (orElse (relativeOf maxPairs s now) (rawOf l s)))
-unfolding anyOf isoOf
-anyOf-in-turn l s now = by-test (ascii s) (λ e. rw e) (λ e. rw e (sym (plainOf-not-ascii l s e)))
+orElse-orElse : (a b c : Answer) → orElse (orElse a b) c ≡ orElse a (orElse b c)
+orElse-orElse a b c = by-test (isSettled a) (λ e. rw (e, e)) (λ e. rw e)
+
+pub anyOf-in-turn : (l : Limits) (s : List ℕ) (now : Now)
+    → anyOf l s now ≡ orElse (atOf l s) (orElse (numberFrom leastPlain s) (orElse (isoOf s) (orElse (relativeOf maxPairs s now) (rawOf l s))))
+unfolding anyOf plainOf isoOf
+anyOf-in-turn l s now =
+    by-test (ascii s) (λ e. rw e (orElse-orElse (atOf l s) (numberFrom leastPlain s) _))
+    (λ e. rw e (sym (plainOf-not-ascii l s e) ∙ orElse-orElse (atOf l s) (numberFrom leastPlain s) _))

@@ -2,7 +2,7 @@
 ghost use mathlib.Core.Path.{_≡_};
 ghost use Rattle.calendar.specs.Table.{IsMonths};
 ghost use Rattle.header.specs.Raw.{rule1, limitsOf};
-ghost use Rattle.dates.specs.Any.{settles as settlesOf, isSettled, numbered as numberedOf, markedOf, plainOf, anyOf};
+ghost use Rattle.dates.specs.Any.{settles as settlesOf, isSettled, numbered as numberedOf, markedOf, atOf, anyOf};
 use header::raw;
 use header::raw::Rule;
 use text::number;
@@ -41,13 +41,17 @@ pub fn parse_by(s: &[u8], rule: Rule, current: Now) -> Answer
     parse_by_with(&[], s, rule, current)
 }
 
-// The same with a table of months, as in `parse_with`. No test for bytes of 128 or more is needed
-// here, because each reader below makes its own.
+// The same with a table of months, as in `parse_with`. The steps are those of the definition, in its
+// order. No test for bytes of 128 or more is needed here, because each reader below makes its own.
 pub fn parse_by_with(months: &[u32], s: &[u8], rule: Rule, current: Now) -> Answer
     requires { ⌜ IsMonths (now months) ⌝ }
     ensures { λ r. ⌜ r ≡ anyOf (limitsOf rule) (now (s .entry)) current ⌝ }
 {
-    let plain = parse_plain(s, rule);
+    let marked = parse_at(s, rule);
+    if is_settled(marked) {
+        return marked;
+    }
+    let plain = numbered(LEAST_PLAIN, number::signed_number(s, Width::Bits64));
     if is_settled(plain) {
         return plain;
     }
@@ -62,10 +66,9 @@ pub fn parse_by_with(months: &[u32], s: &[u8], rule: Rule, current: Now) -> Answ
     raw::parse_raw_by(s, rule)
 }
 
-// The forms that need no calendar: `@` and then a raw date or a number, or else a plain number of at least LEAST_PLAIN. A text that
-// starts with `@` is not a number, so only one of the two is tried.
-fn parse_plain(s: &[u8], rule: Rule) -> Answer
-    ensures { λ r. ⌜ r ≡ plainOf (limitsOf rule) (now (s .entry)) ⌝ }
+// Reads a text that starts with `@`. Any other is refused by 2.
+fn parse_at(s: &[u8], rule: Rule) -> Answer
+    ensures { λ r. ⌜ r ≡ atOf (limitsOf rule) (now (s .entry)) ⌝ }
 {
     if s.len() == 0 {
         return Answer::Refused(Refusal::Form);
@@ -73,16 +76,24 @@ fn parse_plain(s: &[u8], rule: Rule) -> Answer
     if s[0] == b'@' {
         return parse_marked(&s[1..], rule);
     }
-    numbered(LEAST_PLAIN, number::signed_number(s, Width::Bits64))
+    Answer::Refused(Refusal::Form)
 }
 
-// Reads what follows `@`: as a raw date, or else as any number of 64 signed bits.
+// Reads what follows `@`: as a raw date, or else as any number of 64 signed bits. The answer is taken
+// apart and made anew: passed on whole, it would be copied by way of memory.
 fn parse_marked(s: &[u8], rule: Rule) -> Answer
     ensures { λ r. ⌜ r ≡ markedOf (limitsOf rule) (now (s .entry)) ⌝ }
 {
-    let marked = raw::parse_raw_by(s, rule);
-    if is_settled(marked) {
-        return marked;
+    let date = raw::parse_raw_by(s, rule);
+    match date {
+        Answer::Time(t) => {
+            return Answer::Time(t);
+        }
+        Answer::Refused(r) => {
+            if settles(r) {
+                return Answer::Refused(r);
+            }
+        }
     }
     numbered(LEAST_64, number::signed_number(s, Width::Bits64))
 }

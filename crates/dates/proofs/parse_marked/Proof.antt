@@ -5,23 +5,43 @@ use borrow.Author.Needs.{needs}
 use Rattle.dates.proofs.parse_marked.Statement.{statement}
 use Rattle.dates.proofs.parse_marked.Tie as tie
 
+-- a raw date
 returns : tie.Need-returns
 unfolding markedOf
-returns c = rw (← c .before .before .parse-raw-by .ensures, ← c .before .is-settled .ensures, c .if1 .taken)
+returns c = rw (← c .before .before .before .parse-raw-by .ensures, c .before .date .given .1)
 
+-- a refusal other than 2
 returns-2 : tie.Need-returns-2
-unfolding markedOf numberFrom
+unfolding markedOf
 returns-2 c =
+    let at-date = c .before .before .before in
+    rw (← at-date .before .before .parse-raw-by .ensures, at-date .date2 .given .1, ← c .before .settles .ensures, c .if1 .taken)
+
+-- a number
+returns-3 : tie.Need-returns-3
+unfolding markedOf numberFrom
+returns-3 c =
     let at-if = c .before .before in
-    rw (← at-if .before .before .parse-raw-by .ensures, ← at-if .before .is-settled .ensures, at-if .if1 .left, c .numbered .ensures, c .before .signed-number .ensures)
+    let at-date = at-if .before .before .before in
+    rw (
+      ← at-date .before .before .parse-raw-by .ensures,
+      at-date .date2 .given .1,
+      ← at-if .before .settles .ensures,
+      at-if .if1 .left,
+      c .numbered .ensures,
+      c .before .signed-number .ensures,
+    )
 
 pub parse-marked-spec : {M : Type 1} → statement M
 parse-marked-spec =
     tie.close
     (tie.spec
     (λ c κs. search needs)
-    (λ c κs. search needs)
+    (λ c. search needs)
     returns
+    (λ c. search needs)
+    (λ c κs. search needs)
+    returns-2
     (λ c κs. search needs)
     (λ c κs. search needs)
-    returns-2)
+    returns-3)
