@@ -35,14 +35,15 @@ pub fn parse_raw(s: &[u8]) -> Answer
     }
     let usual = offset::usual_fields(s, end);
     let Parsed::Offset(f) = usual else {
-        return parse_words(s, read_on(s, opening), Rule::One);
+        return parse_words(s, walk::read_words(s, opening), Rule::One);
     };
     raw_time(Rule::One, number, Parsed::Offset(f))
 }
 
-// Reads a raw date by either rule, and refuses as `parse_raw` does. The body is that of `parse_raw`,
-// which names rule 1: so the compiler makes a copy for rule 1 alone. With one body there is one copy
-// for both rules, which tests its rule at the limits, and rule 1 is slower (docs/SPEED.md).
+// Reads a raw date by either rule, and refuses as `parse_raw` does. The steps are those of
+// `parse_raw`, which names rule 1: so the compiler makes a copy for rule 1 alone. With one body there
+// is one copy for both rules, which tests its rule at the limits, and rule 1 is slower
+// (docs/SPEED.md).
 pub fn parse_raw_by(s: &[u8], rule: Rule) -> Answer
     ensures { λ r. ⌜ r ≡ rawOf (limitsOf rule) (now (s .entry)) ⌝ }
 {
@@ -59,9 +60,8 @@ pub fn parse_raw_by(s: &[u8], rule: Rule) -> Answer
     raw_time(rule, number, Parsed::Offset(f))
 }
 
-// The words of a text of any other form. The compiler keeps in memory what is passed on to
-// `walk::read_words`. Here that is a copy of `s` and `opening`, made for these texts alone, and the
-// usual form is read from registers.
+// `walk::read_words`, for `parse_raw_by`, which is not inlined: what it passes on itself would be
+// copied to memory for every text, and here that is done for texts of another form alone.
 fn read_on(s: &[u8], opening: LeadingInteger) -> Walked
     requires { ⌜ LeadsWithNumber (now s) opening ⌝ }
     ensures { λ r. ⌜ WordsRead (now (s .entry)) r ⌝ }
@@ -69,7 +69,8 @@ fn read_on(s: &[u8], opening: LeadingInteger) -> Walked
     walk::read_words(s, opening)
 }
 
-// The date in those words. They are not tested for a `:`, since no number and no offset holds one.
+// The date in the words of a text of any other form. They are not tested for a `:`, since no number
+// and no offset holds one.
 fn parse_words(s: &[u8], walked: Walked, rule: Rule) -> Answer
     requires { ⌜ WordsRead (now s) walked ⌝ }
     ensures { λ r. ⌜ r ≡ rawOf (limitsOf rule) (now (s .entry)) ⌝ }
