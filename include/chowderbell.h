@@ -14,7 +14,7 @@
  *   4  CHOWDERBELL_CURRENT        the text is relative and the current time's seconds or offset is out of range
  *   5  CHOWDERBELL_PAIRS          the text is relative with more than 32 pairs of a count and a unit
  *   6  CHOWDERBELL_RANGE          a relative step leaves the range; or the ISO writer is given seconds out of range or a local
- *                                 year outside 0 to 9999
+ *                                 year, at the cut offset, outside 0 to 9999
  *   7  CHOWDERBELL_OFFSET         a writer is given an offset that is too wide
  *   8  CHOWDERBELL_ROOM           the room is shorter than the bytes to be written
  *  10  CHOWDERBELL_BOOK           the book has more than 65536 bytes or a bad line
@@ -111,8 +111,10 @@ size_t chowderbell_size(int64_t seconds, int32_t offset);
    way; or 8. */
 uint8_t chowderbell_write_header(int64_t seconds, int32_t offset, uint8_t *room, size_t len, size_t *length);
 
-/* An ISO line, "2008-02-14T20:30:45-05:00", 25 bytes. Returns 0; 7 for an offset of 86400 seconds (24 hours) or more either way;
-   6 for seconds out of range or a local year outside 0 to 9999; or 8. */
+/* An ISO line, "2008-02-14T20:30:45-05:00", 25 bytes. The offset is first cut toward zero to whole minutes, and the line shows the
+   clock at the cut offset, with + where that is zero. So chowderbell_iso reads every line back with the same seconds and the cut
+   offset. Returns 0; 7 for an offset of 86400 seconds (24 hours) or more either way; 6 for seconds out of range or a local year,
+   at the cut offset, outside 0 to 9999; or 8. */
 uint8_t chowderbell_write_iso(int64_t seconds, int32_t offset, uint8_t *room, size_t len, size_t *length);
 
 /* A book of stamps is a text of at most 65536 bytes with lines for cooked hulls. The empty book is good. Every line ends in a

@@ -11,8 +11,9 @@ use std::fmt;
 
 use gix_date::Time;
 use gix_date::parse::visible;
-use jiff::tz::Offset;
-use jiff::{Timestamp, Zoned};
+use gix_date::time::format::ISO8601_STRICT;
+use jiff::tz::{Offset, OffsetRound};
+use jiff::{RoundMode, Unit, Zoned};
 
 /// The smallest and the largest second in range.
 pub const MIN_SECONDS: i64 = -377705023201;
@@ -224,58 +225,37 @@ pub enum Bytes {
 
 /// What the writer must write for a time.
 ///
-/// gix-date has no ISO writer of this shape: jiff computes the fields, and the line is put together as RULES 9.4 says.
+/// An ISO line is what gix-date's format `ISO8601_STRICT` gives for the time at its cut offset (RULES 9.4); jiff cuts it.
+/// gix-date has no limits: an offset of a day is refused by 7, a year below 0 by 6. No year in range is above 9999.
 pub fn written(writer: Writer, seconds: i64, offset: i32) -> Bytes {
-    let mut bytes = [0; 32];
-    let mut rest = &mut bytes[..];
     match writer {
-        Writer::Header => match Time::new(seconds, offset).write_to(&mut rest) {
-            Ok(()) => {
-                let length = 32 - rest.len();
-                Bytes::Written(bytes, length)
+        Writer::Header => {
+            let mut bytes = [0; 32];
+            let mut rest = &mut bytes[..];
+            match Time::new(seconds, offset).write_to(&mut rest) {
+                Ok(()) => {
+                    let length = 32 - rest.len();
+                    Bytes::Written(bytes, length)
+                }
+                Err(_) => Bytes::Refused(7),
             }
-            Err(_) => Bytes::Refused(7),
-        },
-        Writer::Iso => {
-            if offset.unsigned_abs() >= 86400 {
-                return Bytes::Refused(7);
-            }
-            let Ok(instant) = Timestamp::from_second(seconds) else { return Bytes::Refused(6) };
-            let local = Offset::from_seconds(offset).expect("less than a day").to_datetime(instant);
-            if local.year() < 0 {
-                return Bytes::Refused(6);
-            }
-            let minutes = offset.unsigned_abs() / 60;
-            for (value, digits, before) in [
-                (local.year() as u32, 4, None),
-                (local.month() as u32, 2, Some(b'-')),
-                (local.day() as u32, 2, Some(b'-')),
-                (local.hour() as u32, 2, Some(b'T')),
-                (local.minute() as u32, 2, Some(b':')),
-                (local.second() as u32, 2, Some(b':')),
-                (minutes / 60, 2, Some(if offset < 0 { b'-' } else { b'+' })),
-                (minutes % 60, 2, Some(b':')),
-            ] {
-                put(&mut rest, value, digits, before);
-            }
-            Bytes::Written(bytes, 25)
         }
+        Writer::Iso if offset.unsigned_abs() >= 86400 => Bytes::Refused(7),
+        Writer::Iso => match Time::new(seconds, cut_to_minutes(offset)).format(ISO8601_STRICT) {
+            Ok(line) if !line.starts_with('-') => {
+                let mut bytes = [0; 32];
+                bytes[..line.len()].copy_from_slice(line.as_bytes());
+                Bytes::Written(bytes, line.len())
+            }
+            _ => Bytes::Refused(6),
+        },
     }
 }
 
-/// Writes a number of `digits` digits, after the byte `before` if there is one.
-fn put(rest: &mut &mut [u8], value: u32, digits: usize, before: Option<u8>) {
-    let count = digits + usize::from(before.is_some());
-    let (here, beyond) = std::mem::take(rest).split_at_mut(count);
-    let mut value = value;
-    for place in (count - digits..count).rev() {
-        here[place] = b'0' + (value % 10) as u8;
-        value /= 10;
-    }
-    if let Some(before) = before {
-        here[0] = before;
-    }
-    *rest = beyond;
+/// An offset under a day cut toward zero to whole minutes, by jiff.
+fn cut_to_minutes(offset: i32) -> i32 {
+    let cut = OffsetRound::new().smallest(Unit::Minute).mode(RoundMode::Trunc);
+    Offset::from_seconds(offset).and_then(|offset| offset.round(cut)).expect("less than a day").seconds()
 }
 
 /// What `size` must answer.

@@ -5,6 +5,7 @@ use jiff::ToSpan as _;
 
 use crate::oracle::{self, Answer, Bytes, Form, MAX_SECONDS, MIN_SECONDS, Now, Writer};
 use crate::side::Side;
+use crate::texts::YEAR_0;
 
 /// A side with one mistake.
 pub struct Mistake {
@@ -73,8 +74,11 @@ pub const MISTAKES: &[Mistake] = &[
     Mistake { name: "the writer writes a byte beyond", write: writes_beyond, ..WRITERS },
     Mistake { name: "the writer writes before it refuses", write: writes_first, ..WRITERS },
     Mistake { name: "the smallest second is written as the largest", write: negates_smallest, ..WRITERS },
-    Mistake { name: "offsets under a minute are written with +", write: plus_under_a_minute, ..WRITERS },
-    Mistake { name: "the ISO writer shows the clock at the cut offset", write: clock_at_cut_offset, ..WRITERS },
+    Mistake { name: "headers have + for offsets under a minute", write: plus_under_a_minute, ..WRITERS },
+    Mistake { name: "the ISO writer shows the clock at the full offset", write: clock_at_full_offset, ..WRITERS },
+    Mistake { name: "the ISO writer writes -00:00 at offset -30", write: minus_for_zero, ..WRITERS },
+    Mistake { name: "the ISO writer cuts offsets downward", write: cuts_downward, ..WRITERS },
+    Mistake { name: "the ISO writer tests the year at the full offset", write: year_at_full_offset, ..WRITERS },
 ];
 
 impl Side for Mistake {
@@ -375,6 +379,29 @@ fn plus_under_a_minute(writer: Writer, seconds: i64, offset: i32, room: &mut [u8
     write(writer, seconds, if (-59..0).contains(&offset) { 0 } else { offset }, room, length)
 }
 
-fn clock_at_cut_offset(writer: Writer, seconds: i64, offset: i32, room: &mut [u8], length: &mut usize) -> u8 {
-    write(writer, seconds, if writer == Writer::Iso { offset / 60 * 60 } else { offset }, room, length)
+/// The clock at the full offset beside the cut one: the line of an instant that is off by the seconds that were cut.
+fn clock_at_full_offset(writer: Writer, seconds: i64, offset: i32, room: &mut [u8], length: &mut usize) -> u8 {
+    let cut = if writer == Writer::Iso { i64::from(offset % 60) } else { 0 };
+    write(writer, seconds.saturating_add(cut), offset, room, length)
+}
+
+fn minus_for_zero(writer: Writer, seconds: i64, offset: i32, room: &mut [u8], length: &mut usize) -> u8 {
+    let number = write(writer, seconds, offset, room, length);
+    if number == 0 && writer == Writer::Iso && (-59..0).contains(&offset) {
+        room[19] = b'-';
+    }
+    number
+}
+
+fn cuts_downward(writer: Writer, seconds: i64, offset: i32, room: &mut [u8], length: &mut usize) -> u8 {
+    write(writer, seconds, if writer == Writer::Iso { offset.div_euclid(60) * 60 } else { offset }, room, length)
+}
+
+fn year_at_full_offset(writer: Writer, seconds: i64, offset: i32, room: &mut [u8], length: &mut usize) -> u8 {
+    let years_below_0 = MIN_SECONDS..YEAR_0 - i64::from(offset);
+    if writer == Writer::Iso && offset.unsigned_abs() < 86400 && years_below_0.contains(&seconds) {
+        *length = 0;
+        return 6;
+    }
+    write(writer, seconds, offset, room, length)
 }

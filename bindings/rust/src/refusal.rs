@@ -18,7 +18,7 @@ pub enum Refusal {
     /// 5: the text is relative and has more than 32 pairs of a count and a unit.
     Pairs = 5,
     /// 6: a relative step leaves the range; or the ISO writer is given seconds out of range, or a time whose local
-    /// year is not 0 to 9999.
+    /// year, at the cut offset, is not 0 to 9999.
     Range = 6,
     /// 7: the offset is too wide to be written: 100 hours or more in a header, 24 hours or more in an ISO line.
     Offset = 7,

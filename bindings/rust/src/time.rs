@@ -59,6 +59,9 @@ impl Time {
     /// Writes the time as `YYYY-MM-DDTHH:MM:SS+HH:MM` at the start of `room` and returns its length, [`ISO_LENGTH`]. The
     /// bytes after it are not changed.
     ///
+    /// The offset is first cut toward zero to whole minutes, and the line shows the clock at the cut offset, with `+`
+    /// where that is zero. So [`parse_iso`](crate::parse_iso) reads every line back with the same seconds.
+    ///
     /// # Errors
     /// In the order in which they are tested: [`Refusal::Offset`] if the offset is 24 hours or more either way,
     /// [`Refusal::Range`], [`Refusal::Room`]. `room` is not changed then.
@@ -89,7 +92,7 @@ impl Time {
         Ok(buf.text(length))
     }
 
-    /// The time as `YYYY-MM-DDTHH:MM:SS+HH:MM`, written into `buf`.
+    /// The time as `YYYY-MM-DDTHH:MM:SS+HH:MM`, written into `buf`, with the offset cut as by [`Time::write_iso`].
     ///
     /// # Errors
     /// [`Refusal::Offset`] if the offset is 24 hours or more either way; [`Refusal::Range`].
@@ -97,7 +100,9 @@ impl Time {
     /// ```
     /// use chowderbell::{Time, TimeBuf};
     ///
-    /// assert_eq!(Time::new(0, 3600).to_iso(&mut TimeBuf::default()), Ok("1970-01-01T01:00:00+01:00"));
+    /// let mut buf = TimeBuf::default();
+    /// assert_eq!(Time::new(0, 3600).to_iso(&mut buf), Ok("1970-01-01T01:00:00+01:00"));
+    /// assert_eq!(Time::new(0, -30).to_iso(&mut buf), Ok("1970-01-01T00:00:00+00:00"));
     /// ```
     pub fn to_iso(self, buf: &mut TimeBuf) -> Result<&str, Refusal> {
         let length = self.write_iso(&mut buf.room)?;

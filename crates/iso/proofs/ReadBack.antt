@@ -1,5 +1,6 @@
 -- What the ISO writer of `time` writes is read back. In order: the bytes of the line; its fields; its instant; its day; the line of a
--- time as it is; `iso-read-back`; `iso-read-back-in-room`.
+-- time as it is, at an offset of whole minutes; the line that is written, at any offset (`iso-read-back`, `iso-read-back-in-room`); the
+-- case of whole minutes; two times of one line (`same-line-same-instant`).
 -- Assumes nothing.
 use mathlib.Core.Path.{_≡_, refl, sym, ap, _∙_}
 use mathlib.Core.Bool.{true, false}
@@ -11,8 +12,7 @@ use lib.IntN.{ℤ, pos, negsuc, negℤ, natAbs, _+ℤ_, _-ℤ_}
 use lib.ListN.{take}
 use lib.Signed.{_≤ℤ_}
 use Rattle.ints.specs.Range.{In}
-use Rattle.ints.proofs.Parts.{add-parts, up-neg, dn-neg, parts-eq, eq-parts, le-parts, parts-le}
-use Rattle.ints.proofs.Machine.{In-of-isIn}
+use Rattle.ints.proofs.Parts.{add-parts, up-neg, dn-neg, parts-eq, eq-parts, parts-le}
 use Rattle.text.specs.Bytes.{isSpace, ascii}
 use Rattle.text.specs.Decimal.{twoBefore}
 use Rattle.text.specs.Room.{roomAfter}
@@ -22,16 +22,16 @@ use Rattle.calendar.specs.Civil.{yearCount}
 use Rattle.calendar.specs.Dates.{dateOf, dayNumber}
 use Rattle.calendar.specs.declared.Found.the-variants.{At}
 use Rattle.calendar.proofs.Dates.{IsDate-of-dateOf, IsDate-day-lt}
-use Rattle.time.specs.Answers.{timeAt, isWritten}
+use Rattle.time.specs.Answers.{timeAt, answerTime, isWritten}
 use Rattle.time.specs.Clock.{localOf, clockOf}
-use Rattle.time.specs.Header.{signByte, wholeMinutes}
-use Rattle.time.specs.Iso.{offsetBefore, lineBytes, isoBytes, isoWritten}
-use Rattle.time.specs.Range.{leastSeconds, mostSeconds, secondsInRange, since1970, instantOf}
+use Rattle.time.specs.Header.{signByte, wholeMinutes, cutToMinutes}
+use Rattle.time.specs.Iso.{offsetBefore, lineBytes, shown, isoBytes, isoWritten}
+use Rattle.time.specs.Range.{secondsInRange, since1970, instantOf}
 use Rattle.time.specs.declared.Time.{Time}
+use Rattle.time.specs.declared.Answer.{Answer}
 use Rattle.time.specs.declared.Answer.the-variants.{Time as Read}
 use Rattle.time.specs.declared.Written.the-variants.{Length}
 use Rattle.time.specs.declared.range.Instant.{Instant}
-use Rattle.ints.proofs.Parts.{pos-natAbs-add}
 use Rattle.iso.specs.Forms.{allFields, readFields, isSeparator, flexible}
 use Rattle.iso.specs.Iso.{dayOf, zoned, isoOf}
 use Rattle.iso.specs.declared.forms.Fields.the-variants.{Are}
@@ -41,7 +41,9 @@ use Rattle.iso.proofs.Digits.{int32-two, int32-four, ascii-of-Narrow}
 use Rattle.iso.proofs.Lines.{isoTime-clockText, trim-tail, timeText-tail, offsetText-tail, isoOffset-line, dayNumber-of-IsDate}
 use Rattle.iso.proofs.Instants.{dayOf-value, momentOf-in}
 use Rattle.iso.proofs.Theorems.{iso-of-flexible}
-use Rattle.time.proofs.Isos.{WasWritten, wasWritten, shown-of-whole-minutes}
+use Rattle.time.proofs.Isos.{timeInRange-of-narrow, WasWritten, wasWritten}
+use Rattle.time.proofs.Minutes.{natAbs-cut, cut-of-whole}
+use Rattle.time.proofs.Ranges.{localOf-instantOf}
 use Rattle.time.proofs.Theorems.{line-in-room, isSign-signByte}
 
 -- ---- the line of a date, a clock and an offset
@@ -113,45 +115,24 @@ module _ (y mo d h m s : ℕ) (o : ℤ) (yl : y < 10000) (ml : mo < 100) (dl : d
 clock-sum : (x : ℕ) → x / 3600 * 3600 + x / 60 % 60 * 60 + x % 60 ≡ x
 clock-sum x = omega arith
 
--- ---- the instant: local seconds, less the offset
-local-back : (z o : ℤ) (n k : ℕ) → pos n ≡ z +ℤ pos 377736739200 → pos k ≡ o +ℤ pos 93600 → 93600 ≤ n → since1970 (n + k - 93600) -ℤ o ≡ z
-local-back z o n k p q h =
-    let l : ℕ = n + k - 93600 in
-    parts-eq _ _ (omega (
-      arith,
-      eq-parts p,
-      eq-parts q,
-      add-parts z (pos 377736739200),
-      add-parts o (pos 93600),
-      add-parts (pos l) (negℤ (pos 377736739200)),
-      add-parts (pos l -ℤ pos 377736739200) (negℤ o),
-      up-neg o,
-      dn-neg o,
-    ))
-
 module _ (t : Time) {n : ℕ} (w : WasWritten t n) where
   abbrev i : Instant
   i = instantOf t
 
-  in-range : In leastSeconds mostSeconds (t .seconds)
-  unfolding secondsInRange
-  in-range = In-of-isIn leastSeconds mostSeconds (t .seconds) (w .seconds)
-
-  seconds-up : pos (i .seconds) ≡ t .seconds +ℤ pos 377736739200
-  seconds-up = pos-natAbs-add 377736739200 (t .seconds) (parts-le _ _ (omega (arith, le-parts (in-range .low))))
-
-  offset-low : (o : ℤ) → natAbs o < 86400 → negℤ (pos 93600) ≤ℤ o
-  offset-low (pos n) h = parts-le _ _ (omega arith)
-  offset-low (negsuc n) h = parts-le _ _ (omega arith)
-
-  offset-up : pos (i .offset) ≡ t .offset +ℤ pos 93600
-  offset-up = pos-natAbs-add 93600 (t .offset) (offset-low (t .offset) (w .narrow))
-
-  seconds-ge : 93600 ≤ i .seconds
-  seconds-ge = omega (arith, eq-parts seconds-up, add-parts (t .seconds) (pos 377736739200), le-parts (in-range .low))
-
+  -- the instant: local seconds, less the offset
   instant-back : since1970 (localOf i) -ℤ t .offset ≡ t .seconds
-  instant-back = local-back (t .seconds) (t .offset) (i .seconds) (i .offset) seconds-up offset-up seconds-ge
+  instant-back =
+      let local = eq-parts (localOf-instantOf t (timeInRange-of-narrow t (w .narrow) ∙ w .seconds)) in
+      parts-eq _ _ (omega (
+        arith,
+        local,
+        add-parts (t .seconds) (t .offset),
+        add-parts (t .seconds +ℤ t .offset) (pos 377736739200),
+        add-parts (pos (localOf i)) (negℤ (pos 377736739200)),
+        add-parts (since1970 (localOf i)) (negℤ (t .offset)),
+        up-neg (t .offset),
+        dn-neg (t .offset),
+      ))
 
   -- the day that the line's date names
   abbrev day : ℕ
@@ -223,15 +204,25 @@ module _ (t : Time) {n : ℕ} (w : WasWritten t n) where
     line-read-back : (zoned (flexible (lineBytes t)) ≡ Read t) × (isoOf (lineBytes t) ≡ Read t)
     line-read-back = (zoned-line, iso-of-flexible (lineBytes t) ascii-written (rw trim-written zoned-line))
 
--- a time that the ISO writer writes, at an offset of whole minutes, is read back, by the flexible form
-pub iso-read-back : (t : Time) (room : List ℕ) (n : ℕ) → isoWritten t room ≡ Length n → natAbs (t .offset) % 60 ≡ 0
-    → (zoned (flexible (isoBytes t)) ≡ Read t) × (isoOf (isoBytes t) ≡ Read t)
-unfolding isoBytes isoWritten
-iso-read-back t room n e whole =
-    let s = shown-of-whole-minutes t whole in
-    rw s (line-read-back t (wasWritten t room n (rw s at e)) whole)
+-- every time that the ISO writer writes is read back, by the flexible form, with its seconds and its offset cut toward zero to whole
+-- minutes
+pub iso-read-back : (t : Time) (room : List ℕ) (n : ℕ) → isoWritten t room ≡ Length n
+    → (zoned (flexible (isoBytes t)) ≡ Read (timeAt (t .seconds) (cutToMinutes (t .offset)))) × (isoOf (isoBytes t) ≡ Read (timeAt (t .seconds) (cutToMinutes (t .offset))))
+unfolding shown isoBytes isoWritten
+iso-read-back t room n e = line-read-back (shown t) (wasWritten (shown t) room n e) (omega (arith, natAbs-cut (t .offset)))
 
 -- and so are the bytes that the writer leaves at the front of the room
-pub iso-read-back-in-room : (t : Time) (room : List ℕ) (n : ℕ) → isoWritten t room ≡ Length n → natAbs (t .offset) % 60 ≡ 0
-    → isoOf (take n (roomAfter (isWritten (isoWritten t room)) (isoBytes t) room)) ≡ Read t
-iso-read-back-in-room t room n e whole = ap isoOf (line-in-room t room n e) ∙ iso-read-back t room n e whole .1
+pub iso-read-back-in-room : (t : Time) (room : List ℕ) (n : ℕ) → isoWritten t room ≡ Length n
+    → isoOf (take n (roomAfter (isWritten (isoWritten t room)) (isoBytes t) room)) ≡ Read (timeAt (t .seconds) (cutToMinutes (t .offset)))
+iso-read-back-in-room t room n e = ap isoOf (line-in-room t room n e) ∙ iso-read-back t room n e .1
+
+-- at an offset of whole minutes, that is the same time
+pub iso-read-back-whole : (t : Time) (room : List ℕ) (n : ℕ) → isoWritten t room ≡ Length n → natAbs (t .offset) % 60 ≡ 0
+    → (zoned (flexible (isoBytes t)) ≡ Read t) × (isoOf (isoBytes t) ≡ Read t)
+iso-read-back-whole t room n e whole = rw (cut-of-whole (t .offset) whole) at (iso-read-back t room n e)
+
+-- two times of one line have one instant
+pub same-line-same-instant : (t u : Time) (room more : List ℕ) (n k : ℕ) → isoWritten t room ≡ Length n → isoWritten u more ≡ Length k → isoBytes t ≡ isoBytes u
+    → t .seconds ≡ u .seconds
+same-line-same-instant t u room more n k e f same =
+    ap (λ (a : Answer). answerTime a .seconds) (sym (iso-read-back t room n e .1) ∙ ap isoOf same ∙ iso-read-back u more k f .1)

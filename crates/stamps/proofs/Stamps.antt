@@ -6,11 +6,11 @@ use mathlib.Core.Bool.{true, false, _&&_, false≢true, or-true}
 use mathlib.Core.List.{List, [], _∷_, _++_}
 use mathlib.Core.Logic.{_↔_}
 use Prim.Native.Char.{code}
-use Prim.Native.Nat.{ℕ, suc, _+_, _*_, _/_, _%_, _^_, _≤_, _<_}
+use Prim.Native.Nat.{ℕ, _+_, _/_, _%_, _^_, _≤_, _<_}
 use native.Mathlib.Omega.{arith}
 use borrow.Author.Tests.{eqb-true, leb-true, leb-false}
 use lib.Dec.{leb}
-use lib.IntN.{ℤ, pos, negsuc, negℤ, predℤ, natAbs}
+use lib.IntN.{ℤ, pos, negℤ, predℤ, natAbs}
 use lib.Signed.{leZ, ltZ}
 use Rattle.ints.specs.Range.{In}
 use Rattle.ints.proofs.Parts.{le-parts, natAbs-parts, one-up, one-dn}
@@ -29,6 +29,7 @@ use Rattle.time.specs.Header.{headerBytes, headerSign, wholeMinutes, cutToMinut
 use Rattle.time.specs.declared.Time.{Time as TimeValue}
 use Rattle.time.specs.declared.Answer.{Answer}
 use Rattle.time.specs.declared.Answer.the-variants.{Time, Refused}
+use Rattle.time.proofs.Minutes.{cut-of-whole}
 use Rattle.header.specs.Header.{number64, numberOr, secondsOf, headerTime, headerOfWords, headerOffset, headerOf}
 use Rattle.header.specs.Offset.{onlyWord}
 use Rattle.header.specs.Theorems.{Seconds64}
@@ -134,9 +135,8 @@ stampOf-good s t e =
 
 -- ---- what is written at an offset of whole minutes
 cutToMinutes-whole : (o : ℤ) → isWholeMinutes o ≡ true → cutToMinutes o ≡ o
-unfolding cutToMinutes isWholeMinutes
-cutToMinutes-whole (pos n) e = let k = eqb-true (n % 60) 0 e in let q : n / 60 * 60 ≡ n = omega arith in ap pos q
-cutToMinutes-whole (negsuc n) e = let k = eqb-true (suc n % 60) 0 e in let q : suc n / 60 * 60 ≡ suc n = omega arith in ap (λ (m : ℕ). negℤ (pos m)) q
+unfolding isWholeMinutes
+cutToMinutes-whole o e = cut-of-whole o (eqb-true (natAbs o % 60) 0 e)
 
 pub stampOf-headerBytes : (t : TimeValue) → Seconds64 (t .seconds) → natAbs (t .offset) < 360000 → isWholeMinutes (t .offset) ≡ true → stampOf (headerBytes t) ≡ At t
 unfolding stampOf

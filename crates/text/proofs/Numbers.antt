@@ -103,7 +103,7 @@ fit-fit k l NoNumber h = refl
 
 -- ---- the sign
 -- at most half - 1 is below half
-leb-pred : (n half : ℕ) → 0 < half → leb n (half - 1) ≡ ltb n half
+pub leb-pred : (n half : ℕ) → 0 < half → leb n (half - 1) ≡ ltb n half
 leb-pred n half h =
     by-test (leb n (half - 1)) (λ e. e ∙ sym (lt-ltb n half (omega (arith, leb-true n (half - 1) e)))) (λ e. e ∙ sym (le-ltb n half (omega (arith, leb-false n (half - 1) e))))
 

@@ -13,7 +13,7 @@ use Rattle.calendar.specs.Dates.{dateOf}
 use Rattle.time.specs.Answers.{timeAt}
 use Rattle.time.specs.Clock.{clockOf}
 use Rattle.time.specs.Range.{secondsInRange, offsetInRange}
-use Rattle.time.specs.Header.{signByte, headerSign, wholeMinutes, headerBytes, sizeOf, headerWritten}
+use Rattle.time.specs.Header.{signByte, headerSign, wholeMinutes, headerBytes, sizeOf, headerWritten, cutToMinutes}
 use Rattle.time.specs.Iso.{lineBytes, lineInstant, lineWritten, shown, isoBytes, isoWritten}
 use Rattle.time.specs.Rows.{Row, writes, AllRight}
 use Rattle.time.specs.declared.Refusal.the-variants.{Offset, Range, Room}
@@ -69,30 +69,42 @@ abbrev lines : List Row
 lines =
     -- "`YYYY-MM-DDTHH:MM:SS+HH:MM`"
     writes (isoBytes (timeAt (pos 1203039045) (negsuc 17999))) (bytes "2008-02-14T20:30:45-05:00") ∷
-    -- "The fields show the clock at the full offset; the offset is printed cut toward zero to whole minutes, with `-` if it is negative"
-    writes (isoBytes (timeAt (pos 0) (negsuc 89))) (bytes "1969-12-31T23:58:30-00:01") ∷
+    -- "The offset is first cut toward zero to whole minutes. Fields and year are taken from the cut offset"
+    writes (isoBytes (timeAt (pos 0) (negsuc 89))) (bytes "1969-12-31T23:59:00-00:01") ∷
+    writes (isoBytes (timeAt (pos 0) (pos 90))) (bytes "1970-01-01T00:01:00+00:01") ∷
+    -- "with `+` where it is zero"
+    writes (isoBytes (timeAt (pos 0) (negsuc 29))) (bytes "1970-01-01T00:00:00+00:00") ∷
     -- Git's published writer tests, t0006, but for offset 0, where Git prints `Z`
     writes (isoBytes (timeAt (pos 1466000000) (pos 7200))) (bytes "2016-06-15T16:13:20+02:00") ∷
     writes (isoBytes (timeAt (pos 1466000000) (negsuc 7199))) (bytes "2016-06-15T12:13:20-02:00") ∷ []
 
 lines-right : AllRight lines
-unfolding isoBytes shown lineBytes clockOf signByte wholeMinutes dateOf monthOf yearOf spanOf monthLength yearLength firstDay yearStart total lengths leap
-lines-right = (refl, (refl, (refl, (refl, tt))))
+unfolding isoBytes shown cutToMinutes lineBytes clockOf signByte wholeMinutes dateOf monthOf yearOf spanOf monthLength yearLength firstDay yearStart total lengths leap
+lines-right = (refl, (refl, (refl, (refl, (refl, (refl, tt))))))
 
 -- "Writers test in the order 7, 6, 8": the largest seconds at an offset of a day, with no room
 seven-first : isoWritten (timeAt (pos (2 ^ 63 - 1)) (pos 86400)) [] ≡ Refused Offset
-unfolding isoWritten shown lineWritten lineInstant
+unfolding isoWritten shown cutToMinutes lineWritten lineInstant
 seven-first = refl
 
 six-next : isoWritten (timeAt (pos 253402207201) (pos 0)) [] ≡ Refused Range
-unfolding isoWritten shown lineWritten lineInstant secondsInRange
+unfolding isoWritten shown cutToMinutes lineWritten lineInstant secondsInRange
 six-next = refl
 
--- "a local year outside 0 to 9999": the second before 1 January 0000, and that midnight
+-- "a local year, at the cut offset, outside 0 to 9999": the second before 1 January 0000, and that midnight
 year-before-0 : isoWritten (timeAt (negsuc 62167219200) (pos 0)) (replicate 25 0) ≡ Refused Range
-unfolding isoWritten shown lineWritten lineInstant secondsInRange clockOf dateOf monthOf yearOf spanOf monthLength yearLength firstDay yearStart total lengths leap
+unfolding isoWritten shown cutToMinutes lineWritten lineInstant secondsInRange clockOf dateOf monthOf yearOf spanOf monthLength yearLength firstDay yearStart total lengths leap
 year-before-0 = refl
 
 year-0 : isoWritten (timeAt (negsuc 62167219199) (pos 0)) (replicate 25 0) ≡ Length 25
-unfolding isoWritten shown lineWritten lineInstant secondsInRange clockOf dateOf monthOf yearOf spanOf monthLength yearLength firstDay yearStart total lengths leap
+unfolding isoWritten shown cutToMinutes lineWritten lineInstant secondsInRange clockOf dateOf monthOf yearOf spanOf monthLength yearLength firstDay yearStart total lengths leap
 year-0 = refl
+
+-- RULES 11.14: the offset is cut to 0 first, so half a minute does not leave year 0, nor reach it
+year-0-at-minus-30 : isoWritten (timeAt (negsuc 62167219199) (negsuc 29)) (replicate 25 0) ≡ Length 25
+unfolding isoWritten shown cutToMinutes lineWritten lineInstant secondsInRange clockOf dateOf monthOf yearOf spanOf monthLength yearLength firstDay yearStart total lengths leap
+year-0-at-minus-30 = refl
+
+year-before-0-at-30 : isoWritten (timeAt (negsuc 62167219229) (pos 30)) (replicate 25 0) ≡ Refused Range
+unfolding isoWritten shown cutToMinutes lineWritten lineInstant secondsInRange clockOf dateOf monthOf yearOf spanOf monthLength yearLength firstDay yearStart total lengths leap
+year-before-0-at-30 = refl

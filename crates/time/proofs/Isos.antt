@@ -1,10 +1,10 @@
 -- The ISO line. In order: which time has a line, and of which instant; the writer's answers, each with the room that it leaves; what
--- the time of a line that was written is like; the time that a line shows.
+-- the time of a line that was written is like.
 -- Assumes nothing.
 use mathlib.Core.Path.{_≡_, refl}
-use mathlib.Core.Bool.{true, _&&_}
+use mathlib.Core.Bool.{true, _&&_, and-true}
 use mathlib.Core.List.{List, _++_}
-use Prim.Native.Nat.{ℕ, _/_, _%_, _≤_, _<_}
+use Prim.Native.Nat.{ℕ, _/_, _≤_, _<_}
 use native.Mathlib.Omega.{arith}
 use borrow.Author.Tests.{le-leb, lt-leb, lt-ltb, le-ltb, leb-true, leb-false, ltb-true}
 use lib.Dec.{leb, ltb}
@@ -19,7 +19,7 @@ use Rattle.text.proofs.Putting.{put-put}
 use Rattle.time.specs.Range.{leastOffset, mostOffset, secondsInRange, offsetInRange, timeInRange, instantOf, movedOf}
 use Rattle.time.specs.Answers.{isWritten}
 use Rattle.time.specs.Clock.{clockOf}
-use Rattle.time.specs.Iso.{lineClock, clockYear, dateBefore, clockBefore, offsetBefore, clockLine, lineBytes, lineInstant, writtenAt, lineWritten, shown}
+use Rattle.time.specs.Iso.{lineClock, clockYear, dateBefore, clockBefore, offsetBefore, clockLine, lineBytes, lineInstant, writtenAt, lineWritten}
 use Rattle.time.specs.declared.Time.{Time}
 use Rattle.time.specs.declared.Refusal.{Refusal}
 use Rattle.time.specs.declared.Refusal.the-variants.{Offset, Range, Room}
@@ -47,12 +47,16 @@ abbrev pub lineFrom : Moved → Line
 lineFrom (Inside i) = At i
 lineFrom Nothing = NoLine Range
 
+pub timeInRange-of-narrow : (t : Time) → natAbs (t .offset) < 86400 → timeInRange t ≡ secondsInRange (t .seconds)
+unfolding timeInRange offsetInRange
+timeInRange-of-narrow t h = rw (isIn-of-In (offset-in (t .offset) h)) (and-true (secondsInRange (t .seconds)))
+
 pub lineInstant-of-narrow : (t : Time) → natAbs (t .offset) < 86400 → lineFrom (movedOf t) ≡ lineInstant t
-unfolding lineInstant movedOf timeInRange offsetInRange
+unfolding lineInstant movedOf
 lineInstant-of-narrow t h =
     by-test (secondsInRange (t .seconds))
-    (λ e. rw (lt-leb 86400 (natAbs (t .offset)) h, e, isIn-of-In (offset-in (t .offset) h)))
-    (λ e. rw (lt-leb 86400 (natAbs (t .offset)) h, e))
+    (λ e. rw (lt-leb 86400 (natAbs (t .offset)) h, timeInRange-of-narrow t h, e))
+    (λ e. rw (lt-leb 86400 (natAbs (t .offset)) h, timeInRange-of-narrow t h, e))
 
 -- a time that has a line
 pub record HasLine (t : Time) (i : Instant) : Type 0 where
@@ -145,8 +149,3 @@ wasWritten t room n e =
 
     same : Length 25 ≡ Length n → n ≡ 25
     same p = cc
-
--- ---- the time that a line shows
-pub shown-of-whole-minutes : (t : Time) → natAbs (t .offset) % 60 ≡ 0 → shown t ≡ t
-unfolding shown
-shown-of-whole-minutes t h = refl

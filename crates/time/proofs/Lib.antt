@@ -1,10 +1,12 @@
--- Laws. In order: the range, and times as numbers from 0; the header as it is written; the buffer for it; the ISO line; what a caller
--- may rely on; tables of examples joined; worked examples.
+-- Laws. In order: the range, and times as numbers from 0; the header as it is written; the buffer for it; offsets cut to whole minutes; the
+-- ISO line; which times it refuses; what a caller may rely on; tables of examples joined; worked examples.
 -- Assumes nothing.
 pub mod Ranges
 pub mod Headers
 pub mod Bufs
+pub mod Minutes
 pub mod Isos
+pub mod Refusals
 pub mod Theorems
 pub mod Rows
 pub mod Examples

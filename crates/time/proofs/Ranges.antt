@@ -1,18 +1,19 @@
 -- The range, in signed numbers and in numbers from 0. In order: seconds from 0 are in range exactly between two numbers; an instant as
--- an answer; the move to numbers from 0; a time in range moved so and back is itself.
+-- an answer; the move to numbers from 0; a time in range moved so and back is itself; its local clock.
 -- Assumes nothing.
-use mathlib.Core.Path.{_≡_, sym, _∙_}
+use mathlib.Core.Path.{_≡_, sym, ap, _∙_}
 use mathlib.Core.Bool.{Bool, true, false, _&&_}
-use Prim.Native.Nat.{ℕ, _-_, _≤_, _<_}
+use Prim.Native.Nat.{ℕ, _-_, _≤_}
 use native.Mathlib.Omega.{arith}
-use borrow.Author.Tests.{le-leb, lt-leb, leb-true}
+use borrow.Author.Tests.{le-leb, leb-true}
 use lib.Dec.{leb}
 use lib.IntN.{pos, negsuc, negℤ, _+ℤ_, _-ℤ_}
 use lib.Signed.{_≤ℤ_}
-use Rattle.ints.specs.Range.{In, isIn}
-use Rattle.ints.proofs.Parts.{add-parts, up-neg, dn-neg, parts-eq, le-parts, parts-le, natAbs-add-sub}
-use Rattle.ints.proofs.Machine.{leZ-sub-sub, isIn-of-In, In-of-isIn}
+use Rattle.ints.specs.Range.{In}
+use Rattle.ints.proofs.Parts.{add-parts, up-neg, dn-neg, parts-eq, eq-parts, le-parts, parts-le, natAbs-add-sub}
+use Rattle.ints.proofs.Machine.{leZ-sub-sub, In-of-isIn}
 use Rattle.text.proofs.Lists.{both}
+use Rattle.time.specs.Clock.{localOf}
 use Rattle.time.specs.Range.{leastSeconds, mostSeconds, secondsInRange, leastOffset, mostOffset, offsetInRange, timeInRange, since1970, timeOf, instantOf, movedOf, answerAt, InRange}
 use Rattle.time.specs.declared.Time.{Time}
 use Rattle.time.specs.declared.Refusal.the-variants.{Range}
@@ -110,3 +111,20 @@ timeOf-instantOf t e =
     let a : pos 0 ≤ℤ (t .seconds +ℤ pos 377736739200) = parts-le _ _ (omega (arith, le-parts (s .low), add-parts (t .seconds) (pos 377736739200))) in
     let b : pos 0 ≤ℤ (t .offset +ℤ pos 93600) = parts-le _ _ (omega (arith, le-parts (o .low), add-parts (t .offset) (pos 93600))) in
     λ i. record { seconds = natAbs-add-sub (t .seconds) 377736739200 a i; offset = natAbs-add-sub (t .offset) 93600 b i }
+
+-- the seconds that its local clock shows, as a signed number
+pub localOf-instantOf : (t : Time) → timeInRange t ≡ true → pos (localOf (instantOf t)) ≡ t .seconds +ℤ t .offset +ℤ pos 377736739200
+localOf-instantOf t e =
+    let i : Instant = instantOf t in
+    let b = timeOf-instantOf t e in
+    let r = InRange-of-timeOf i (ap timeInRange b ∙ e) in
+    parts-eq _ _ (omega (
+      arith,
+      r .early,
+      eq-parts (ap (λ (x : Time). x .seconds) b),
+      eq-parts (ap (λ (x : Time). x .offset) b),
+      add-parts (pos (i .seconds)) (negsuc 377736739199),
+      add-parts (pos (i .offset)) (negsuc 93599),
+      add-parts (t .seconds) (t .offset),
+      add-parts (t .seconds +ℤ t .offset) (pos 377736739200),
+    ))

@@ -3,7 +3,7 @@
 -- 26 bytes; the front of the room then holds its bytes; `Time::MIN` and `Time::MAX` are the smallest and the largest time that a header
 -- can carry; an ISO line is 25 bytes of one shape, and the front of the room holds them once it is written.
 -- Assumes nothing.
-use mathlib.Core.Path.{_≡_, refl, sym, _∙_}
+use mathlib.Core.Path.{_≡_, refl, sym, ap, _∙_}
 use mathlib.Core.Bool.{true}
 use mathlib.Core.List.{List}
 use Prim.Native.Nat.{ℕ, _+_, _-_, _/_, _%_, _^_, _≤_, _<_}
@@ -11,7 +11,7 @@ use native.Mathlib.Omega.{arith}
 use borrow.Author.Tests.{lt-leb, le-ltb}
 use lib.Dec.{leb, ltb}
 use lib.IntN.{ℤ, pos, negsuc, natAbs}
-use lib.ListN.{length, take, drop}
+use lib.ListN.{length, getD, take, drop}
 use lib.Seq.{take-append-seam}
 use lib.Signed.{_≤ℤ_}
 use mir.Syntax.{w64}
@@ -26,9 +26,9 @@ use Rattle.text.specs.Bytes.{isSign}
 use Rattle.text.specs.Decimal.{digitsUpTo, decimal, signed}
 use Rattle.text.specs.Quote.{bytes}
 use Rattle.text.specs.Room.{roomAfter}
-use Rattle.time.specs.Answers.{isWritten}
+use Rattle.time.specs.Answers.{timeAt, isWritten}
 use Rattle.time.specs.Clock.{clockOf, localOf}
-use Rattle.time.specs.Header.{sizeOf, headerBytes, headerWritten, signByte, wholeMinutes, smallestTime, largestTime}
+use Rattle.time.specs.Header.{sizeOf, headerBytes, headerWritten, signByte, wholeMinutes, smallestTime, largestTime, cutToMinutes}
 use Rattle.time.specs.Range.{instantOf}
 use Rattle.time.specs.Iso.{lineClock, clockYear, lineBytes, shown, isoBytes, isoWritten}
 use Rattle.time.specs.Theorems.{HasHeader, isLike}
@@ -40,6 +40,7 @@ use Rattle.time.specs.declared.Written.the-variants.{Length, Refused}
 use Rattle.time.specs.declared.range.Instant.{Instant}
 use Rattle.time.proofs.Headers.{length-headerBytes}
 use Rattle.time.proofs.Isos.{WasWritten, wasWritten}
+use Rattle.time.proofs.Minutes.{natAbs-cut, cut-of-whole}
 
 -- ---- the header
 -- wherever a header is written, its length is `size` and that of the bytes
@@ -160,3 +161,21 @@ line-has-its-shape t w =
 pub iso-line-has-its-shape : (t : Time) (room : List ℕ) (n : ℕ) → isoWritten t room ≡ Length n → isLike (bytes "0000-00-00T00:00:00+00:00") (isoBytes t) ≡ true
 unfolding isoBytes isoWritten
 iso-line-has-its-shape t room n e = line-has-its-shape (shown t) (wasWritten (shown t) room n e)
+
+-- its offset is never `-00:00`, whatever the time
+pub iso-line-never-minus-zero : (t : Time) → drop 19 (isoBytes t) ≡ bytes "-00:00" → ⊥
+unfolding isoBytes lineBytes shown wholeMinutes signByte
+iso-line-never-minus-zero t e =
+    let o : ℤ = cutToMinutes (t .offset) in
+    let byte : (k : ℕ) → getD (drop 19 (isoBytes t)) k 0 ≡ getD (bytes "-00:00") k 0 = λ k. ap (λ (l : List ℕ). getD l k 0) e in
+    let zero : natAbs o ≡ 0 = omega (arith, natAbs-cut (t .offset), byte 1, byte 2, byte 4, byte 5) in
+    omega (arith, byte 0, plus o zero)
+  where
+    plus : (o : ℤ) → natAbs o ≡ 0 → signByte o ≡ 43
+    plus (pos n) h = refl
+    plus (negsuc n) h = absurd (omega arith)
+
+-- and the line of the time that it shows is the same line
+pub iso-line-again : (t : Time) → isoBytes (timeAt (t .seconds) (cutToMinutes (t .offset))) ≡ isoBytes t
+unfolding isoBytes shown
+iso-line-again t = ap (λ (o : ℤ). lineBytes (timeAt (t .seconds) o)) (cut-of-whole (cutToMinutes (t .offset)) (omega (arith, natAbs-cut (t .offset))))

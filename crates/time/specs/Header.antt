@@ -54,7 +54,7 @@ smallestTime = timeAt (negsuc (2 ^ 63 - 1)) (negsuc 359998)
 abbrev pub largestTime : Time
 largestTime = timeAt (pos (2 ^ 63 - 1)) (pos 359999)
 
--- an offset cut toward zero to whole minutes: what a header keeps of it
+-- an offset cut toward zero to whole minutes: what a header or an ISO line keeps of it
 unfoldable pub cutToMinutes : ℤ → ℤ
 cutToMinutes (pos n) = pos (n / 60 * 60)
 cutToMinutes (negsuc n) = negℤ (pos (suc n / 60 * 60))

@@ -9,8 +9,9 @@ use lib.Dec.{leb, ltb}
 use lib.IntN.{ℤ, natAbs}
 use lib.ListN.{length}
 use Rattle.text.specs.Decimal.{twoBefore}
+use Rattle.time.specs.Answers.{timeAt}
 use Rattle.time.specs.Clock.{clockOf}
-use Rattle.time.specs.Header.{signByte, wholeMinutes}
+use Rattle.time.specs.Header.{signByte, wholeMinutes, cutToMinutes}
 use Rattle.time.specs.Range.{secondsInRange, instantOf}
 use Rattle.time.specs.declared.Time.{Time}
 use Rattle.time.specs.declared.Refusal.the-variants.{Offset, Range, Room}
@@ -74,9 +75,9 @@ unfoldable pub lineWritten : Time → List ℕ → Written
 lineWritten t room = written (lineInstant t) room
 
 -- ---- the ISO line of a time
--- the time that a line shows: for now the time itself
+-- the time that a line shows: its offset is cut toward zero to whole minutes first, and fields, year, sign and digits are taken from that
 unfoldable pub shown : Time → Time
-shown t = t
+shown t = timeAt (t .seconds) (cutToMinutes (t .offset))
 
 unfoldable pub isoBytes : Time → List ℕ
 isoBytes t = lineBytes (shown t)

@@ -1,15 +1,16 @@
--- What the theorems about times speak of (docs/PROMISES.md): the times that a header can carry, and the shape of a line. No contract
--- cites these.
+-- What the theorems about times speak of (docs/PROMISES.md): the times that a header can carry, the shape of a line, and the year that a
+-- line shows. No contract cites these.
 -- Assumes nothing.
 use Prim.Native.Char.{code}
 use Prim.Native.Nat.{ℕ, _<_}
 use mathlib.Core.Bool.{Bool, true, false, cond, _&&_}
 use mathlib.Core.List.{List, [], _∷_}
 use lib.Dec.{eqb}
-use lib.IntN.{natAbs}
+use lib.IntN.{ℤ, pos, negsuc, natAbs, _-ℤ_}
 use mir.Syntax.{w64}
 use mir.Val.{SFits}
 use Rattle.text.specs.Bytes.{isDigit, isSign}
+use Rattle.time.specs.Iso.{lineClock, clockYear, shown}
 use Rattle.time.specs.declared.Time.{Time}
 
 -- a time that a header can carry: seconds that 64 bits hold, an offset under 100 hours
@@ -27,3 +28,14 @@ isLike [] [] = true
 isLike [] (b ∷ s) = false
 isLike (p ∷ ps) [] = false
 isLike (p ∷ ps) (b ∷ s) = likeByte p b && isLike ps s
+
+-- the year of the line of a time as it is, and of the line that is written
+abbrev pub lineYear : Time → ℤ
+lineYear t = pos (clockYear (lineClock t)) -ℤ pos 10000
+
+abbrev pub shownYear : Time → ℤ
+shownYear t = lineYear (shown t)
+
+-- the first second of year 0 at offset 0
+abbrev pub yearZero : ℤ
+yearZero = negsuc 62167219199

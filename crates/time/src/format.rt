@@ -8,7 +8,7 @@ ghost use Rattle.text.specs.Room.{roomAfter};
 ghost use Rattle.calendar.specs.Table.{IsMonths};
 ghost use Rattle.time.specs.Answers.{isWritten};
 ghost use Rattle.time.specs.Clock.{clockOf};
-ghost use Rattle.time.specs.Iso.{fieldBefore, dateBefore, clockBefore, offsetBefore, clockLine, lineBytes, lineInstant, writtenAt, lineWritten, shown as shownTime};
+ghost use Rattle.time.specs.Iso.{fieldBefore, dateBefore, clockBefore, offsetBefore, clockLine, lineInstant, writtenAt};
 ghost use Rattle.time.specs.Held.{LineInRange};
 ghost use Rattle.time.specs.Range.{InRange};
 use crate::Refusal;
@@ -39,29 +39,8 @@ pub enum Line {
     Refused(Refusal),
 }
 
-// The time that a line shows: for now the time itself.
-pub fn shown(t: Time) -> Time
-    ensures { λ r. ⌜ r ≡ shownTime t ⌝ }
-{
-    t
-}
-
-// Writes the line of a time as it is.
-pub fn write_line_with(t: Time, months: &[u32], room: &mut [u8]) -> Written
-    requires { ⌜ IsMonths (now months) ⌝ }
-    ensures { λ r. ⌜ r ≡ lineWritten t (now (room .entry)) ⌝ }
-    ensures { λ _. ⌜ now (room .exit) ≡ roomAfter (isWritten (lineWritten t (now (room .entry)))) (lineBytes t) (now (room .entry)) ⌝ }
-{
-    let offset = t.offset;
-    let line = line_of(t);
-    match line {
-        Line::At(i) => write_instant(months, i, offset, room),
-        Line::Refused(r) => Written::Refused(r),
-    }
-}
-
 // The instant of a time's line, unless the time is refused.
-fn line_of(t: Time) -> Line
+pub fn line_of(t: Time) -> Line
     ensures is { λ r. ⌜ r ≡ lineInstant t ⌝ }
     ensures range { λ r. ⌜ LineInRange r ⌝ }
 {
@@ -77,7 +56,7 @@ fn line_of(t: Time) -> Line
 }
 
 // Writes the local clock of an instant, and this offset behind it.
-fn write_instant(months: &[u32], i: Instant, offset: i32, room: &mut [u8]) -> Written
+pub fn write_instant(months: &[u32], i: Instant, offset: i32, room: &mut [u8]) -> Written
     requires table { ⌜ IsMonths (now months) ⌝ }
     requires range { ⌜ InRange i ⌝ }
     requires offset { ⌜ natAbs offset < 86400 ⌝ }

@@ -15,6 +15,7 @@ ghost use Rattle.time.specs.Answers.{timeAt, numberOf, isWritten};
 ghost use Rattle.calendar.specs.Table.{IsMonths};
 ghost use Rattle.time.specs.Header.{sizeOf, headerBytes, headerWritten, smallestTime, largestTime};
 ghost use Rattle.time.specs.Iso.{isoBytes, isoWritten};
+use crate::format::Line;
 use text::decimal;
 
 // 100 hours. The header writer refuses an offset of this size or more.
@@ -92,8 +93,9 @@ impl Time {
     }
 
     // Writes it as an ISO line of 25 bytes, `2008-02-14T20:30:45-05:00`, to the front of `room`. The bytes beyond them stay as they
-    // were. An offset of 24 hours or more is refused by 7, seconds out of range or a local year outside 0 to 9999 by 6, a room that is
-    // too short by 8. A refusal changes nothing in the room.
+    // were. The offset is first cut toward zero to whole minutes: the line shows the clock at the cut offset, and reads back with the
+    // same seconds. An offset of 24 hours or more is refused by 7, seconds out of range or a local year, at the cut offset, outside 0
+    // to 9999 by 6, a room that is too short by 8. A refusal changes nothing in the room.
     pub fn write_iso(self, room: &mut [u8]) -> Written
         ensures { λ r. ⌜ r ≡ isoWritten self (now (room .entry)) ⌝ }
         ensures { λ _. ⌜ now (room .exit) ≡ roomAfter (isWritten (isoWritten self (now (room .entry)))) (isoBytes self) (now (room .entry)) ⌝ }
@@ -107,7 +109,13 @@ impl Time {
         ensures { λ r. ⌜ r ≡ isoWritten self (now (room .entry)) ⌝ }
         ensures { λ _. ⌜ now (room .exit) ≡ roomAfter (isWritten (isoWritten self (now (room .entry)))) (isoBytes self) (now (room .entry)) ⌝ }
     {
-        format::write_line_with(format::shown(self), months, room)
+        let offset = self.offset;
+        let shown = write::cut_to_minutes(offset);
+        let line = format::line_of(Time::new(self.seconds, shown));
+        match line {
+            Line::At(i) => format::write_instant(months, i, shown, room),
+            Line::Refused(r) => Written::Refused(r),
+        }
     }
 }
 
@@ -123,7 +131,8 @@ pub enum Refusal {
     Current,
     // 5: the text is relative with more than 32 pairs.
     Pairs,
-    // 6: a relative step leaves the range; or the ISO writer is given seconds out of range or a local year outside 0 to 9999.
+    // 6: a relative step leaves the range; or the ISO writer is given seconds out of range or a local year, at the cut offset, outside
+    // 0 to 9999.
     Range,
     // 7: a writer is given an offset that is too wide.
     Offset,

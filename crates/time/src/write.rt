@@ -5,7 +5,7 @@ ghost use Prim.Native.Nat.{_-_, _≤_, _<_};
 ghost use lib.ListN.{length, take, drop};
 ghost use lib.IntN.{natAbs};
 ghost use Rattle.text.specs.Decimal.{signedBefore};
-ghost use Rattle.time.specs.Header.{signByte, headerSign, offsetBytes, space, sizeOf};
+ghost use Rattle.time.specs.Header.{signByte, headerSign, offsetBytes, space, sizeOf, cutToMinutes};
 use crate::Time;
 use text::decimal;
 
@@ -14,6 +14,13 @@ pub fn offset_size(offset: i32) -> u64
     ensures { λ r. ⌜ r ≡ natAbs offset ⌝ }
 {
     decimal::magnitude(offset as i64)
+}
+
+// An offset cut toward zero to whole minutes.
+pub fn cut_to_minutes(offset: i32) -> i32
+    ensures { λ r. ⌜ r ≡ cutToMinutes offset ⌝ }
+{
+    offset / 60 * 60
 }
 
 // `-` for a negative offset, otherwise `+`. It is decided before seconds are dropped: offset -30 is written `-0000`.

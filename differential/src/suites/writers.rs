@@ -16,7 +16,10 @@ pub(super) fn offsets(ledger: &mut Ledger, _: Size) {
         ledger.ask_rooms(Writer::Header, seconds, offset);
         ledger.ask_size(seconds, offset);
         ledger.ask_write(Writer::Header, USUAL, offset, 16);
-        for seconds in [0, LEAP_DAY, YEAR_0, YEAR_0 - i64::from(offset), MIN_SECONDS, MAX_SECONDS] {
+        // where year 0 begins at the full offset and at the cut one
+        let full = YEAR_0 - i64::from(offset);
+        let cut = YEAR_0 - i64::from(offset - offset % 60);
+        for seconds in [0, LEAP_DAY, YEAR_0, full, cut, cut - 1, MIN_SECONDS, MAX_SECONDS] {
             ledger.ask_write(Writer::Iso, seconds, offset, 25);
         }
         if offset % 60 == 0 || !(100..86_300).contains(&offset.abs()) && offset.abs() < 90_000 {
