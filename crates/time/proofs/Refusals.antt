@@ -4,13 +4,13 @@
 -- Assumes nothing.
 use mathlib.Core.Path.{_≡_, refl, sym, ap, _∙_}
 use mathlib.Core.Logic.{_↔_, _⊎_, inl, inr, ⊎-elim}
-use mathlib.Core.Bool.{Bool, true, false, cond, _&&_, and-true, false≢true}
+use mathlib.Core.Bool.{Bool, true, false, _&&_, and-true, false≢true}
 use mathlib.Core.List.{List}
 use Prim.Native.Nat.{ℕ, _/_, _≤_, _<_}
 use native.Mathlib.Omega.{arith}
 use borrow.Author.Tests.{le-leb, lt-leb, leb-true, leb-false}
 use lib.Dec.{leb, ltb}
-use lib.IntN.{ℤ, pos, natAbs, _+ℤ_, _-ℤ_}
+use lib.IntN.{ℤ, pos, negℤ, natAbs, _+ℤ_, _-ℤ_}
 use lib.ListN.{length}
 use lib.Signed.{leZ}
 use Rattle.ints.specs.Range.{isIn}
@@ -28,11 +28,10 @@ use Rattle.time.specs.Clock.{clockOf, localOf}
 use Rattle.time.specs.Header.{cutToMinutes}
 use Rattle.time.specs.Iso.{lineClock, clockYear, lineInstant, lineWritten, shown, isoWritten}
 use Rattle.time.specs.Range.{leastSeconds, mostSeconds, secondsInRange, instantOf}
-use Rattle.time.specs.Theorems.{lineYear, shownYear, yearZero}
+use Rattle.time.specs.Theorems.{lineYear, shownYear, yearZero, answerBy}
 use Rattle.time.specs.declared.Time.{Time}
-use Rattle.time.specs.declared.Refusal.the-variants.{Offset, Range, Room}
-use Rattle.time.specs.declared.Written.{Written}
-use Rattle.time.specs.declared.Written.the-variants.{Length, Refused}
+use Rattle.time.specs.declared.Refusal.the-variants.{Offset, Range}
+use Rattle.time.specs.declared.Written.the-variants.{Refused}
 use Rattle.time.proofs.Isos.{timeInRange-of-narrow}
 use Rattle.time.proofs.Minutes.{up-cut, dn-cut, natAbs-cut}
 use Rattle.time.proofs.Ranges.{localOf-instantOf}
@@ -78,11 +77,7 @@ line-year-in-seconds t h e =
     let y = leb-false 3652425 d (sym (year-of-day d) ∙ f) in
     lt-leb 10000 (m / 12) (omega (arith, leb-false 120000 m f)) ∙ sym (leZ-false {a = yearZero} {b = t .seconds +ℤ t .offset} (omega (ints, sum, at, up, y)))))
 
--- ---- the answer
--- from three tests, in the order 7, 6, 8: the offset is too wide; seconds and year are as they should be; the room is too short
-abbrev answerBy : Bool → Bool → Bool → Written
-answerBy wide good short = cond wide (Refused Offset) (cond good (cond short (Refused Room) (Length 25)) (Refused Range))
-
+-- ---- the answer, from its three tests
 -- of the line of a time as it is
 line-answer : (t : Time) (room : List ℕ) → lineWritten t room ≡ answerBy (leb 86400 (natAbs (t .offset))) (secondsInRange (t .seconds) && isIn (pos 0) (pos 9999) (lineYear t)) (ltb (length room) 25)
 unfolding lineWritten lineInstant
@@ -122,27 +117,24 @@ by-6 false true false short = ((λ e. (refl, inr refl)), (λ p. refl))
 by-6 false true true true = ((λ e. absurd (omega (arith, ap writtenNumber e))), (λ p. absurd (⊎-elim (λ e. false≢true (sym e)) (λ e. false≢true (sym e)) (p .1))))
 by-6 false true true false = ((λ e. absurd (omega (arith, ap writtenNumber e))), (λ p. absurd (⊎-elim (λ e. false≢true (sym e)) (λ e. false≢true (sym e)) (p .1))))
 
-module _ (t : Time) (room : List ℕ) where
-  abbrev seen : Bool
-  seen = isIn (pos 0) (pos 9999) (shownYear t)
+pub iso-refused-by-7 : (t : Time) (room : List ℕ) → (isoWritten t room ≡ Refused Offset) ↔ (86400 ≤ natAbs (t .offset))
+iso-refused-by-7 t room =
+    let n : ℕ = natAbs (t .offset) in
+    let q = by-7 (leb 86400 n) (secondsInRange (t .seconds) && isIn (pos 0) (pos 9999) (shownYear t)) (ltb (length room) 25) in (
+      (λ e. leb-true 86400 n (q .0 (sym (iso-answer t room) ∙ e))),
+      (λ h. iso-answer t room ∙ q .1 (le-leb 86400 n h)),
+    )
 
-  abbrev size : ℕ
-  size = natAbs (t .offset)
-
-  pub iso-refused-by-7 : (isoWritten t room ≡ Refused Offset) ↔ (86400 ≤ size)
-  iso-refused-by-7 =
-      let q = by-7 (leb 86400 size) (secondsInRange (t .seconds) && seen) (ltb (length room) 25) in (
-        (λ e. leb-true 86400 size (q .0 (sym (iso-answer t room) ∙ e))),
-        (λ h. iso-answer t room ∙ q .1 (le-leb 86400 size h)),
-      )
-
-  -- seconds out of range, or a year at the cut offset outside 0 to 9999
-  pub iso-refused-by-6 : (isoWritten t room ≡ Refused Range) ↔ ((size < 86400) × ((secondsInRange (t .seconds) ≡ false) ⊎ (seen ≡ false)))
-  iso-refused-by-6 =
-      let q = by-6 (leb 86400 size) (secondsInRange (t .seconds)) seen (ltb (length room) 25) in (
-        (λ e. let p = q .0 (sym (iso-answer t room) ∙ e) in (leb-false 86400 size (p .0), p .1)),
-        (λ p. iso-answer t room ∙ q .1 (lt-leb 86400 size (p .0), p .1)),
-      )
+-- if it is not 7: the seconds are out of range, or the year at the cut offset is outside 0 to 9999
+pub iso-refused-by-6 : (t : Time) (room : List ℕ)
+    → (isoWritten t room ≡ Refused Range)
+    ↔ ((natAbs (t .offset) < 86400) × ((secondsInRange (t .seconds) ≡ false) ⊎ (isIn (pos 0) (pos 9999) (shownYear t) ≡ false)))
+iso-refused-by-6 t room =
+    let n : ℕ = natAbs (t .offset) in
+    let q = by-6 (leb 86400 n) (secondsInRange (t .seconds)) (isIn (pos 0) (pos 9999) (shownYear t)) (ltb (length room) 25) in (
+      (λ e. let p = q .0 (sym (iso-answer t room) ∙ e) in (leb-false 86400 n (p .0), p .1)),
+      (λ p. iso-answer t room ∙ q .1 (lt-leb 86400 n (p .0), p .1)),
+    )
 
 -- ---- where year 0 begins
 pub shown-year-in-seconds : (t : Time) → natAbs (t .offset) < 86400 → secondsInRange (t .seconds) ≡ true
@@ -157,7 +149,7 @@ same-side s o h =
     let c : ℤ = cutToMinutes o in
     let far = natAbs-parts d in
     let one = one-up d in
-    let move = add-parts (s +ℤ o) (pos 62167219200) in
+    let move = add-parts (s +ℤ o) (negℤ yearZero) in
     let full = add-parts s o in
     let cut = add-parts s c in
     let up = up-cut o in

@@ -1,5 +1,5 @@
--- What the theorems about times speak of (docs/PROMISES.md): the times that a header can carry, the shape of a line, and the year that a
--- line shows. No contract cites these.
+-- What the theorems about times speak of (docs/PROMISES.md): the times that a header can carry, the shape of a line, the year that a line
+-- shows, and the answers of its writer in their order. No contract cites these.
 -- Assumes nothing.
 use Prim.Native.Char.{code}
 use Prim.Native.Nat.{ℕ, _<_}
@@ -12,6 +12,9 @@ use mir.Val.{SFits}
 use Rattle.text.specs.Bytes.{isDigit, isSign}
 use Rattle.time.specs.Iso.{lineClock, clockYear, shown}
 use Rattle.time.specs.declared.Time.{Time}
+use Rattle.time.specs.declared.Refusal.the-variants.{Offset, Range, Room}
+use Rattle.time.specs.declared.Written.{Written}
+use Rattle.time.specs.declared.Written.the-variants.{Length, Refused}
 
 -- a time that a header can carry: seconds that 64 bits hold, an offset under 100 hours
 pub record HasHeader (t : Time) : Type 0 where
@@ -39,3 +42,8 @@ shownYear t = lineYear (shown t)
 -- the first second of year 0 at offset 0
 abbrev pub yearZero : ℤ
 yearZero = negsuc 62167219199
+
+-- the answer of the ISO writer, from three tests in the order 7, 6, 8: the offset is too wide; seconds and year are as they should be; the
+-- room is too short
+abbrev pub answerBy : Bool → Bool → Bool → Written
+answerBy wide good short = cond wide (Refused Offset) (cond good (cond short (Refused Room) (Length 25)) (Refused Range))

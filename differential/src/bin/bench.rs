@@ -9,6 +9,7 @@ use differential::oracle::{self, Form, Now};
 use differential::side::Ours;
 use differential::texts::NOON;
 use gix_date::parse::{TimeBuf, visible};
+use gix_date::time::format::ISO8601_STRICT;
 
 const HELP: &str = "\
 Usage: bench [--rounds N] [WORD...]
@@ -168,9 +169,13 @@ fn readers<'a>() -> Vec<Row<'a>> {
     rows
 }
 
-/// The header writer and `size`, on common times and on seconds of 19 digits.
+/// A common time: seconds and offset.
+fn met(k: i64) -> (i64, i32) {
+    (1745582210 - k * 12_345_678, [7200, -18000, 0, 19800][(k % 4) as usize])
+}
+
+/// The header writer and `size`, on common times and on seconds of 19 digits, and the ISO writer.
 fn writers<'a>() -> Vec<Row<'a>> {
-    let met = |k: i64| (1745582210 - k * 12_345_678, [7200, -18000, 0, 19800][(k % 4) as usize]);
     let long = |k: i64| (-5_000_000_000_000_000_000 + k * 12_345_678, met(k).1);
     let mut rows = Vec::new();
     for (kind, times) in
@@ -230,7 +235,37 @@ fn writers<'a>() -> Vec<Row<'a>> {
             }),
         );
     }
+    rows.push(iso_writer());
     rows
+}
+
+/// The ISO writer on common times. gix-date writes such a line by one of its formats, to a `String`.
+fn iso_writer<'a>() -> Row<'a> {
+    let times: Vec<(i64, i32)> = (0..INPUTS).map(met).collect();
+    let gix_times: Vec<gix_date::Time> = times.iter().map(|time| gix_date::Time::new(time.0, time.1)).collect();
+    let we_write = |seconds: i64, offset: i32| {
+        let (mut room, mut length) = ([0; 25], 0);
+        let number = entries::write_iso(seconds, offset, &mut room, &mut length);
+        (number, length, room)
+    };
+    for (time, (seconds, offset)) in gix_times.iter().zip(&times) {
+        let line = time.format(ISO8601_STRICT).expect("a time in range");
+        assert_eq!(we_write(*seconds, *offset).2, line.as_bytes(), "ISO writer, {seconds} {offset}");
+    }
+    Row {
+        name: "ISO writer".to_string(),
+        inputs: times.len(),
+        gix: Box::new(move || {
+            for time in &gix_times {
+                let _ = black_box(black_box(*time).format(ISO8601_STRICT));
+            }
+        }),
+        ours: Box::new(move || {
+            for (seconds, offset) in &times {
+                black_box(we_write(black_box(*seconds), black_box(*offset)));
+            }
+        }),
+    }
 }
 
 /// A text that can be made longer at one place.
