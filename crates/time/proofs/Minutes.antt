@@ -1,12 +1,12 @@
--- Offsets cut toward zero to whole minutes. In order: the quotient by 60, times 60; each part and the size of what is left; it is the
--- offset itself where that has whole minutes.
+-- Offsets cut toward zero to whole minutes. In order: each part by itself; the quotient by 60, times 60; the size that is left; the
+-- offset itself where it has whole minutes.
 -- Assumes nothing.
 use mathlib.Core.Path.{_≡_}
 use Prim.Native.Nat.{suc, _*_, _/_, _%_}
 use native.Mathlib.Omega.{arith}
 use lib.IntN.{ℤ, pos, negsuc, natAbs, _*ℤ_}
 use lib.Signed.{quotZ}
-use Rattle.ints.proofs.Parts.{up, dn, parts-eq, up-neg, dn-neg, up-mul, dn-mul, up-quot, dn-quot, natAbs-parts}
+use Rattle.ints.proofs.Parts.{up, dn, parts-eq, up-neg, dn-neg, up-mul, dn-mul, up-quot, dn-quot, natAbs-parts, one-up}
 use Rattle.time.specs.Header.{cutToMinutes}
 
 -- each part is cut by itself
@@ -28,9 +28,7 @@ quot-is-cut o =
 
 -- the minutes of its size are left, and nothing else
 pub natAbs-cut : (o : ℤ) → natAbs (cutToMinutes o) ≡ natAbs o / 60 * 60
-natAbs-cut (pos n) = omega (arith, natAbs-parts (cutToMinutes (pos n)), up-cut (pos n), dn-cut (pos n))
-natAbs-cut (negsuc n) = omega (arith, natAbs-parts (cutToMinutes (negsuc n)), up-cut (negsuc n), dn-cut (negsuc n))
+natAbs-cut o = omega (arith, natAbs-parts (cutToMinutes o), natAbs-parts o, one-up o, up-cut o, dn-cut o)
 
 pub cut-of-whole : (o : ℤ) → natAbs o % 60 ≡ 0 → cutToMinutes o ≡ o
-cut-of-whole (pos n) h = parts-eq _ _ (omega (arith, up-cut (pos n), dn-cut (pos n)))
-cut-of-whole (negsuc n) h = parts-eq _ _ (omega (arith, up-cut (negsuc n), dn-cut (negsuc n)))
+cut-of-whole o h = parts-eq _ _ (omega (arith, natAbs-parts o, one-up o, up-cut o, dn-cut o))

@@ -1,6 +1,6 @@
 -- Which times the ISO writer refuses. In order: the year of a line, in seconds; the answer from its three tests (`iso-answer`); it is
 -- 7 and 6 exactly on these times (`iso-refused-by-7`, `iso-refused-by-6`); year 0 begins at one second (`shown-year-in-seconds`); only
--- near it is a time answered otherwise than its line at the full offset would be (`cut-tells-near-year-0`).
+-- near it is a time refused, or written, where its line at the full offset would not be (`refusals-move-only-near-year-0`).
 -- Assumes nothing.
 use mathlib.Core.Path.{_≡_, refl, sym, ap, _∙_}
 use mathlib.Core.Logic.{_↔_, _⊎_, inl, inr, ⊎-elim}
@@ -159,8 +159,8 @@ same-side s o h =
     (λ e. leZ-false {a = yearZero} {b = s +ℤ c} (omega (ints, far, one, move, full, cut, up, dn, le-no (lit yearZero) (lit (s +ℤ o)) e)) ∙ sym e)
 
 -- so a line at the cut offset is refused as one at the full offset would be, but within 59 seconds of the start of year 0
-pub cut-tells-near-year-0 : (t : Time) (room : List ℕ) → 60 ≤ natAbs (t .seconds +ℤ t .offset -ℤ yearZero) → isoWritten t room ≡ lineWritten t room
-cut-tells-near-year-0 t room h =
+pub refusals-move-only-near-year-0 : (t : Time) (room : List ℕ) → 60 ≤ natAbs (t .seconds +ℤ t .offset -ℤ yearZero) → isoWritten t room ≡ lineWritten t room
+refusals-move-only-near-year-0 t room h =
     let n : ℕ = natAbs (t .offset) in
     iso-answer t room
     ∙ by-test (leb 86400 n) (λ a. rw a)

@@ -1,7 +1,8 @@
 -- What a caller of the writers may rely on, proved of their definitions. In order: the length of a header that is written is `size` and
 -- that of its bytes; `size` is at most 26, which `Time::MIN` takes; a header is written wherever it fits, so always to a buffer of
 -- 26 bytes; the front of the room then holds its bytes; `Time::MIN` and `Time::MAX` are the smallest and the largest time that a header
--- can carry; an ISO line is 25 bytes of one shape, and the front of the room holds them once it is written.
+-- can carry; an ISO line is 25 bytes of one shape, and the front of the room holds them once it is written; its offset is never `-00:00`; the
+-- line of the time that it shows is the same line.
 -- Assumes nothing.
 use mathlib.Core.Path.{_≡_, refl, sym, ap, _∙_}
 use mathlib.Core.Bool.{true}

@@ -8,6 +8,7 @@ ghost use Rattle.text.specs.Room.{roomAfter};
 ghost use Rattle.calendar.specs.Table.{IsMonths};
 ghost use Rattle.time.specs.Answers.{isWritten};
 ghost use Rattle.time.specs.Clock.{clockOf};
+ghost use Rattle.time.specs.Header.{cutToMinutes};
 ghost use Rattle.time.specs.Iso.{fieldBefore, dateBefore, clockBefore, offsetBefore, clockLine, lineInstant, writtenAt};
 ghost use Rattle.time.specs.Held.{LineInRange};
 ghost use Rattle.time.specs.Range.{InRange};
@@ -37,6 +38,13 @@ const MONTH_OF_YEAR_0: u64 = 120000;
 pub enum Line {
     At(Instant),
     Refused(Refusal),
+}
+
+// An offset cut toward zero to whole minutes: the one that a line shows.
+pub fn cut_to_minutes(offset: i32) -> i32
+    ensures { λ r. ⌜ r ≡ cutToMinutes offset ⌝ }
+{
+    offset / 60 * 60
 }
 
 // The instant of a time's line, unless the time is refused.

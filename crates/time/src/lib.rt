@@ -110,7 +110,7 @@ impl Time {
         ensures { λ _. ⌜ now (room .exit) ≡ roomAfter (isWritten (isoWritten self (now (room .entry)))) (isoBytes self) (now (room .entry)) ⌝ }
     {
         let offset = self.offset;
-        let shown = write::cut_to_minutes(offset);
+        let shown = format::cut_to_minutes(offset);
         let line = format::line_of(Time::new(self.seconds, shown));
         match line {
             Line::At(i) => format::write_instant(months, i, shown, room),

@@ -5,7 +5,7 @@ ghost use Prim.Native.Nat.{_-_, _≤_, _<_};
 ghost use lib.ListN.{length, take, drop};
 ghost use lib.IntN.{natAbs};
 ghost use Rattle.text.specs.Decimal.{signedBefore};
-ghost use Rattle.time.specs.Header.{signByte, headerSign, offsetBytes, space, sizeOf, cutToMinutes};
+ghost use Rattle.time.specs.Header.{signByte, headerSign, offsetBytes, space, sizeOf};
 use crate::Time;
 use text::decimal;
 
@@ -16,14 +16,7 @@ pub fn offset_size(offset: i32) -> u64
     decimal::magnitude(offset as i64)
 }
 
-// An offset cut toward zero to whole minutes.
-pub fn cut_to_minutes(offset: i32) -> i32
-    ensures { λ r. ⌜ r ≡ cutToMinutes offset ⌝ }
-{
-    offset / 60 * 60
-}
-
-// `-` for a negative offset, otherwise `+`. It is decided before seconds are dropped: offset -30 is written `-0000`.
+// `-` for a negative offset, otherwise `+`. In a header it is decided before seconds are dropped: offset -30 is written `-0000`.
 pub fn sign_byte(offset: i32) -> u8
     ensures { λ r. ⌜ r ≡ signByte offset ⌝ }
 {

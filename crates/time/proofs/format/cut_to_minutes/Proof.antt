@@ -1,4 +1,4 @@
--- `time::write::cut_to_minutes` meets its contract: a quotient is cut toward zero, and it and its product fit.
+-- `time::format::cut_to_minutes` meets its contract: a quotient is cut toward zero, and it and its product fit.
 -- Assumes nothing.
 use mathlib.Core.Path.{_∙_}
 use native.Mathlib.Omega.{arith}
@@ -8,8 +8,8 @@ use mir.Syntax.{w32}
 use mir.Val.{SFits, toZ, ofZ}
 use Rattle.ints.proofs.Machine.{At, least, most, param, over, times, read, fits}
 use Rattle.time.proofs.Minutes.{quot-is-cut}
-use Rattle.time.proofs.write.cut_to_minutes.Statement.{statement}
-use Rattle.time.proofs.write.cut_to_minutes.Tie as tie
+use Rattle.time.proofs.format.cut_to_minutes.Statement.{statement}
+use Rattle.time.proofs.format.cut_to_minutes.Tie as tie
 
 -- the quotient, as the machine has it
 quotient : {z : ℤ} → SFits w32 z → At (quotZ (least w32) (pos 60)) (quotZ (most w32) (pos 60)) (quotZ z (pos 60)) (quotZ (toZ w32 (ofZ w32 z)) (pos 60))
