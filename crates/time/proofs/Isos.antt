@@ -1,15 +1,16 @@
 -- The ISO line. In order: which time has a line, and of which instant; the writer's answers, each with the room that it leaves; what
 -- the time of a line that was written is like.
 -- Assumes nothing.
-use mathlib.Core.Path.{_≡_, refl}
-use mathlib.Core.Bool.{true, _&&_, and-true}
+use mathlib.Core.Path.{_≡_, refl, sym}
+use mathlib.Core.Bool.{true, _&&_, _||_, and-true}
 use mathlib.Core.List.{List, _++_}
-use Prim.Native.Nat.{ℕ, _/_, _≤_, _<_}
+use Prim.Native.Nat.{ℕ, suc, _/_, _≤_, _<_}
 use native.Mathlib.Omega.{arith}
 use borrow.Author.Tests.{le-leb, lt-leb, lt-ltb, le-ltb, leb-true, leb-false, ltb-true}
 use lib.Dec.{leb, ltb}
 use lib.IntN.{ℤ, pos, negsuc, natAbs}
 use lib.ListN.{length, take, drop}
+use lib.Signed.{leZ}
 use Rattle.ints.specs.Range.{In}
 use Rattle.ints.proofs.Parts.{parts-le}
 use Rattle.ints.proofs.Machine.{isIn-of-In}
@@ -33,6 +34,13 @@ use Rattle.time.specs.declared.format.Line.{Line}
 use Rattle.time.specs.declared.format.Line.the-variants.{At, Refused as NoLine}
 
 -- ---- which time has a line
+-- an offset is too wide if it is at most minus a day, or at least a day
+pub wide-of-tests : (z : ℤ) → (leZ z (negsuc 86399) || leZ (pos 86400) z) ≡ leb 86400 (natAbs z)
+wide-of-tests (pos n) = refl
+wide-of-tests (negsuc n) =
+    by-test (leb 86399 n) (λ e. rw e (sym (le-leb 86400 (suc n) (omega (arith, leb-true 86399 n e)))))
+    (λ e. rw e (sym (lt-leb 86400 (suc n) (omega (arith, leb-false 86399 n e)))))
+
 pub lineInstant-of-wide : (t : Time) → 86400 ≤ natAbs (t .offset) → NoLine Offset ≡ lineInstant t
 unfolding lineInstant
 lineInstant-of-wide t h = rw (le-leb 86400 (natAbs (t .offset)) h)

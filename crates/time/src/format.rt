@@ -27,7 +27,7 @@ use text::decimal;
 const LINE_LENGTH: usize = 25;
 
 // 24 hours. An offset of this size or more is refused.
-const OFFSET_LIMIT: u64 = 86400;
+const OFFSET_LIMIT: i32 = 86400;
 
 // Years and months are counted from year -10000: these are year 0 and its January.
 const YEAR_0: u64 = 10000;
@@ -53,7 +53,7 @@ pub fn line_of(t: Time) -> Line
     ensures range { λ r. ⌜ LineInRange r ⌝ }
 {
     let offset = t.offset;
-    if OFFSET_LIMIT <= write::offset_size(offset) {
+    if (offset <= -OFFSET_LIMIT) | (OFFSET_LIMIT <= offset) {
         return Line::Refused(Refusal::Offset);
     }
     let moved = range::instant_of(t);
