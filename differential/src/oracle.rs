@@ -226,7 +226,8 @@ pub enum Bytes {
 /// What the writer must write for a time.
 ///
 /// An ISO line is what gix-date's format `ISO8601_STRICT` gives for the time at its cut offset (RULES 9.4); jiff cuts it.
-/// gix-date has no limits: an offset of a day is refused by 7, a year below 0 by 6. No year in range is above 9999.
+/// Where the format fails, the seconds are out of range, which is 6. It also writes offsets of a day, which are 7 here, and
+/// years below 0, which are 6. No year in range is above 9999.
 pub fn written(writer: Writer, seconds: i64, offset: i32) -> Bytes {
     match writer {
         Writer::Header => {
