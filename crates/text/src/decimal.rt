@@ -4,54 +4,60 @@
 // the `end` of the call that writes the bytes before it.
 ghost use mathlib.Core.Path.{_≡_};
 ghost use mathlib.Core.List.{_∷_, _++_};
-ghost use Prim.Native.Nat.{_-_, _≤_, _<_};
+ghost use Prim.Native.Nat.{_-_, _^_, _≤_, _<_};
 ghost use lib.IntN.{natAbs};
 ghost use lib.ListN.{length, take, drop};
 ghost use Rattle.text.specs.Decimal.{digit as digitOf, decimal, decimalBefore, signed, signedBefore, twoBefore};
 
-// 10^5, 10^10 and 10^15: the least numbers of more than five, ten and fifteen digits.
-const TEN_TO_5: u64 = 100000;
+// The decimal logarithm of 2 is 0.30103. 77 / 256 is a little less.
+const LOG10_OF_2: usize = 77;
 
-const TEN_TO_10: u64 = 10000000000;
+const LOG10_SCALE: usize = 256;
 
-const TEN_TO_15: u64 = 1000000000000000;
-
-// How many digits n has; zero has one. A few comparisons find how many groups of five digits are at
-// the end, and `up_to_five` counts the digits in front of them.
+// How many digits n has; zero has one. Every number takes the same steps: the count of its bits
+// gives an estimate, which is right or one too few, and one comparison tells which. Both are of v,
+// n with its lowest bit set, which has as many digits as n and is never zero.
 pub fn count_digits(n: u64) -> usize
     ensures { λ r. ⌜ (r ≡ length (decimal n)) × (1 ≤ r) × (r ≤ 20) ⌝ }
 {
-    if n < TEN_TO_5 {
-        return up_to_five(n);
+    let v = n | 1;
+    let bits = 64 - (u64::leading_zeros(v) as usize);
+    let estimate = bits * LOG10_OF_2 / LOG10_SCALE;
+    if v < pow10(estimate) {
+        return estimate;
     }
-    if n < TEN_TO_10 {
-        return 5 + up_to_five(n / TEN_TO_5);
-    }
-    if n < TEN_TO_15 {
-        return 10 + up_to_five(n / TEN_TO_10);
-    }
-    15 + up_to_five(n / TEN_TO_15)
+    estimate + 1
 }
 
-// The digits of a number below 100000. Times of today have ten digits, five of which are counted
-// here, so the test for five comes first.
-fn up_to_five(n: u64) -> usize
-    requires { ⌜ n < 100000 ⌝ }
-    ensures { λ r. ⌜ (r ≡ length (decimal n)) × (1 ≤ r) × (r ≤ 5) ⌝ }
+// 10^k. A `match` is compiled to a look-up; a constant array would be written to the stack at each
+// call. The last arm is never taken.
+fn pow10(k: usize) -> u64
+    requires { ⌜ k < 20 ⌝ }
+    ensures { λ r. ⌜ r ≡ 10 ^ k ⌝ }
 {
-    if 10000 <= n {
-        return 5;
+    match k {
+        0 => 1,
+        1 => 10,
+        2 => 100,
+        3 => 1000,
+        4 => 10000,
+        5 => 100000,
+        6 => 1000000,
+        7 => 10000000,
+        8 => 100000000,
+        9 => 1000000000,
+        10 => 10000000000,
+        11 => 100000000000,
+        12 => 1000000000000,
+        13 => 10000000000000,
+        14 => 100000000000000,
+        15 => 1000000000000000,
+        16 => 10000000000000000,
+        17 => 100000000000000000,
+        18 => 1000000000000000000,
+        19 => 10000000000000000000,
+        _ => 0,
     }
-    if 1000 <= n {
-        return 4;
-    }
-    if 100 <= n {
-        return 3;
-    }
-    if 10 <= n {
-        return 2;
-    }
-    1
 }
 
 // The absolute value of z. It fits for the least number too, whose negation does not fit an `i64`.
