@@ -220,23 +220,78 @@ fn writers<'a>() -> Vec<Row<'a>> {
             }),
             we_write(),
         );
-        let sizes = times.clone();
-        row(
-            "`size`",
-            Box::new(move || {
-                for time in &gix_times {
-                    black_box(black_box(*time).size());
-                }
-            }),
-            Box::new(move || {
-                for (seconds, offset) in &sizes {
-                    black_box(entries::size(black_box(*seconds), black_box(*offset)));
-                }
-            }),
-        );
+        rows.push(size_row(format!("`size`{kind}"), Gix::Inlined, times));
     }
     rows.push(iso_writer());
     rows
+}
+
+/// `size` at each count of digits, for numbers from 0 up and negative ones, and for all of these in turn.
+fn sizes<'a>() -> Vec<Row<'a>> {
+    let seconds = |digits: u32, negative: bool, k: i64| {
+        let least = if digits == 1 { i64::from(negative) } else { 10_i64.pow(digits - 1) };
+        let count = 10_i64.saturating_pow(digits) - least;
+        let number = least + k * (count / INPUTS).max(1) % count;
+        if negative { -number } else { number }
+    };
+    let times = |number: &dyn Fn(i64) -> i64| (0..INPUTS).map(|k| (number(k), met(k).1)).collect();
+    let mut rows = Vec::new();
+    for (kind, negative, side) in
+        [("", false, Gix::Inlined), (", negative", true, Gix::Inlined), (", both called", false, Gix::Called)]
+    {
+        for digits in 1..=19 {
+            let plural = if digits == 1 { "" } else { "s" };
+            let name = format!("`size` of {digits} digit{plural}{kind}");
+            rows.push(size_row(name, side, times(&|k| seconds(digits, negative, k))));
+        }
+    }
+    let in_turn = times(&|k| seconds(1 + (k * 7 % 19) as u32, k % 3 == 0, k));
+    rows.push(size_row("`size` of 1 to 19 digits in turn".to_string(), Gix::Inlined, in_turn));
+    rows
+}
+
+/// How gix-date's `size` is reached: compiled into the loop, as a Rust program has it, or by a call, as ours is.
+#[derive(Clone, Copy)]
+enum Gix {
+    Inlined,
+    Called,
+}
+
+#[inline(never)]
+extern "C" fn gix_size(seconds: i64, offset: i32) -> usize {
+    gix_date::Time::new(seconds, offset).size()
+}
+
+/// `size` on some times.
+fn size_row<'a>(name: String, side: Gix, times: Vec<(i64, i32)>) -> Row<'a> {
+    for (seconds, offset) in &times {
+        assert_eq!(entries::size(*seconds, *offset), gix_size(*seconds, *offset), "{name}, {seconds}");
+    }
+    let (inputs, called) = (times.len(), times.clone());
+    let inlined: Vec<gix_date::Time> = times.iter().map(|time| gix_date::Time::new(time.0, time.1)).collect();
+    Row {
+        name,
+        inputs,
+        gix: match side {
+            Gix::Inlined => Box::new(move || {
+                for time in &inlined {
+                    black_box(black_box(*time).size());
+                }
+            }),
+            Gix::Called => Box::new(move || {
+                for time in &called {
+                    let (seconds, offset) = black_box(*time);
+                    black_box(gix_size(seconds, offset));
+                }
+            }),
+        },
+        ours: Box::new(move || {
+            for time in &times {
+                let (seconds, offset) = black_box(*time);
+                black_box(entries::size(seconds, offset));
+            }
+        }),
+    }
 }
 
 /// The ISO writer on common times. gix-date writes such a line by one of its formats, to a `String`.
@@ -326,14 +381,19 @@ impl Growing {
     }
 }
 
+/// The rows of the first table.
+fn rows<'a>() -> Vec<Row<'a>> {
+    readers().into_iter().chain(writers()).chain(sizes()).collect()
+}
+
 fn main() -> ExitCode {
     let words: Vec<String> = std::env::args().skip(1).collect();
     let words: Vec<&str> = words.iter().map(String::as_str).collect();
     match words.as_slice() {
         ["--help"] => println!("{HELP}"),
-        ["--names"] => readers().iter().chain(&writers()).for_each(|row| println!("{}", row.name)),
+        ["--names"] => rows().iter().for_each(|row| println!("{}", row.name)),
         ["--run", side @ ("ours" | "gix-date"), passes, name] => {
-            let row = readers().into_iter().chain(writers()).find(|row| row.name == *name);
+            let row = rows().into_iter().find(|row| row.name == *name);
             let (Some(mut row), Ok(passes)) = (row, passes.parse::<u64>()) else {
                 return usage("--run needs a number and the name of a row");
             };
@@ -359,7 +419,7 @@ fn tables(rounds: u32, chosen: &[&str]) {
     let is_chosen = |name: &str| chosen.is_empty() || chosen.iter().any(|word| name.contains(word));
     println!("{}; {}; best of {rounds} rounds\n", jiff::Zoned::now().date(), processor());
     println!("| what | gix-date, ns | ours, ns | times as fast |\n|---|---:|---:|---:|");
-    for mut row in readers().into_iter().chain(writers()).filter(|row| is_chosen(&row.name)) {
+    for mut row in rows().into_iter().filter(|row| is_chosen(&row.name)) {
         let (gix, ours) = row.measure(rounds);
         println!("| {} | {} | {} | {:.1} |", row.name, shown(gix), shown(ours), gix / ours);
     }

@@ -55,6 +55,16 @@ pub(super) fn seconds(ledger: &mut Ledger, _: Size) {
             }
         }
     }
+    // each count of bits, since `size` estimates the digits by it
+    for bits in 0..=63 {
+        for delta in -3..=3 {
+            for value in [(1_i128 << bits) + delta, delta - (1_i128 << bits)] {
+                if let Ok(seconds) = i64::try_from(value) {
+                    ledger.ask_size(seconds, 0);
+                }
+            }
+        }
+    }
     // both ends of the range and of the years that are written, second by second over two days
     for edge in [MIN_SECONDS, MAX_SECONDS, YEAR_0, 0] {
         for delta in -90_000..=90_000 {
