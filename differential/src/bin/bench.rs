@@ -245,21 +245,29 @@ fn sizes<'a>() -> Vec<Row<'a>> {
             rows.push(size_row(name, side, times(&|k| seconds(digits, negative, k))));
         }
     }
-    let in_turn = times(&|k| seconds(1 + (k * 7 % 19) as u32, k % 3 == 0, k));
-    rows.push(size_row("`size` of 1 to 19 digits in turn".to_string(), Gix::Inlined, in_turn));
+    let in_turn: Vec<(i64, i32)> = times(&|k| seconds(1 + (k * 7 % 19) as u32, k % 3 == 0, k));
+    rows.push(size_row("`size` of 1 to 19 digits in turn".to_string(), Gix::Inlined, in_turn.clone()));
+    rows.push(size_row("`size` beside an empty call".to_string(), Gix::Empty, in_turn));
     rows
 }
 
-/// How gix-date's `size` is reached: compiled into the loop, as a Rust program has it, or by a call, as ours is.
+/// What stands in gix-date's place: its `size` compiled into the loop, as a Rust program has it; its `size` by a call, as
+/// ours is; or a call that counts nothing, which is the least that any call takes.
 #[derive(Clone, Copy)]
 enum Gix {
     Inlined,
     Called,
+    Empty,
 }
 
 #[inline(never)]
 extern "C" fn gix_size(seconds: i64, offset: i32) -> usize {
     gix_date::Time::new(seconds, offset).size()
+}
+
+#[inline(never)]
+extern "C" fn empty(_seconds: i64, offset: i32) -> usize {
+    offset as usize
 }
 
 /// `size` on some times.
@@ -282,6 +290,12 @@ fn size_row<'a>(name: String, side: Gix, times: Vec<(i64, i32)>) -> Row<'a> {
                 for time in &called {
                     let (seconds, offset) = black_box(*time);
                     black_box(gix_size(seconds, offset));
+                }
+            }),
+            Gix::Empty => Box::new(move || {
+                for time in &called {
+                    let (seconds, offset) = black_box(*time);
+                    black_box(empty(seconds, offset));
                 }
             }),
         },
