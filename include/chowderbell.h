@@ -18,11 +18,17 @@
  *   7  CHOWDERBELL_OFFSET         a writer is given an offset that is too wide
  *   8  CHOWDERBELL_ROOM           the room is shorter than the bytes to be written
  *  10  CHOWDERBELL_BOOK           the book has more than 65536 bytes or a bad line
+ *  11  CHOWDERBELL_TOO_LARGE      the number that opens a header or a raw date is too large for 64 bits: below -9223372036854775808
+ *                                 or above 9223372036854775807
  *
  * No function returns 9: by that number the program whenread refuses a line of the wrong layout.
  *
- * Readers test 1, 2, 5, 3, 4, 6 in that order; writers 7, 6, 8; the functions for a book 10, 8. The range is seconds -377705023201
- * to 253402207200, and for a current time an offset of -93599 to 93599. Header and raw dates may lie outside it.
+ * Readers test 1, 2, 5, 3, 4, 6 in that order; writers 7, 6, 8; the functions for a book 10, 8. A header and a raw date are tested
+ * for 11 after 1, after the number of the rule and after the ":" of a header, and before all else that is 2, such as the missing or
+ * bad offset of a raw date.
+ *
+ * The range is seconds -377705023201 to 253402207200, and for a current time an offset of -93599 to 93599. Header and raw dates may
+ * lie outside it.
  *
  * A text, a book or a room of length 0 is never read or written, so its pointer may be NULL. No other pointer may be NULL. The
  * text or the book, the room and the variables that results are stored in must not overlap.
@@ -47,6 +53,7 @@ extern "C" {
 #define CHOWDERBELL_OFFSET 7
 #define CHOWDERBELL_ROOM 8
 #define CHOWDERBELL_BOOK 10
+#define CHOWDERBELL_TOO_LARGE 11
 
 /* The rules for the offset of a raw date. A caller names one by its number. */
 #define CHOWDERBELL_RULE_1 1 /* hours to 14; minutes 0, 15, 30 or 45 */
@@ -65,19 +72,23 @@ extern "C" {
    They read text[0] to text[len - 1] and no other byte. */
 
 /* A commit header's date, "1745582210 +0200". No rule limits the offset here: "+0520" and "+9999" are read. A word that is no
-   offset is read as 0 and is not refused. Returns 0, 1 or 2. */
+   offset is read as 0 and is not refused. If the first word is not a number, its leading digits are read: "12abc" is 12. A ":"
+   anywhere is 2. Without one, if the first word or else its leading digits are too large, the answer is 11:
+   "99999999999999999999 +0200". Returns 0, 1, 2 or 11. */
 uint8_t chowderbell_header(const uint8_t *text, size_t len, int64_t *seconds, int32_t *offset);
 
 /* A raw date, strictly: two words, a number and an offset. An offset is a sign and two or three fields of two bytes, each of them
    two digits, or "+" and a digit: "+0545", "++5+0". Its hours are at most 14, its minutes 0, 15, 30 or 45, its seconds 0. These are
-   the limits of rule 1, below. Returns 0, 1 or 2. */
+   the limits of rule 1, below. If the first word is a number that is too large, the answer is 11, also without an offset.
+   Returns 0, 1, 2 or 11. */
 uint8_t chowderbell_raw(const uint8_t *text, size_t len, int64_t *seconds, int32_t *offset);
 
 /* A raw date by the rule with this number.
      rule 1  lets through an offset with hours to 14 and minutes 0, 15, 30 or 45: "+0545", "-1400".
      rule 2  lets through an offset with hours to 23 and minutes to 59: also "+0520", "-2000", "+2359".
    By both rules seconds must be 0 if there are any: "+054500". What rule 1 reads, rule 2 reads as the same time.
-   For any number but 1 or 2 every text is refused: by 1 if it holds a byte of 128 or more, otherwise by 2. Returns 0, 1 or 2. */
+   For any number but 1 or 2 every text is refused: by 1 if it holds a byte of 128 or more, otherwise by 2. Returns 0, 1, 2
+   or 11. */
 uint8_t chowderbell_raw_by(uint32_t rule, const uint8_t *text, size_t len, int64_t *seconds, int32_t *offset);
 
 /* An ISO date: "2008-02-14 20:30:45 -0500", "20080214T203045-04:00", "2008.02.14 20:30:45". Returns 0, 1 or 2. */
@@ -89,13 +100,14 @@ uint8_t chowderbell_relative(const uint8_t *text, size_t len, uint8_t has_now, i
                              int64_t *seconds, int32_t *offset);
 
 /* A date in any form, tried in this order: "@" and then a raw date or a number; a number of at least 100000000, as seconds at
-   offset 0; an ISO date; a relative date; a raw date. Raw dates are read by rule 1. Returns 0 to 6. */
+   offset 0; an ISO date; a relative date; a raw date. Raw dates are read by rule 1. 11 is given only by that last step:
+   "99999999999999999999 days ago" is 11, and "@99999999999999999999" is 2. Returns 0 to 6, or 11. */
 uint8_t chowderbell_any(const uint8_t *text, size_t len, uint8_t has_now, int64_t now_seconds, int32_t now_offset,
                         int64_t *seconds, int32_t *offset);
 
 /* A date in any form, tried in the same order, with raw dates read by the rule with this number, also behind "@". Wherever
    chowderbell_any does not return 2, rule 2 gives the same answer. For any number but 1 or 2 every text is refused, "now" too: by 1
-   if it holds a byte of 128 or more, otherwise by 2. Returns 0 to 6. */
+   if it holds a byte of 128 or more, otherwise by 2. Returns 0 to 6, or 11. */
 uint8_t chowderbell_any_by(uint32_t rule, const uint8_t *text, size_t len, uint8_t has_now, int64_t now_seconds,
                            int32_t now_offset, int64_t *seconds, int32_t *offset);
 

@@ -1,13 +1,17 @@
 //! What gix-date answers, with the numbers of RULES 2.
 //!
 //! gix-date says "read" or "not read". The number of a text that is not read follows from the reader that failed and from
-//! the current time. Four answers follow from the rules alone, because gix-date has nothing like them: 1 for a byte of
-//! 128 or more, 2 for a number that names no rule, 4 for a current time out of range, 5 for more than 32 pairs.
+//! the current time. Whether it is 2 or 11 follows from the first word (RULES 5.9), and Rust's own reader of numbers says
+//! whether that is too large. gix-date calls the same reader, and drops its reason.
+//!
+//! Four answers follow from the rules alone, because gix-date has nothing like them: 1 for a byte of 128 or more, 2 for a
+//! number that names no rule, 4 for a current time out of range, 5 for more than 32 pairs.
 //!
 //! gix-date reads raw dates by rule 1 (RULES 5.7). By rule 2 the answers are those of its own code with the two limits
 //! of that rule.
 
 use std::fmt;
+use std::num::IntErrorKind;
 
 use gix_date::Time;
 use gix_date::parse::visible;
@@ -78,7 +82,8 @@ impl Answer {
 /// Where an answer comes from.
 #[derive(Clone, Copy, PartialEq, Eq, Debug)]
 pub enum By {
-    /// gix-date, which by rule 2 has the limits of that rule: it read the text, or did not.
+    /// gix-date, which by rule 2 has the limits of that rule: it read the text, or did not. The number for "did not" is
+    /// derived, 11 like the others.
     Rust,
     /// The rules alone: they differ from gix-date on purpose (1, 5), or gix-date cannot be asked (4, and 2 for a number
     /// that names no rule).
@@ -142,10 +147,10 @@ pub fn wanted(form: Form, text: &[u8], now: &Now) -> (Answer, By) {
         return (Answer::refused(1), By::Rules);
     };
     match form {
-        Form::Header => plain(gix_date::parse_header(text)),
-        Form::Raw => plain((BY_RULE_1.raw)(text)),
-        Form::RawBy(rule) => readers_by(rule).map_or(NO_RULE, |readers| plain((readers.raw)(text))),
-        Form::Iso => plain(visible::iso(text)),
+        Form::Header => plain(gix_date::parse_header(text), || header_refusal(text)),
+        Form::Raw => raw(BY_RULE_1, text),
+        Form::RawBy(rule) => readers_by(rule).map_or(NO_RULE, |readers| raw(readers, text)),
+        Form::Iso => plain(visible::iso(text), || 2),
         Form::Relative => match visible::relative(text, now.zoned()) {
             None => (Answer::refused(2), By::Rust),
             Some(_) if has_too_many_pairs(text) => (Answer::refused(5), By::Rules),
@@ -160,9 +165,14 @@ pub fn wanted(form: Form, text: &[u8], now: &Now) -> (Answer, By) {
 /// The answer to every ASCII text if the number of the rule names none.
 const NO_RULE: (Answer, By) = (Answer { number: 2, seconds: 0, offset: 0 }, By::Rules);
 
-/// The answer of a reader that needs no current time.
-fn plain(time: Option<Time>) -> (Answer, By) {
-    (time.map_or(Answer::refused(2), Answer::read), By::Rust)
+/// The answer of a reader that needs no current time. `refusal` is the number of a text that it does not read.
+fn plain(time: Option<Time>, refusal: impl FnOnce() -> u8) -> (Answer, By) {
+    (time.map_or_else(|| Answer::refused(refusal()), Answer::read), By::Rust)
+}
+
+/// The answer of the raw reader.
+fn raw(readers: Readers, text: &str) -> (Answer, By) {
+    plain((readers.raw)(text), || raw_refusal(text))
 }
 
 /// The answer of "any".
@@ -171,11 +181,46 @@ fn any(readers: Readers, text: &str, now: &Now) -> (Answer, By) {
         Some(_) if has_too_many_pairs(text) && is_read_as_relative(readers, text) => (Answer::refused(5), By::Rules),
         Some(time) => (Answer::read(time), By::Rust),
         None => match visible::relative(text, None) {
-            None => (Answer::refused(2), By::Rust),
+            // the last step reads the whole text as a raw date, and its refusal is the answer
+            None => (Answer::refused(raw_refusal(text)), By::Rust),
             Some(_) if has_too_many_pairs(text) => (Answer::refused(5), By::Rules),
             Some(_) => unread(now),
         },
     }
+}
+
+/// The number for a header that is not read: 11 if its first word is too large, or else the digits that this opens with.
+/// A `:` anywhere is 2 before that.
+fn header_refusal(text: &str) -> u8 {
+    let word = first_word(text);
+    let too_large = is_too_large(word) || is_too_large(leading_digits(word));
+    if too_large && !text.contains(':') { 11 } else { 2 }
+}
+
+/// The number for a raw date that is not read: 11 if its first word is too large, whatever follows.
+fn raw_refusal(text: &str) -> u8 {
+    if is_too_large(first_word(text)) { 11 } else { 2 }
+}
+
+/// The first word, empty if there is none. In ASCII, Rust's white space is that of RULES 4.1.
+fn first_word(text: &str) -> &str {
+    text.split_whitespace().next().unwrap_or_default()
+}
+
+/// The digits that a word opens with.
+fn leading_digits(word: &str) -> &str {
+    word.split(|c: char| !c.is_ascii_digit()).next().unwrap_or_default()
+}
+
+/// Whether a word is too large: an optional sign and then digits only, whose value does not fit 64 signed bits.
+///
+/// Rust's reader tells of the value before it has seen all bytes, so that they are digits is tested here.
+fn is_too_large(word: &str) -> bool {
+    let digits = word.strip_prefix(['+', '-']).unwrap_or(word);
+    digits.bytes().all(|byte| byte.is_ascii_digit())
+        && word
+            .parse::<i64>()
+            .is_err_and(|error| matches!(error.kind(), IntErrorKind::PosOverflow | IntErrorKind::NegOverflow))
 }
 
 /// The answer to a relative text that gives no time.

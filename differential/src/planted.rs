@@ -1,6 +1,8 @@
 //! Wrong sides: gix-date's own answers with one mistake each. A comparison that finds no difference says little unless
 //! it would have found a mistake, so it must find each of these.
 
+use std::num::IntErrorKind;
+
 use jiff::ToSpan as _;
 
 use crate::oracle::{self, Answer, Bytes, Form, MAX_SECONDS, MIN_SECONDS, Now, Writer};
@@ -68,6 +70,39 @@ pub const MISTAKES: &[Mistake] = &[
     },
     Mistake { name: "\"any\" reads `now` by rule 3", read: relative_without_rule, ..RIGHT },
     Mistake { name: "by rule 3, byte 128 is refused by 2", read: no_rule_before_1, ..RIGHT },
+    Mistake { name: "a number that is too large is refused by 2", read: too_large_is_2, ..RIGHT },
+    Mistake { name: "11 comes before the header's test for `:`", read: too_large_before_colon, ..RIGHT },
+    Mistake { name: "11 comes before the test for byte 128", read: too_large_before_1, ..RIGHT },
+    Mistake { name: "rule 3 gives 11 before 2", read: too_large_before_rule, ..RIGHT },
+    Mistake { name: "by rule 2, a number that is too large is refused by 2", read: too_large_by_rule_1, ..RIGHT },
+    Mistake {
+        name: "by raw, a lone word that is too large is refused by 2",
+        read: |f, t, n| raw_with_words(f, t, n, |count| count == 1),
+        ..RIGHT
+    },
+    Mistake {
+        name: "by raw, three words of which the first is too large are refused by 2",
+        read: |f, t, n| raw_with_words(f, t, n, |count| count > 2),
+        ..RIGHT
+    },
+    Mistake { name: "by raw, a later word with `:` is refused by 2 before 11", read: raw_with_colon, ..RIGHT },
+    Mistake { name: "by raw, leading digits that are too large are 11", read: raw_falls_back, ..RIGHT },
+    Mistake { name: "a header is 11 only by its whole first word", read: header_without_fallback, ..RIGHT },
+    Mistake {
+        name: "in a header, a signed number that is too large is 11 also with bytes behind it",
+        read: signed_with_bytes_behind,
+        ..RIGHT
+    },
+    Mistake { name: "9223372036854775808 with a minus sign is too large", read: smallest_is_too_large, ..RIGHT },
+    Mistake { name: "twenty digits are too large, zeros in front too", read: twenty_digits_are_too_large, ..RIGHT },
+    Mistake { name: "`@` and a number that is too large is 11", read: too_large_behind_at, ..RIGHT },
+    Mistake { name: "\"any\" gives 11 before it tries the relative form", read: too_large_before_relative, ..RIGHT },
+    Mistake {
+        name: "a relative text that opens with a number that is too large is 11",
+        read: relative_too_large,
+        ..RIGHT
+    },
+    Mistake { name: "an ISO hour that is too large is 11", read: hour_too_large, ..RIGHT },
     Mistake { name: "size is always 26", size: |_, _| 26, ..WRITERS },
     Mistake { name: "size miscounts 1000000000000000000", size: miscounts, ..WRITERS },
     Mistake { name: "the writer writes nothing", write: writes_nothing, ..WRITERS },
@@ -189,11 +224,15 @@ fn bad_offset_refuses(form: Form, text: &[u8], now: &Now) -> Option<Answer> {
 
 fn no_signs_in_fields(form: Form, text: &[u8], now: &Now) -> Option<Answer> {
     let second = second_word(text)?;
-    if !matches!(form, Form::Header | Form::Raw) || !second.get(1..)?.contains(['+', '-']) {
+    let answer = right(form, text, now);
+    if answer.number != 0 || !second.get(1..)?.contains(['+', '-']) {
         return None;
     }
-    let answer = right(form, text, now);
-    Some(if form == Form::Raw || answer.number != 0 { refused(2) } else { time(answer.seconds, 0) })
+    match form {
+        Form::Header => Some(time(answer.seconds, 0)),
+        Form::Raw => Some(refused(2)),
+        _ => None,
+    }
 }
 
 fn ago_only_last(form: Form, text: &[u8], now: &Now) -> Option<Answer> {
@@ -284,9 +323,9 @@ fn offset_seconds(form: Form, text: &[u8], now: &Now) -> Option<Answer> {
     wider(right(form, &text, now), sign)
 }
 
-fn no_plus_in_fields(form: Form, text: &[u8], _: &Now) -> Option<Answer> {
+fn no_plus_in_fields(form: Form, text: &[u8], now: &Now) -> Option<Answer> {
     let fields = second_word(text)?.get(1..)?;
-    (form == Form::RawBy(2) && fields.contains('+')).then_some(refused(2))
+    (form == Form::RawBy(2) && fields.contains('+') && right(form, text, now).number == 0).then_some(refused(2))
 }
 
 /// The form by another rule, if it has a rule.
@@ -327,6 +366,112 @@ fn relative_without_rule(form: Form, text: &[u8], now: &Now) -> Option<Answer> {
 
 fn no_rule_before_1(form: Form, _: &[u8], _: &Now) -> Option<Answer> {
     (rule_of(form) == Some(3)).then_some(refused(2))
+}
+
+/// Whether the right number is 11.
+fn is_11(form: Form, text: &[u8], now: &Now) -> bool {
+    right(form, text, now).number == 11
+}
+
+/// Whether the right number is 2.
+fn is_2(form: Form, text: &[u8], now: &Now) -> bool {
+    right(form, text, now).number == 2
+}
+
+fn is_raw(form: Form) -> bool {
+    matches!(form, Form::Raw | Form::RawBy(_))
+}
+
+/// The raw form with which "any" ends, by the same rule.
+fn last_step(form: Form) -> Option<Form> {
+    match form {
+        Form::Any => Some(Form::Raw),
+        Form::AnyBy(rule) => Some(Form::RawBy(rule)),
+        _ => None,
+    }
+}
+
+fn too_large_is_2(form: Form, text: &[u8], now: &Now) -> Option<Answer> {
+    is_11(form, text, now).then_some(refused(2))
+}
+
+fn too_large_before_colon(form: Form, text: &[u8], now: &Now) -> Option<Answer> {
+    let text: Vec<u8> = text.iter().map(|byte| if *byte == b':' { b'x' } else { *byte }).collect();
+    (form == Form::Header && is_11(form, &text, now)).then_some(refused(11))
+}
+
+fn too_large_before_1(form: Form, text: &[u8], now: &Now) -> Option<Answer> {
+    let text: Vec<u8> = text.iter().map(|byte| if byte.is_ascii() { *byte } else { b'x' }).collect();
+    is_11(form, &text, now).then_some(refused(11))
+}
+
+fn too_large_before_rule(form: Form, text: &[u8], now: &Now) -> Option<Answer> {
+    (rule_of(form) == Some(3) && is_11(with_rule(form, 1), text, now)).then_some(refused(11))
+}
+
+fn too_large_by_rule_1(form: Form, text: &[u8], now: &Now) -> Option<Answer> {
+    (rule_of(form) == Some(2) && is_11(form, text, now)).then_some(refused(2))
+}
+
+/// By raw: 2 for 11 where the count of words is such.
+fn raw_with_words(form: Form, text: &[u8], now: &Now, such: fn(usize) -> bool) -> Option<Answer> {
+    let count = std::str::from_utf8(text).ok()?.split_whitespace().count();
+    (is_raw(form) && such(count) && is_11(form, text, now)).then_some(refused(2))
+}
+
+fn raw_with_colon(form: Form, text: &[u8], now: &Now) -> Option<Answer> {
+    (is_raw(form) && text.contains(&b':') && is_11(form, text, now)).then_some(refused(2))
+}
+
+fn raw_falls_back(form: Form, text: &[u8], now: &Now) -> Option<Answer> {
+    let by_a_rule = matches!(form, Form::Raw | Form::RawBy(1 | 2));
+    (by_a_rule && is_2(form, text, now) && is_11(Form::Header, text, now)).then_some(refused(11))
+}
+
+fn header_without_fallback(form: Form, text: &[u8], now: &Now) -> Option<Answer> {
+    (form == Form::Header && is_11(form, text, now) && is_2(Form::Raw, text, now)).then_some(refused(2))
+}
+
+fn signed_with_bytes_behind(form: Form, text: &[u8], now: &Now) -> Option<Answer> {
+    let unsigned = text.strip_prefix(b"-").or_else(|| text.strip_prefix(b"+"))?;
+    let opens_with_digit = unsigned.first().is_some_and(u8::is_ascii_digit);
+    (form == Form::Header && opens_with_digit && is_2(form, text, now) && is_11(form, unsigned, now))
+        .then_some(refused(11))
+}
+
+fn smallest_is_too_large(form: Form, text: &[u8], now: &Now) -> Option<Answer> {
+    let answer = right(form, text, now);
+    let is_smallest = answer.number == 0 && answer.seconds == i64::MIN;
+    (is_smallest && (form == Form::Header || is_raw(form))).then_some(refused(11))
+}
+
+fn twenty_digits_are_too_large(form: Form, text: &[u8], now: &Now) -> Option<Answer> {
+    let word = std::str::from_utf8(text).ok()?.split_whitespace().next()?;
+    let count = word.trim_start_matches(['+', '-']).bytes().take_while(u8::is_ascii_digit).count();
+    let is_read = (form == Form::Header || is_raw(form)) && right(form, text, now).number == 0;
+    (is_read && count >= 20).then_some(refused(11))
+}
+
+fn too_large_behind_at(form: Form, text: &[u8], now: &Now) -> Option<Answer> {
+    let rest = text.strip_prefix(b"@")?;
+    (is_11(last_step(form)?, rest, now) && is_2(form, text, now)).then_some(refused(11))
+}
+
+fn too_large_before_relative(form: Form, text: &[u8], now: &Now) -> Option<Answer> {
+    is_11(last_step(form)?, text, now).then_some(refused(11))
+}
+
+fn relative_too_large(form: Form, text: &[u8], now: &Now) -> Option<Answer> {
+    (form == Form::Relative && is_2(form, text, now) && is_11(Form::Raw, text, now)).then_some(refused(11))
+}
+
+/// 11 for an ISO text of which only the hour, at place 11, is too large for its 32 bits.
+fn hour_too_large(form: Form, text: &[u8], now: &Now) -> Option<Answer> {
+    let (date, time) = std::str::from_utf8(text).ok().filter(|_| form == Form::Iso)?.split_at_checked(11)?;
+    let (hour, rest) = time.split_once(':')?;
+    let too_large = hour.parse::<u32>().is_err_and(|error| *error.kind() == IntErrorKind::PosOverflow);
+    let at_0 = format!("{date}00:{rest}");
+    (too_large && right(form, at_0.as_bytes(), now).number == 0).then_some(refused(11))
 }
 
 fn miscounts(seconds: i64, offset: i32) -> usize {

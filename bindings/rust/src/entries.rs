@@ -59,21 +59,22 @@ mod c {
     }
 }
 
-/// Reads a header date, `1745582210 +0200`. Returns 0, 1 or 2.
+/// Reads a header date, `1745582210 +0200`. Returns 0, 1, 2 or 11.
 #[inline]
 #[must_use]
 pub fn header(text: &[u8], seconds: &mut i64, offset: &mut i32) -> u8 {
     unsafe { c::chowderbell_header(text.as_ptr(), text.len(), seconds, offset) }
 }
 
-/// Reads a raw date, the header's strict form, by rule 1. Returns 0, 1 or 2.
+/// Reads a raw date, the header's strict form, by rule 1. Returns 0, 1, 2 or 11.
 #[inline]
 #[must_use]
 pub fn raw(text: &[u8], seconds: &mut i64, offset: &mut i32) -> u8 {
     unsafe { c::chowderbell_raw(text.as_ptr(), text.len(), seconds, offset) }
 }
 
-/// Reads a raw date by the rule with this number, [`RULE_1`](crate::RULE_1) or [`RULE_2`](crate::RULE_2). Returns 0, 1 or 2.
+/// Reads a raw date by the rule with this number, [`RULE_1`](crate::RULE_1) or [`RULE_2`](crate::RULE_2). Returns 0, 1, 2
+/// or 11.
 ///
 /// By any other number every text is refused: by 1 if it holds a byte of 128 or more, otherwise by 2.
 #[inline]
@@ -105,7 +106,7 @@ pub fn relative(
     unsafe { c::chowderbell_relative(text.as_ptr(), text.len(), has_now, now_seconds, now_offset, seconds, offset) }
 }
 
-/// Reads a date of any form, with raw dates read by rule 1. Returns 0 to 6.
+/// Reads a date of any form, with raw dates read by rule 1. Returns 0 to 6, or 11.
 ///
 /// The current time is missing if `has_now` is 0. Its two numbers are not used then.
 #[inline]
@@ -114,7 +115,7 @@ pub fn any(text: &[u8], has_now: u8, now_seconds: i64, now_offset: i32, seconds:
     unsafe { c::chowderbell_any(text.as_ptr(), text.len(), has_now, now_seconds, now_offset, seconds, offset) }
 }
 
-/// Reads a date of any form, with raw dates read by the rule with this number. Returns 0 to 6.
+/// Reads a date of any form, with raw dates read by the rule with this number. Returns 0 to 6, or 11.
 ///
 /// By a number that names no rule every text is refused, as by [`raw_by`]. The current time is passed as to [`any`].
 #[inline]

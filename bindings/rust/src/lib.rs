@@ -26,7 +26,8 @@ pub const RULE_2: u32 = 2;
 /// cannot be read is 0. [`parse_raw`] refuses both.
 ///
 /// # Errors
-/// [`Refusal::NotAscii`]; [`Refusal::Form`] if the text has a `:` anywhere or does not begin with a number.
+/// [`Refusal::NotAscii`]; [`Refusal::Form`] if the text has a `:` anywhere or does not begin with a number. Without a `:`,
+/// if the first word or else its leading digits are too large for 64 bits, [`Refusal::TooLarge`].
 ///
 /// ```
 /// use chowderbell::{parse_header, Refusal, Time};
@@ -34,6 +35,7 @@ pub const RULE_2: u32 = 2;
 /// assert_eq!(parse_header("1745582210 +0200"), Ok(Time::new(1745582210, 7200)));
 /// assert_eq!(parse_header("12abc"), Ok(Time::new(12, 0)));
 /// assert_eq!(parse_header("5 +01:00"), Err(Refusal::Form));
+/// assert_eq!(parse_header("99999999999999999999"), Err(Refusal::TooLarge));
 /// ```
 pub fn parse_header(text: impl AsRef<[u8]>) -> Result<Time, Refusal> {
     read(|seconds, offset| entries::header(text.as_ref(), seconds, offset))
@@ -45,13 +47,15 @@ pub fn parse_header(text: impl AsRef<[u8]>) -> Result<Time, Refusal> {
 /// either rule.
 ///
 /// # Errors
-/// [`Refusal::NotAscii`], [`Refusal::Form`].
+/// [`Refusal::NotAscii`]; [`Refusal::TooLarge`] if the first word is a number that is too large for 64 bits, whatever words
+/// follow; [`Refusal::Form`].
 ///
 /// ```
 /// use chowderbell::{parse_raw, Refusal, Time};
 ///
 /// assert_eq!(parse_raw("5 +1445"), Ok(Time::new(5, 53100)));
 /// assert_eq!(parse_raw("5 +1500"), Err(Refusal::Form));
+/// assert_eq!(parse_raw("99999999999999999999 +1500"), Err(Refusal::TooLarge));
 /// ```
 pub fn parse_raw(text: impl AsRef<[u8]>) -> Result<Time, Refusal> {
     read(|seconds, offset| entries::raw(text.as_ref(), seconds, offset))
@@ -63,7 +67,7 @@ pub fn parse_raw(text: impl AsRef<[u8]>) -> Result<Time, Refusal> {
 /// reads as the same time.
 ///
 /// # Errors
-/// [`Refusal::NotAscii`], [`Refusal::Form`]. A number that names no rule gives [`Refusal::Form`] for every ASCII text.
+/// Those of [`parse_raw`]. A number that names no rule gives [`Refusal::Form`] for every ASCII text.
 ///
 /// ```
 /// use chowderbell::{parse_raw_by, Refusal, Time, RULE_1, RULE_2};
@@ -121,7 +125,8 @@ pub fn parse_relative(text: impl AsRef<[u8]>, now: Option<Time>) -> Result<Time,
 /// Raw dates are read by rule 1; [`parse_by`] takes either rule.
 ///
 /// # Errors
-/// Those of [`parse_relative`] if the text is relative, else [`Refusal::NotAscii`] or [`Refusal::Form`].
+/// Those of [`parse_relative`] if the text is relative, else those of [`parse_raw`]. A number that is too large behind `@`
+/// gives [`Refusal::Form`], since the whole text is no raw date.
 ///
 /// ```
 /// use chowderbell::{parse, Refusal, Time};
@@ -130,6 +135,8 @@ pub fn parse_relative(text: impl AsRef<[u8]>, now: Option<Time>) -> Result<Time,
 /// assert_eq!(parse("100000000", None), Ok(Time::new(100000000, 0)));
 /// assert_eq!(parse("99999999", None), Err(Refusal::Form));
 /// assert_eq!(parse("yesterday", Some(Time::new(86400, 3600))), Ok(Time::new(0, 3600)));
+/// assert_eq!(parse("99999999999999999999 days ago", None), Err(Refusal::TooLarge));
+/// assert_eq!(parse("@99999999999999999999", None), Err(Refusal::Form));
 /// ```
 pub fn parse(text: impl AsRef<[u8]>, now: Option<Time>) -> Result<Time, Refusal> {
     let (has_now, at) = current(now);

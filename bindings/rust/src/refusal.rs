@@ -26,6 +26,9 @@ pub enum Refusal {
     Room = 8,
     /// 10: the book has more than 65536 bytes or a bad line.
     Book = 10,
+    /// 11: the number that opens a header or a raw date is too large for 64 bits: below [`i64::MIN`] or above
+    /// [`i64::MAX`].
+    TooLarge = 11,
 }
 
 impl Refusal {
@@ -58,6 +61,7 @@ impl TryFrom<u8> for Refusal {
             7 => Refusal::Offset,
             8 => Refusal::Room,
             10 => Refusal::Book,
+            11 => Refusal::TooLarge,
             _ => return Err(UnknownNumber(number)),
         })
     }
@@ -75,6 +79,7 @@ impl fmt::Display for Refusal {
             Refusal::Offset => "the offset is too wide to be written",
             Refusal::Room => "the room is shorter than the bytes to be written",
             Refusal::Book => "the book is too long or has a bad line",
+            Refusal::TooLarge => "the number is too large for 64 bits",
         })
     }
 }

@@ -41,7 +41,7 @@ fn header() {
         ("5\x1f+0100", Ok((5, 0))),
         ("0 -0000", Ok((0, 0))),
         ("-9223372036854775808 -0001", Ok((i64::MIN, -60))),
-        ("9223372036854775808", Err(Form)),
+        ("9223372036854775808", Err(TooLarge)),
         ("", Err(Form)),
         ("5 \u{e9}", Err(NotAscii)),
     ];
@@ -92,14 +92,19 @@ fn raw_by_rule_2() {
         ("5 +05:20", Err(Form)),
         ("5 +0520 x", Err(Form)),
         ("5", Err(Form)),
-        ("9223372036854775808 +0520", Err(Form)),
+        ("9223372036854775808 +0520", Err(TooLarge)),
         ("12abc +0520", Err(Form)),
         ("", Err(Form)),
         ("\u{80}", Err(NotAscii)),
     ];
     hold("raw by rule 2", &rows, |text| parse_raw_by(RULE_2, text));
-    // behind `@` "any" reads a raw date first; only a number that stands alone is read there too
-    let rows = rows.map(|(text, answer)| (text, if text == "5" { Ok((5, 0)) } else { answer }));
+    // behind `@` "any" reads a raw date first; only a number that stands alone is read there too. A number that is too
+    // large gives 2 there, since the whole text is no raw date
+    let rows = rows.map(|(text, answer)| match answer {
+        Err(TooLarge) => (text, Err(Form)),
+        _ if text == "5" => (text, Ok((5, 0))),
+        _ => (text, answer),
+    });
     hold("any by rule 2, behind @", &rows, |text| parse_by(RULE_2, format!("@{text}"), None));
 }
 
@@ -121,8 +126,14 @@ fn every_hour_and_minute() {
 
 #[test]
 fn no_such_rule() {
-    let rows =
-        [("now", Err(Form)), ("5 +0100", Err(Form)), ("@5", Err(Form)), ("", Err(Form)), ("\u{80}", Err(NotAscii))];
+    let rows = [
+        ("now", Err(Form)),
+        ("5 +0100", Err(Form)),
+        ("@5", Err(Form)),
+        ("", Err(Form)),
+        ("99999999999999999999 +0100", Err(Form)),
+        ("\u{80}", Err(NotAscii)),
+    ];
     // a number of which only the low bytes are 1 or 2 names no rule either
     for rule in [0, 3, 4, 255, 256, 257, 258, 65537, 65538, 1 << 31, (1 << 31) + 1, u32::MAX - 1, u32::MAX] {
         hold(&format!("raw by rule {rule}"), &rows, |text| parse_raw_by(rule, text));
@@ -130,6 +141,112 @@ fn no_such_rule() {
             hold(&format!("any by rule {rule}"), &rows, |text| parse_by(rule, text, now));
         }
     }
+}
+
+/// RULES 5.9, 11.15 and 11.16: the first word or else, in a header, its leading digits are beyond 64 bits.
+#[test]
+fn too_large() {
+    let header = [
+        ("9223372036854775807", Ok((i64::MAX, 0))),
+        ("9223372036854775807x", Ok((i64::MAX, 0))),
+        ("-9223372036854775808", Ok((i64::MIN, 0))),
+        ("9223372036854775808", Err(TooLarge)),
+        ("9223372036854775808x", Err(TooLarge)),
+        ("-9223372036854775809", Err(TooLarge)),
+        ("99999999999999999999", Err(TooLarge)),
+        ("+99999999999999999999", Err(TooLarge)),
+        ("-99999999999999999999", Err(TooLarge)),
+        // digits lead this word, and none the next two
+        ("99999999999999999999x", Err(TooLarge)),
+        ("-99999999999999999999x", Err(Form)),
+        ("x99999999999999999999", Err(Form)),
+        (" 99999999999999999999 +0100\n", Err(TooLarge)),
+        ("99999999999999999999 +0100 x", Err(TooLarge)),
+        ("99999999999999999999 +01x0", Err(TooLarge)),
+        // a `:` and a byte of 128 or more are tested first
+        ("99999999999999999999 +01:00", Err(Form)),
+        ("99999999999999999999 x:", Err(Form)),
+        ("99999999999999999999 \u{e9}", Err(NotAscii)),
+        // the value decides, not the count of digits
+        ("000000000000000000000000000005", Ok((5, 0))),
+        ("000000000099999999999999999999", Err(TooLarge)),
+        // a later word may be of any size
+        ("5 99999999999999999999", Ok((5, 0))),
+    ];
+    hold("header", &header, |text| parse_header(text));
+    hold("Time", &header, |text| text.parse());
+
+    let raw = [
+        ("9223372036854775807 +0100", Ok((i64::MAX, 3600))),
+        ("-9223372036854775808 +0100", Ok((i64::MIN, 3600))),
+        ("9223372036854775808 +0100", Err(TooLarge)),
+        ("-9223372036854775809 +0100", Err(TooLarge)),
+        ("99999999999999999999 +0100", Err(TooLarge)),
+        ("+99999999999999999999 +0100", Err(TooLarge)),
+        ("-99999999999999999999 +0100", Err(TooLarge)),
+        // whatever words follow
+        ("99999999999999999999", Err(TooLarge)),
+        (" 99999999999999999999\n", Err(TooLarge)),
+        ("99999999999999999999 x", Err(TooLarge)),
+        ("99999999999999999999 +2400", Err(TooLarge)),
+        ("99999999999999999999 +01:00", Err(TooLarge)),
+        ("99999999999999999999 +0100 x", Err(TooLarge)),
+        ("99999999999999999999 \u{e9}", Err(NotAscii)),
+        // no sign and digits alone
+        ("99999999999999999999x", Err(Form)),
+        ("99999999999999999999x +0100", Err(Form)),
+        ("99999999999999999999:5", Err(Form)),
+        ("@99999999999999999999 +0100", Err(Form)),
+        ("5 99999999999999999999", Err(Form)),
+        ("000000000099999999999999999999 +0100", Err(TooLarge)),
+    ];
+    hold("raw", &raw, |text| parse_raw(text));
+    hold("raw by rule 1", &raw, |text| parse_raw_by(RULE_1, text));
+    hold("raw by rule 2", &raw, |text| parse_raw_by(RULE_2, text));
+    // "any" ends in a raw date, and none of these is of another form
+    for now in [None, Some(NOW), Some(Time::new(i64::MIN, 0))] {
+        hold("any", &raw, |text| parse(text, now));
+        hold("any by rule 1", &raw, |text| parse_by(RULE_1, text, now));
+        hold("any by rule 2", &raw, |text| parse_by(RULE_2, text, now));
+    }
+}
+
+/// "Any" tries the raw date last, so other forms answer first. ISO and relative dates never give 11.
+#[test]
+fn too_large_beside_other_forms() {
+    let pairs = "99999999999999999999 ".to_owned() + &"1 day ".repeat(33);
+    let now = Some(Time::new(NOW.seconds, 3600));
+    let rows: [(&str, Answer, Answer); 11] = [
+        // text, relative, any
+        ("99999999999999999999", Err(Form), Err(TooLarge)),
+        ("99999999999999999999 days ago", Err(Form), Err(TooLarge)),
+        ("99999999999999999999 now", Err(Form), Err(TooLarge)),
+        ("99999999999999999999 5", Err(Form), Err(TooLarge)),
+        ("99999999999999999999x 5", Err(Form), Err(Form)),
+        ("@99999999999999999999", Err(Form), Err(Form)),
+        ("@-99999999999999999999", Err(Form), Err(Form)),
+        ("@99999999999999999999 days ago", Err(Form), Err(Form)),
+        // the number is passed over, and a count with its unit follows
+        ("99999999999999999999 1 day ago", Ok((NOW.seconds - 86400, 3600)), Ok((NOW.seconds - 86400, 3600))),
+        ("99999999999999999999 5 x ago", Ok((NOW.seconds - 5, 3600)), Ok((NOW.seconds - 5, 3600))),
+        (&pairs, Err(Pairs), Err(Pairs)),
+    ];
+    let relative = rows.map(|(text, relative, _)| (text, relative));
+    let any = rows.map(|(text, _, any)| (text, any));
+    hold("relative", &relative, |text| parse_relative(text, now));
+    hold("any", &any, |text| parse(text, now));
+    hold("any by rule 1", &any, |text| parse_by(RULE_1, text, now));
+    hold("any by rule 2", &any, |text| parse_by(RULE_2, text, now));
+    let missing = [("99999999999999999999 1 day ago", Err(Missing)), ("99999999999999999999 days ago", Err(TooLarge))];
+    hold("any", &missing, |text| parse(text, None));
+
+    let iso = [
+        ("99999999999999999999", Err(Form)),
+        ("2008-02-14 99999999999:30", Err(Form)),
+        ("2008-02-14 20:30:45:99999999999999999999", Ok((S, 0))),
+    ];
+    hold("iso", &iso, |text| parse_iso(text));
+    hold("any", &iso[1..], |text| parse(text, None));
 }
 
 #[test]

@@ -81,7 +81,12 @@ fn a_refusal_leaves_zeros() {
     (seconds, offset) = (77, 77);
     assert_eq!(entries::relative(b"now", 0, 1, 1, &mut seconds, &mut offset), 3);
     assert_eq!((seconds, offset), (0, 0));
-    for (rule, text, number) in [(2, "5 +2400", 2), (3, "5 +0100", 2), (3, "\u{80}", 1)] {
+    (seconds, offset) = (77, 77);
+    assert_eq!(entries::header(b"99999999999999999999 +0100", &mut seconds, &mut offset), 11);
+    assert_eq!((seconds, offset), (0, 0));
+    for (rule, text, number) in
+        [(2, "5 +2400", 2), (2, "99999999999999999999 +0100", 11), (3, "5 +0100", 2), (3, "\u{80}", 1)]
+    {
         (seconds, offset) = (77, 77);
         assert_eq!(entries::raw_by(rule, text.as_bytes(), &mut seconds, &mut offset), number, "raw by {rule} {text:?}");
         assert_eq!((seconds, offset), (0, 0), "raw by {rule} {text:?}");
@@ -110,12 +115,13 @@ fn refusals_have_numbers_and_words() {
         (7, Offset),
         (8, Room),
         (10, Book),
+        (11, TooLarge),
     ] {
         assert_eq!(refusal.number(), number);
         assert_eq!(Refusal::try_from(refusal.number()), Ok(refusal));
         assert!(!refusal.to_string().is_empty());
     }
-    for number in [0, 9, 11, 255] {
+    for number in [0, 9, 12, 255] {
         assert_eq!(Refusal::try_from(number), Err(UnknownNumber(number)));
         assert_eq!(UnknownNumber(number).to_string(), format!("{number} is not the number of a refusal"));
     }

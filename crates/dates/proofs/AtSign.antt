@@ -37,7 +37,7 @@ use Rattle.dates.proofs.LowBytes.{Low, AllLow, low-words, low-take}
 
 -- ---- the raw reader: the first word begins with `@`, so it is no number
 pub rawOf-of-at : (l : Limits) (s : List ℕ) → ascii s ≡ true → rawOf l (code "@" ∷ s) ≡ Refused Form
-unfolding rawOf ascii words pieces full isSpace rawOfWords signedOf unsignedOf digitsOf readFrom isDigit fitSigned
+unfolding rawOf ascii words pieces full isSpace rawOfWords signedOf unsignedOf digitsOf readFrom isDigit
 rawOf-of-at l s a = rw a (go (pieces isSpace s))
   where
     go : (ws : List (List ℕ)) → rawOfWords l (full (onto (code "@") ws)) ≡ Refused Form

@@ -2,8 +2,9 @@
 -- within m (`any-within`). Rule 1 and rule 2 are such limits (`any-by-rule-2-answers-alike`).
 --
 -- The limits matter in two places: "any" reads a raw date after `@`, and as its last step. At the last step, all steps before it
--- have answered the same, and a raw date by l is the same raw date by m. After `@` there may be a raw date by m that is none by
--- l. Then every further step refuses the text by 2, so the answer by l is 2, and the theorem says nothing of it.
+-- have answered the same; a raw date by l is the same raw date by m, and a number that is too large is so by both. After `@` there
+-- may be a raw date by m that is none by l. Then every further step refuses the text by 2, so the answer by l is 2, and the theorem
+-- says nothing of it.
 -- Assumes nothing.
 use mathlib.Core.Path.{_≡_, refl, sym, ap, _∙_}
 use mathlib.Core.Bool.{true, false≢true}
@@ -17,7 +18,7 @@ use lib.IntN.{ℤ}
 use lib.ListN.{length}
 use Rattle.text.specs.Bytes.{isSpace, ascii}
 use Rattle.text.specs.Words.{pieces, full, words}
-use Rattle.text.specs.Number.{signedOf}
+use Rattle.text.specs.Number.{signedOf, fitSigned}
 use Rattle.text.specs.declared.number.Integer.{Integer}
 use Rattle.text.specs.declared.number.Integer.the-variants.{Is, Nothing as NoInteger}
 use Rattle.text.proofs.Lists.{by-test}
@@ -29,10 +30,9 @@ use Rattle.time.specs.declared.Now.{Now}
 use Rattle.time.specs.declared.Refusal.the-variants.{Form}
 use Rattle.time.specs.declared.Answer.{Answer}
 use Rattle.time.specs.declared.Answer.the-variants.{Time as At, Refused}
-use Rattle.header.specs.Header.{number64}
 use Rattle.header.specs.Raw.{Limits, rule1, rule2, rawOf}
 use Rattle.header.specs.Theorems.{RawDate, Within}
-use Rattle.header.proofs.RawDates.{raw-accepts, raw-accepts-only, raw-refuses, raw-within}
+use Rattle.header.proofs.RawDates.{raw-accepts-only, raw-cases, raw-not-ascii, raw-too-large, raw-within}
 use Rattle.header.proofs.Rules.{rule-1-within-rule-2}
 use Rattle.iso.specs.Iso.{isoOf}
 use Rattle.relative.specs.Relative.{maxPairs, relativeOf}
@@ -53,41 +53,41 @@ module _ {l : Limits} {s : List ℕ} {t : Time} (d : RawDate l s t) where
 
   numberFrom-of-raw : (least : ℤ) → numberFrom least s ≡ Refused Form
   unfolding numberFrom
-  numberFrom-of-raw least = go (number64 s) refl
+  numberFrom-of-raw least = go (fitSigned (2 ^ 63) (signedOf s)) refl
     where
-      go : (x : Integer) → number64 s ≡ x → numbered least x ≡ Refused Form
+      go : (x : Integer) → fitSigned (2 ^ 63) (signedOf s) ≡ x → numbered least x ≡ Refused Form
       go (Is z) e = absurd (not-number z (fitSigned-value (2 ^ 63) (signedOf s) z e))
       go NoInteger e = refl
 
--- ---- the raw reader's answer to an ASCII text is a time, if it is not 2
+-- ---- the raw reader's answer to an ASCII text is a time, if it is neither 2 nor 11
 raw-time : (l : Limits) (s : List ℕ) → ascii s ≡ true → isSettled (rawOf l s) ≡ true → (t : Time) × (rawOf l s ≡ At t)
-raw-time l s a h = go (rawOf l s) refl
-  where
-    go : (x : Answer) → rawOf l s ≡ x → (t : Time) × (rawOf l s ≡ At t)
-    go (At t) e = (t, e)
-    go (Refused r) e =
-        let never : (t : Time) → RawDate l s t → ⊥ = λ t d. let k = raw-accepts l s t d in let z : _≡_ {A = ℕ} 0 1 = cc in omega arith in
-        absurd (false≢true (rw (raw-refuses l s a never) at h))
+raw-time l s a h = raw-cases l s a (λ t e. (t, e)) (λ e. absurd (false≢true (rw e at h))) (λ e. absurd (false≢true (rw e at h)))
 
 -- ---- two answers: the second keeps the first, unless that is 2
 abbrev Keeps : Answer → Answer → Type 0
-Keeps a b = isSettled a ≡ true → b ≡ a
+Keeps a b = (a ≡ Refused Form → ⊥) → b ≡ a
 
 orElse-keeps : (x a b : Answer) → Keeps a b → Keeps (orElse x a) (orElse x b)
 orElse-keeps x a b k h = by-test (isSettled x) (λ e. rw e) (λ e. rw e (k (rw e at h)))
 
+settled-not-form : (a : Answer) → isSettled a ≡ true → a ≡ Refused Form → ⊥
+settled-not-form a h e = false≢true (rw e at h)
+
 -- ---- two limits
 module _ (l m : Limits) (within : Within l m) where
+  -- 1 and 11 are given within any limits
   raw-keeps : (s : List ℕ) → Keeps (rawOf l s) (rawOf m s)
-  unfolding rawOf
-  raw-keeps s h = by-test (ascii s) (λ a. let (t, e) = raw-time l s a h in raw-within l m within s t e ∙ sym e) (λ a. rw a)
+  raw-keeps s h =
+      by-test (ascii s)
+      (λ a. raw-cases l s a (λ t e. raw-within l m within s t e ∙ sym e) (λ e. absurd (h e)) (λ e. raw-too-large m s .1 (raw-too-large l s .0 e) ∙ sym e))
+      (λ a. raw-not-ascii m s a ∙ sym (raw-not-ascii l s a))
 
   -- after `@` the answers are the same; or there is a raw date by m, and the answer by l is 2
   marked-same-or : {A : Type 0} (s : List ℕ) → ascii s ≡ true
       → (markedOf m s ≡ markedOf l s → A) → ((t : Time) → RawDate m s t → markedOf l s ≡ Refused Form → A) → A
   unfolding markedOf
   marked-same-or s a same other =
-      by-test (isSettled (rawOf l s)) (λ e. same (rw (raw-keeps s e)))
+      by-test (isSettled (rawOf l s)) (λ e. same (rw (raw-keeps s (settled-not-form (rawOf l s) e))))
       (λ e.
       by-test (isSettled (rawOf m s))
       (λ f.
@@ -116,7 +116,7 @@ module _ (l m : Limits) (within : Within l m) where
   any-of-at s now a h =
       marked-same-or s a
       (λ same. any-of-plain (code "@" ∷ s) now a (plainOf-of-at m (code "@") s refl ∙ same ∙ sym (plainOf-of-at l (code "@") s refl)) h)
-      (λ t d e. absurd (false≢true (rw (any-refused s now t d e) at h)))
+      (λ t d e. absurd (h (any-refused s now t d e)))
 
   any-of-ascii : (s : List ℕ) (now : Now) → ascii s ≡ true → Keeps (anyOf l s now) (anyOf m s now)
   unfolding ascii
@@ -127,10 +127,10 @@ module _ (l m : Limits) (within : Within l m) where
       (λ e. let n = eqb-false b (code "@") e in any-of-plain (b ∷ s) now a (plainOf-of-other m b s n ∙ sym (plainOf-of-other l b s n)))
 
 -- ---- the theorem
-pub any-within : (l m : Limits) → Within l m → (s : List ℕ) (now : Now) → isSettled (anyOf l s now) ≡ true → anyOf m s now ≡ anyOf l s now
+pub any-within : (l m : Limits) → Within l m → (s : List ℕ) (now : Now) → (anyOf l s now ≡ Refused Form → ⊥) → anyOf m s now ≡ anyOf l s now
 unfolding anyOf
 any-within l m within s now h = by-test (ascii s) (λ a. any-of-ascii l m within s now a h) (λ a. rw a)
 
 -- whatever "any" answers by rule 1, other than 2, it answers alike by rule 2
-pub any-by-rule-2-answers-alike : (s : List ℕ) (now : Now) → isSettled (anyOf rule1 s now) ≡ true → anyOf rule2 s now ≡ anyOf rule1 s now
+pub any-by-rule-2-answers-alike : (s : List ℕ) (now : Now) → (anyOf rule1 s now ≡ Refused Form → ⊥) → anyOf rule2 s now ≡ anyOf rule1 s now
 any-by-rule-2-answers-alike = any-within rule1 rule2 rule-1-within-rule-2

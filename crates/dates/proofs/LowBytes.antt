@@ -15,7 +15,7 @@ use Rattle.text.specs.Words.{onto, pieces, full, words}
 use Rattle.text.specs.Number.{signedOf}
 use Rattle.text.proofs.Lists.{by-test}
 use Rattle.text.proofs.Runs.{has-nil}
-use Rattle.text.proofs.Numbers.{fitSigned-value}
+use Rattle.text.proofs.Numbers.{fittedSigned-value}
 use Rattle.text.proofs.Decimals.{Between}
 use Rattle.text.proofs.Texts.{not-has-cons, not-has-of-cons, not-has-of-words, between-of-signedOf}
 use Rattle.time.specs.declared.Time.{Time}
@@ -35,7 +35,7 @@ module _ (c : ℕ) (above : 57 < c) where
 
   not-has-of-raw : {l : Limits} {s : List ℕ} {t : Time} → RawDate l s t → has c s ≡ false
   not-has-of-raw {l} {s} {t} d =
-      let number = between-of-signedOf (d .first) (t .seconds) (fitSigned-value (2 ^ 63) (signedOf (d .first)) (t .seconds) (d .number-is)) in
+      let number = between-of-signedOf (d .first) (t .seconds) (fittedSigned-value (2 ^ 63) (signedOf (d .first)) (t .seconds) (d .number-is)) in
       let offset = between-of-fieldsOf (d .second) (d .fields) (d .fields-are) in
       not-has-of-words c isSpace not-space s (rw (d .words-are) (not-has-of-between (d .first) number, (not-has-of-between (d .second) offset, tt)))
 

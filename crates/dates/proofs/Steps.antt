@@ -5,23 +5,26 @@
 use mathlib.Core.Path.{_≡_, refl, sym, _∙_}
 use mathlib.Core.Bool.{false, false≢true}
 use mathlib.Core.List.{List, [], _∷_}
-use Prim.Native.Nat.{ℕ}
+use Prim.Native.Nat.{ℕ, _^_}
 use Prim.Native.Char.{code}
 use borrow.Author.Tests.{eqb-true, ne-eqb}
 use lib.Dec.{eqb}
 use lib.IntN.{ℤ}
+use lib.Signed.{leZ}
 use Rattle.text.specs.Bytes.{isDigit, ascii}
 use Rattle.text.specs.Number.{readFrom, digitsOf, unsignedOf, signedOf, fitSigned}
+use Rattle.text.specs.declared.number.Integer.{Integer}
+use Rattle.text.specs.declared.number.Integer.the-variants.{Is, Nothing}
 use Rattle.text.proofs.Lists.{by-test}
 use Rattle.text.proofs.Texts.{signedOf-not-ascii}
 use Rattle.time.specs.declared.Now.{Now}
-use Rattle.time.specs.declared.Refusal.the-variants.{NotAscii, Form, Missing, Current, Pairs, Range, Offset, Room, Book}
+use Rattle.time.specs.declared.Refusal.the-variants.{NotAscii, Form}
 use Rattle.time.specs.declared.Answer.{Answer}
 use Rattle.time.specs.declared.Answer.the-variants.{Time, Refused}
 use Rattle.header.specs.Raw.{Limits, rawOf}
 use Rattle.iso.specs.Iso.{isoOf}
 use Rattle.relative.specs.Relative.{maxPairs, relativeOf}
-use Rattle.dates.specs.Any.{isSettled, orElse, leastPlain, numberFrom, markedOf, atOf, plainOf, anyOf}
+use Rattle.dates.specs.Any.{isSettled, orElse, numbered, least64, leastPlain, numberFrom, markedOf, atOf, plainOf, anyOf}
 
 -- ---- a byte of 128 or more
 numberFrom-not-ascii : (least : ℤ) (s : List ℕ) → ascii s ≡ false → numberFrom least s ≡ Refused Form
@@ -33,17 +36,18 @@ unfolding ascii
 ascii-of-cons b s e h = rw e at h
 
 -- ---- the forms that need no calendar
-orElse-Form : (a : Answer) → orElse a (Refused Form) ≡ a
-orElse-Form (Time t) = refl
-orElse-Form (Refused NotAscii) = refl
-orElse-Form (Refused Form) = refl
-orElse-Form (Refused Missing) = refl
-orElse-Form (Refused Current) = refl
-orElse-Form (Refused Pairs) = refl
-orElse-Form (Refused Range) = refl
-orElse-Form (Refused Offset) = refl
-orElse-Form (Refused Room) = refl
-orElse-Form (Refused Book) = refl
+-- what the number step answers is a time or 2, and then so is what it answers for a raw date that was refused by 2 or 11
+numberFrom-or-Form : (least : ℤ) (s : List ℕ) → orElse (numberFrom least s) (Refused Form) ≡ numberFrom least s
+unfolding numberFrom
+numberFrom-or-Form least s = go (fitSigned (2 ^ 63) (signedOf s))
+  where
+    go : (x : Integer) → orElse (numbered least x) (Refused Form) ≡ numbered least x
+    go (Is z) = by-test (leZ least z) (λ e. rw e) (λ e. rw e)
+    go Nothing = refl
+
+markedOf-or-Form : (l : Limits) (s : List ℕ) → orElse (markedOf l s) (Refused Form) ≡ markedOf l s
+unfolding markedOf
+markedOf-or-Form l s = by-test (isSettled (rawOf l s)) (λ e. rw (e, e)) (λ e. rw e (numberFrom-or-Form least64 s))
 
 pub plainOf-nil : (l : Limits) → plainOf l [] ≡ Refused Form
 unfolding plainOf atOf numberFrom signedOf fitSigned
@@ -52,7 +56,7 @@ plainOf-nil l = refl
 -- a text that starts with `@` is not a number
 pub plainOf-of-at : (l : Limits) (b : ℕ) (s : List ℕ) → b ≡ code "@" → plainOf l (b ∷ s) ≡ markedOf l s
 unfolding plainOf atOf numberFrom signedOf unsignedOf digitsOf readFrom isDigit fitSigned
-plainOf-of-at l b s e = rw e (orElse-Form (markedOf l s))
+plainOf-of-at l b s e = rw e (markedOf-or-Form l s)
 
 pub plainOf-of-other : (l : Limits) (b : ℕ) (s : List ℕ) → (b ≡ code "@" → ⊥) → plainOf l (b ∷ s) ≡ numberFrom leastPlain (b ∷ s)
 unfolding plainOf atOf

@@ -15,16 +15,17 @@ use Rattle.text.specs.declared.number.Integer.the-variants.{Is, Nothing}
 use Rattle.time.specs.Answers.{timeAt}
 use Rattle.time.specs.declared.Now.{Now}
 use Rattle.time.specs.declared.Refusal.{Refusal}
-use Rattle.time.specs.declared.Refusal.the-variants.{NotAscii, Form, Missing, Current, Pairs, Range, Offset, Room, Book}
+use Rattle.time.specs.declared.Refusal.the-variants.{NotAscii, Form, Missing, Current, Pairs, Range, Offset, Room, Book, TooLarge}
 use Rattle.time.specs.declared.Answer.{Answer}
 use Rattle.time.specs.declared.Answer.the-variants.{Time, Refused}
 use Rattle.header.specs.Raw.{Limits, rawOf}
 use Rattle.iso.specs.Iso.{isoOf}
 use Rattle.relative.specs.Relative.{maxPairs, relativeOf}
 
--- whether a refusal ends the search: every one but 2, after which the next form is tried. No reader answers 7, 8 or 10
+-- whether a refusal ends the search: every one but 2 and 11, after which the next form is tried. No reader answers 7, 8 or 10
 abbrev pub settles : Refusal → Bool
 settles Form = false
+settles TooLarge = false
 settles NotAscii = true
 settles Missing = true
 settles Current = true
@@ -73,8 +74,8 @@ leastPlain = pos 100000000
 unfoldable pub plainOf : Limits → List ℕ → Answer
 plainOf l s = orElse (atOf l s) (numberFrom leastPlain s)
 
--- RULES 8.2: then by the ISO forms; as a relative date, whose refusal other than 2 is the answer; as a raw date; otherwise 2. By
--- RULES 2.2 the test for 1, a byte of 128 or more, comes first
+-- RULES 8.2: then by the ISO forms; as a relative date, whose refusal other than 2 is the answer; as a raw date, whose refusal, 2 or
+-- 11, is the answer then. By RULES 2.2 the test for 1, a byte of 128 or more, comes first
 unfoldable pub anyOf : Limits → List ℕ → Now → Answer
 anyOf l s now =
     cond (ascii s)

@@ -121,12 +121,13 @@ fn is_settled(a: Answer) -> bool
     }
 }
 
-// Whether a refusal ends the search: every one but 2, after which the next form is tried. No reader answers 7, 8 or 10.
+// Whether a refusal ends the search: every one but 2 and 11, after which the next form is tried. No reader answers 7, 8 or 10.
 fn settles(r: Refusal) -> bool
     ensures { λ b. ⌜ b ≡ settlesOf r ⌝ }
 {
     match r {
         Refusal::Form => false,
+        Refusal::TooLarge => false,
         Refusal::NotAscii => true,
         Refusal::Missing => true,
         Refusal::Current => true,

@@ -11,7 +11,7 @@ use lib.IntN.{ℤ, pos}
 use lib.ListN.{getD}
 use Rattle.text.specs.Bytes.{isSpace, isDigit}
 use Rattle.text.specs.Words.{words}
-use Rattle.text.specs.declared.number.Integer.the-variants.{Is}
+use Rattle.text.specs.declared.number.FittedInteger.the-variants.{Is}
 use Rattle.text.proofs.Lists.{by-test}
 use Rattle.time.specs.Answers.{timeAt}
 use Rattle.time.specs.declared.Time.{Time}

@@ -9,14 +9,14 @@ use lib.IntN.{pos, negsuc}
 use Rattle.text.specs.Bytes.{isSpace, isDigit, isSign, ascii}
 use Rattle.text.specs.Places.{run, firstPlace, has}
 use Rattle.text.specs.Words.{words, pieces, full}
-use Rattle.text.specs.Number.{readFrom, digitsOf, unsignedOf, signedOf, fit, fitSigned}
+use Rattle.text.specs.Number.{readFrom, digitsOf, unsignedOf, signedOf, fit}
 use Rattle.text.specs.Quote.{bytes}
 use Rattle.text.specs.Decimal.{digitsUpTo, decimal, signed, signedBefore}
 use Rattle.time.specs.Answers.{timeAt}
 use Rattle.time.specs.Header.{headerBytes, headerSign, signByte, wholeMinutes}
 use Rattle.time.specs.Rows.{Row, reads, AllRight}
 use Rattle.time.specs.declared.Answer.the-variants.{Time, Refused}
-use Rattle.time.specs.declared.Refusal.the-variants.{NotAscii, Form}
+use Rattle.time.specs.declared.Refusal.the-variants.{NotAscii, Form, TooLarge}
 use Rattle.header.specs.Offset.{fiveOrSeven, fieldOf, lastField, fieldsOf, offsetOf}
 use Rattle.header.specs.Header.{secondsOf, headerOffset, headerOfWords, headerOf}
 use Rattle.header.specs.Raw.{rule1, rule2, allows, rawOfWords, rawOf}
@@ -24,7 +24,7 @@ use Rattle.header.specs.Examples.{five, marked}
 
 -- ---- the examples marked P
 pub marked-examples : AllRight marked
-unfolding isSpace isDigit isSign ascii run firstPlace has words pieces full readFrom digitsOf unsignedOf signedOf fit fitSigned digitsUpTo decimal signed signedBefore headerBytes headerSign signByte wholeMinutes fiveOrSeven fieldOf lastField fieldsOf offsetOf secondsOf headerOffset headerOfWords headerOf allows rawOfWords rawOf
+unfolding isSpace isDigit isSign ascii run firstPlace has words pieces full readFrom digitsOf unsignedOf signedOf fit digitsUpTo decimal signed signedBefore headerBytes headerSign signByte wholeMinutes fiveOrSeven fieldOf lastField fieldsOf offsetOf secondsOf headerOffset headerOfWords headerOf allows rawOfWords rawOf
 marked-examples = (refl, (refl, (refl, (refl, (refl, (refl, (refl, (refl, (refl, tt)))))))))
 
 -- ---- the other examples
@@ -43,7 +43,7 @@ others =
     -- RULES 5.5: "The sign in front belongs to the whole offset"
     ∷ reads (headerOf (bytes "5 -01-5")) (five (negsuc 3299))
     -- RULES 5.2: "its leading digits are one", and not the longest prefix that fits
-    ∷ reads (headerOf (bytes "99999999999999999999")) (Refused Form)
+    ∷ reads (headerOf (bytes "99999999999999999999")) (Refused TooLarge)
     -- RULES 4.1: white space is the bytes 9 to 13 and 32, so byte 31 is not
     ∷ reads (headerOf (code "5" ∷ 31 ∷ bytes "+0100")) (five (pos 0))
     -- RULES 5.4: "hours, minutes, and with 7 bytes seconds"
@@ -78,7 +78,7 @@ others =
     ∷ []
 
 other-examples : AllRight others
-unfolding isSpace isDigit isSign ascii run firstPlace has words pieces full readFrom digitsOf unsignedOf signedOf fit fitSigned fiveOrSeven fieldOf lastField fieldsOf offsetOf secondsOf headerOffset headerOfWords headerOf allows rawOfWords rawOf
+unfolding isSpace isDigit isSign ascii run firstPlace has words pieces full readFrom digitsOf unsignedOf signedOf fit fiveOrSeven fieldOf lastField fieldsOf offsetOf secondsOf headerOffset headerOfWords headerOf allows rawOfWords rawOf
 other-examples =
     (refl, (refl, (refl, (refl, (refl, (refl, (refl, (refl, (refl, (refl, (refl, (refl, (refl, (refl, (refl, (refl, (refl, (refl, (refl, (refl, (refl, (refl, (refl, (refl, (refl, (refl, (refl, tt)))))))))))))))))))))))))))
 
@@ -105,5 +105,34 @@ by-rule-2 =
     ∷ []
 
 rule-2-examples : AllRight by-rule-2
-unfolding isSpace isDigit isSign ascii run words pieces full readFrom digitsOf unsignedOf signedOf fit fitSigned fiveOrSeven fieldOf lastField fieldsOf offsetOf allows rawOfWords rawOf
+unfolding isSpace isDigit isSign ascii run words pieces full readFrom digitsOf unsignedOf signedOf fit fiveOrSeven fieldOf lastField fieldsOf offsetOf allows rawOfWords rawOf
 rule-2-examples = (refl, (refl, (refl, (refl, (refl, (refl, (refl, (refl, (refl, (refl, (refl, (refl, (refl, (refl, (refl, tt)))))))))))))))
+
+-- ---- numbers that are too large (RULES 11.15 and 11.16)
+abbrev too-large : List Row
+too-large =
+    reads (headerOf (bytes "-99999999999999999999")) (Refused TooLarge)
+    ∷ reads (headerOf (bytes "99999999999999999999x")) (Refused TooLarge)
+    ∷ reads (headerOf (bytes "99999999999999999999 +0100 x")) (Refused TooLarge)
+    -- no number, and no leading digits
+    ∷ reads (headerOf (bytes "-99999999999999999999x")) (Refused Form)
+    -- RULES 2.2: a header's `:` is tested before 11
+    ∷ reads (headerOf (bytes "99999999999999999999 +01:00")) (Refused Form)
+    -- RULES 5.9: "Later words are not looked at, nor whether there are any"
+    ∷ reads (rawOf rule1 (bytes "99999999999999999999")) (Refused TooLarge)
+    ∷ reads (rawOf rule1 (bytes "99999999999999999999 +0100")) (Refused TooLarge)
+    ∷ reads (rawOf rule1 (bytes "99999999999999999999 +0100 x")) (Refused TooLarge)
+    ∷ reads (rawOf rule1 (bytes "99999999999999999999 +01:00")) (Refused TooLarge)
+    -- RULES 5.6: raw does not fall back on leading digits
+    ∷ reads (rawOf rule1 (bytes "99999999999999999999x")) (Refused Form)
+    ∷ reads (rawOf rule1 (bytes "99999999999999999999:5")) (Refused Form)
+    -- the ends of 64 bits
+    ∷ reads (headerOf (bytes "9223372036854775807")) (Time (timeAt (pos 9223372036854775807) (pos 0)))
+    ∷ reads (headerOf (bytes "9223372036854775808")) (Refused TooLarge)
+    ∷ reads (headerOf (bytes "-9223372036854775808")) (Time (timeAt (negsuc 9223372036854775807) (pos 0)))
+    ∷ reads (headerOf (bytes "-9223372036854775809")) (Refused TooLarge)
+    ∷ []
+
+too-large-examples : AllRight too-large
+unfolding isSpace isDigit isSign ascii run firstPlace has words pieces full readFrom digitsOf unsignedOf signedOf fit fiveOrSeven fieldOf lastField fieldsOf offsetOf secondsOf headerOffset headerOfWords headerOf allows rawOfWords rawOf
+too-large-examples = (refl, (refl, (refl, (refl, (refl, (refl, (refl, (refl, (refl, (refl, (refl, (refl, (refl, (refl, (refl, tt)))))))))))))))

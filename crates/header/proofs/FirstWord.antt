@@ -7,15 +7,15 @@ use mathlib.Core.List.{List, []}
 use Prim.Native.Nat.{ℕ, suc, _+_, _≤_, _<_}
 use native.Mathlib.Omega.{arith}
 use native.Mathlib.Nat.{add-sub-cancel-left}
-use borrow.Author.Tests.{eqb-true, eqb-false, ne-eqb}
-use lib.Dec.{eqb}
+use borrow.Author.Tests.{eqb-true, eqb-false, ne-eqb, leb-true, leb-false}
+use lib.Dec.{eqb, leb}
 use lib.ListN.{length, take, drop, getD, drop-of-length-le}
 use lib.Seq.{take-all, take-take, length-take-le, drop-drop}
-use Rattle.text.specs.Bytes.{isSpace, isSign}
+use Rattle.text.specs.Bytes.{isSpace, isDigit, isSign}
 use Rattle.text.specs.Places.{run, leading, no, past}
-use Rattle.text.specs.Number.{signedOf, fitSigned, numeral}
-use Rattle.text.specs.declared.number.Integer.{Integer}
-use Rattle.text.specs.declared.number.Integer.the-variants.{Is, Nothing}
+use Rattle.text.specs.Number.{signedOf, numeral}
+use Rattle.text.specs.declared.number.FittedInteger.{FittedInteger}
+use Rattle.text.specs.declared.number.FittedInteger.the-variants.{Is, TooLarge, Nothing}
 use Rattle.text.specs.declared.number.LeadingInteger.{LeadingInteger}
 use Rattle.text.proofs.Lists.{by-test, drop-cons-add-one}
 use Rattle.text.proofs.Runs.{run-le-length, run-drop}
@@ -26,16 +26,18 @@ use Rattle.text.proofs.Plain.{no-space-of-isSign, no-space-of-isDigit}
 use Rattle.header.specs.Header.{number64, numberOr, secondsOf}
 use Rattle.header.specs.Held.{endsAt, firstWord, LeadsWithNumber}
 
-numberOr-Nothing : (i : Integer) → numberOr i Nothing ≡ i
+numberOr-Nothing : (i : FittedInteger) → numberOr i Nothing ≡ i
 numberOr-Nothing (Is z) = refl
+numberOr-Nothing TooLarge = refl
 numberOr-Nothing Nothing = refl
 
-numberOr-self : (i : Integer) → numberOr i i ≡ i
+numberOr-self : (i : FittedInteger) → numberOr i i ≡ i
 numberOr-self (Is z) = refl
+numberOr-self TooLarge = refl
 numberOr-self Nothing = refl
 
 pub number64-nil : number64 [] ≡ Nothing
-unfolding signedOf fitSigned
+unfolding signedOf
 number64-nil = refl
 
 -- ---- where a word ends
@@ -50,7 +52,7 @@ module _ (s : List ℕ) (at : ℕ) where
 
 -- ---- of any word
 module _ (w : List ℕ) where
-  abbrev opening : Integer
+  abbrev opening : FittedInteger
   opening = number64 (take (numeral w) w)
 
   abbrev Wholly : Bool → Type 0
@@ -58,7 +60,6 @@ module _ (w : List ℕ) where
   Wholly false = numeral w < length w
 
   number64-by : (whole : Bool) → Wholly whole → number64 w ≡ cond whole opening Nothing
-  unfolding fitSigned
   number64-by true h = sym (ap number64 (take-all (numeral w) w h))
   number64-by false h = rw (signedOf-of-numeral-lt w h)
 
@@ -76,6 +77,15 @@ module _ (w : List ℕ) where
       unsigned : (whole : Bool) → numberOr (cond whole opening Nothing) opening ≡ cond (whole || true) opening Nothing
       unsigned true = numberOr-self opening
       unsigned false = refl
+
+  -- without a sign the leading digits decide, whatever follows them
+  pub secondsOf-of-digits : isSign (getD w 0 0) ≡ false → secondsOf w ≡ number64 (leading isDigit w)
+  secondsOf-of-digits e =
+      by-test (leb (length w) (numeral w)) (λ k. secondsOf-by true (leb-true _ _ k) ∙ digits)
+      (λ k. secondsOf-by false (leb-false _ _ k) ∙ rw e digits)
+    where
+      digits : opening ≡ number64 (leading isDigit w)
+      digits = rw (numeral-of-digits w e)
 
 -- ---- of the first word
 module _ (s : List ℕ) (r : LeadingInteger) (l : LeadsWithNumber s r) where

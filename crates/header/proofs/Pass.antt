@@ -14,8 +14,8 @@ use Rattle.text.specs.Bytes.{isSpace, isPlain, ascii}
 use Rattle.text.specs.Places.{no, past, has, part}
 use Rattle.text.specs.Words.{words}
 use Rattle.text.specs.Number.{numeral}
-use Rattle.text.specs.declared.number.Integer.{Integer}
-use Rattle.text.specs.declared.number.Integer.the-variants.{Nothing}
+use Rattle.text.specs.declared.number.FittedInteger.{FittedInteger}
+use Rattle.text.specs.declared.number.FittedInteger.the-variants.{Nothing}
 use Rattle.text.specs.declared.number.LeadingInteger.{LeadingInteger}
 use Rattle.text.proofs.Lists.{by-test}
 use Rattle.text.proofs.Runs.{past-add, same-drop-past, has-drop-nil}
@@ -45,7 +45,7 @@ onlyWord-is [] = refl
 onlyWord-is (w ∷ []) = refl
 onlyWord-is (w ∷ v ∷ ws) = rw (lt-ltb 0 (suc (length ws)) (omega arith))
 
-whole-seconds : (whole other : Bool) (x : Integer) → cond whole (cond (whole || other) x Nothing) Nothing ≡ cond whole x Nothing
+whole-seconds : (whole other : Bool) (x : FittedInteger) → cond whole (cond (whole || other) x Nothing) Nothing ≡ cond whole x Nothing
 whole-seconds true other x = refl
 whole-seconds false other x = refl
 

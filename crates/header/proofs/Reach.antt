@@ -14,8 +14,8 @@ use Rattle.text.specs.Bytes.{isSpace, isSign, ascii}
 use Rattle.text.specs.Places.{has}
 use Rattle.text.specs.Words.{words}
 use Rattle.text.specs.Decimal.{twoBefore}
-use Rattle.text.specs.declared.number.Integer.{Integer}
-use Rattle.text.specs.declared.number.Integer.the-variants.{Is, Nothing as NoInteger}
+use Rattle.text.specs.declared.number.FittedInteger.{FittedInteger}
+use Rattle.text.specs.declared.number.FittedInteger.the-variants.{Is, TooLarge, Nothing as NoInteger}
 use Rattle.text.proofs.Lists.{by-test}
 use Rattle.text.proofs.Decimals.{Between}
 use Rattle.time.specs.Answers.{timeAt}
@@ -47,9 +47,10 @@ abbrev Within : Answer → Type 0
 Within (At t) = HeaderOffset (t .offset)
 Within (Refused r) = Unit {0}
 
-headerTime-within : (i : Integer) (p : Parsed) → AllSmall p → Within (headerTime i p)
+headerTime-within : (i : FittedInteger) (p : Parsed) → AllSmall p → Within (headerTime i p)
 headerTime-within (Is z) (Offset f) h = offsetOf-in f h
 headerTime-within (Is z) NoOffset h = zero-in
+headerTime-within TooLarge p h = tt
 headerTime-within NoInteger p h = tt
 
 headerOfWords-within : (ws : List (List ℕ)) → Within (headerOfWords ws)

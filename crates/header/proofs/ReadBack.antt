@@ -16,13 +16,13 @@ use lib.ListN.{length, take}
 use Rattle.text.specs.Bytes.{isSpace, isSign, ascii}
 use Rattle.text.specs.Words.{words}
 use Rattle.text.specs.Decimal.{signed, signedBefore, twoBefore}
-use Rattle.text.specs.declared.number.Integer.the-variants.{Is}
+use Rattle.text.specs.declared.number.FittedInteger.the-variants.{Is}
 use Rattle.text.specs.Room.{roomAfter}
 use Rattle.text.proofs.Lists.{by-test}
 use Rattle.text.proofs.Numbers.{isDigit-of-le}
 use Rattle.text.proofs.Digits.{fit-two}
 use Rattle.text.proofs.Decimals.{Between, twoBefore-between}
-use Rattle.text.proofs.Signed.{signedBefore-append, length-signed-pos, signedBefore-between, signed-between, fitSigned-signed}
+use Rattle.text.proofs.Signed.{signedBefore-append, length-signed-pos, signedBefore-between, signed-between, fittedSigned-signed}
 use Rattle.text.proofs.Taking.{words-append, words-of-whole}
 use Rattle.time.specs.Answers.{timeAt, isWritten}
 use Rattle.time.specs.Header.{headerBytes, headerSign, headerWritten, offsetBytes, signByte, wholeMinutes, cutToMinutes}
@@ -43,7 +43,7 @@ use Rattle.text.proofs.Texts.{ascii-of-between, no-colon-of-between, whole-of-b
 -- ---- the seconds' word
 secondsOf-signed : (z : ℤ) → Seconds64 z → secondsOf (signed z) ≡ Is z
 unfolding secondsOf
-secondsOf-signed z r = rw (fitSigned-signed z r)
+secondsOf-signed z r = rw (fittedSigned-signed z r)
 
 -- ---- an offset's word of digits
 abbrev fieldsAre : Bool → ℕ → ℕ → ℕ → Fields
@@ -162,7 +162,7 @@ raw-read-back l t r h hours minutes =
     rw (
       ascii-header (t .seconds) w b,
       words-header (t .seconds) w (omega arith) b,
-      fitSigned-signed (t .seconds) r,
+      fittedSigned-signed (t .seconds) r,
       fieldsOf-written (t .offset) h Byte,
       hours,
       minutes,

@@ -10,10 +10,10 @@ use lib.ListN.{getD, drop}
 use Rattle.text.specs.Bytes.{isSpace, isDigit}
 use Rattle.text.specs.Places.{run, has, part}
 use Rattle.text.specs.Words.{words}
-use Rattle.text.specs.Number.{signedOf, fitSigned}
-use Rattle.text.specs.declared.number.Integer.{Integer}
-use Rattle.text.specs.declared.number.Integer.the-variants.{Is, Nothing as NoInteger}
-use Rattle.text.proofs.Numbers.{fitSigned-value}
+use Rattle.text.specs.Number.{signedOf}
+use Rattle.text.specs.declared.number.FittedInteger.{FittedInteger}
+use Rattle.text.specs.declared.number.FittedInteger.the-variants.{Is, TooLarge, Nothing as NoInteger}
+use Rattle.text.proofs.Numbers.{fittedSigned-value}
 use Rattle.text.proofs.Texts.{Lacking, not-has-of-words, no-colon-of-between, between-of-signedOf}
 use Rattle.time.specs.declared.Answer.the-variants.{Refused}
 use Rattle.time.specs.declared.Refusal.the-variants.{Form}
@@ -33,7 +33,7 @@ use Rattle.header.proofs.Unsigned.{fieldsOf-some, between-of-fieldsOf}
 
 -- ---- from the first word and the only other
 secondsOf-nil : secondsOf [] ≡ NoInteger
-unfolding secondsOf run signedOf fitSigned
+unfolding secondsOf run signedOf
 secondsOf-nil = refl
 
 pub headerOfWords-is : (ws : List (List ℕ)) → headerOfWords ws ≡ headerTime (secondsOf (getD ws 0 [])) (headerOffset (onlyWord (drop 1 ws)))
@@ -56,7 +56,7 @@ headerOffset-nil = refl
 
 -- ---- no number and no offset holds a `:`
 no-colon-of-number64 : (w : List ℕ) (z : ℤ) → number64 w ≡ Is z → has 58 w ≡ false
-no-colon-of-number64 w z e = no-colon-of-between 43 w (between-of-signedOf w z (fitSigned-value (2 ^ 63) (signedOf w) z e))
+no-colon-of-number64 w z e = no-colon-of-between 43 w (between-of-signedOf w z (fittedSigned-value (2 ^ 63) (signedOf w) z e))
 
 lacking : (ws : List (List ℕ)) (z : ℤ) (f : Fields) → number64 (getD ws 0 []) ≡ Is z → fieldsOf Byte (onlyWord (drop 1 ws)) ≡ Offset f → Lacking 58 ws
 lacking [] z f n p = tt
@@ -69,9 +69,10 @@ unfolding isSpace
 no-colon-of-raw s z f n p = not-has-of-words 58 isSpace refl s (lacking (words isSpace s) z f n p)
 
 -- so if there is one, raw has no number or no offset
-rawTime-Nothing : (l : Limits) (i : Integer) (p : Parsed) → ((z : ℤ) (f : Fields) → i ≡ Is z → p ≡ Offset f → ⊥) → rawTime l i p ≡ rawTime l i NoOffset
+rawTime-Nothing : (l : Limits) (i : FittedInteger) (p : Parsed) → ((z : ℤ) (f : Fields) → i ≡ Is z → p ≡ Offset f → ⊥) → rawTime l i p ≡ rawTime l i NoOffset
 rawTime-Nothing l (Is z) (Offset f) never = absurd (never z f refl refl)
 rawTime-Nothing l (Is z) NoOffset never = refl
+rawTime-Nothing l TooLarge p never = refl
 rawTime-Nothing l NoInteger p never = refl
 
 rawTime-of-colon : (l : Limits) (s : List ℕ) (colon : Bool) → colon ≡ has 58 s

@@ -10,29 +10,30 @@ use lib.ListN.{getD}
 use Rattle.text.specs.Bytes.{isSpace, isDigit, ascii}
 use Rattle.text.specs.Places.{has, leading}
 use Rattle.text.specs.Words.{words}
-use Rattle.text.specs.Number.{signedOf, fitSigned}
-use Rattle.text.specs.declared.number.Integer.{Integer}
-use Rattle.text.specs.declared.number.Integer.the-variants.{Is, Nothing as NoInteger}
+use Rattle.text.specs.Number.{signedOf, fittedSigned}
+use Rattle.text.specs.declared.number.FittedInteger.{FittedInteger}
+use Rattle.text.specs.declared.number.FittedInteger.the-variants.{Is, TooLarge, Nothing as NoInteger}
 use Rattle.time.specs.Answers.{timeAt}
 use Rattle.time.specs.declared.Answer.{Answer}
 use Rattle.time.specs.declared.Answer.the-variants.{Time, Refused}
-use Rattle.time.specs.declared.Refusal.the-variants.{NotAscii, Form}
+use Rattle.time.specs.declared.Refusal.the-variants.{NotAscii, Form, TooLarge as NumberTooLarge}
 use Rattle.header.specs.Offset.{onlyWord, fieldsOf, readTime}
 use Rattle.header.specs.declared.offset.Field.the-variants.{Signed}
 use Rattle.header.specs.declared.offset.Parsed.{Parsed}
 use Rattle.header.specs.declared.offset.Parsed.the-variants.{Offset, Nothing as NoOffset}
 
--- a 64-bit number (RULES 4.2)
-abbrev pub number64 : List ℕ → Integer
-number64 w = fitSigned (2 ^ 63) (signedOf w)
+-- a 64-bit number (RULES 4.2), or one that is too large for 64 bits (RULES 4.7)
+abbrev pub number64 : List ℕ → FittedInteger
+number64 w = fittedSigned (2 ^ 63) (signedOf w)
 
--- the first if it is a number, else the other
-abbrev pub numberOr : Integer → Integer → Integer
+-- the first if it is a number, or too large for one; else the other
+abbrev pub numberOr : FittedInteger → FittedInteger → FittedInteger
 numberOr (Is z) other = Is z
+numberOr TooLarge other = TooLarge
 numberOr NoInteger other = other
 
--- RULES 5.2: the first word is a 64-bit number, or else its leading digits are one
-unfoldable pub secondsOf : List ℕ → Integer
+-- RULES 5.2 and 5.9: the first word is a 64-bit number or too large for one, or else its leading digits are
+unfoldable pub secondsOf : List ℕ → FittedInteger
 secondsOf w = numberOr (number64 w) (number64 (leading isDigit w))
 
 -- RULES 5.4: a second word is an offset if it has 5 or 7 bytes, of which the first is a sign and the second a digit, and if its
@@ -40,10 +41,12 @@ secondsOf w = numberOr (number64 w) (number64 (leading isDigit w))
 unfoldable pub headerOffset : List ℕ → Parsed
 headerOffset w = cond (isDigit (getD w 1 0)) (fieldsOf Signed w) NoOffset
 
--- RULES 5.2 and 5.4: without a number the answer is 2; without an offset, the offset is 0, which is not a refusal
-abbrev pub headerTime : Integer → Parsed → Answer
+-- RULES 5.2, 5.4 and 5.9: without a number the answer is 2, with one that is too large it is 11; without an offset, the offset is
+-- 0, which is not a refusal
+abbrev pub headerTime : FittedInteger → Parsed → Answer
 headerTime (Is s) (Offset f) = Time (readTime s f)
 headerTime (Is s) NoOffset = Time (timeAt s (pos 0))
+headerTime TooLarge p = Refused NumberTooLarge
 headerTime NoInteger p = Refused Form
 
 -- RULES 5.3: without a second word, or with a third, the offset is 0. Without any word the answer is 2

@@ -14,7 +14,7 @@ use Rattle.text.specs.Bytes.{isSpace, isDigit, isSign, ascii}
 use Rattle.text.specs.Places.{run, no, past, has, part}
 use Rattle.text.specs.Words.{words}
 use Rattle.text.specs.Number.{LeadsWith}
-use Rattle.text.specs.declared.number.Integer.the-variants.{Nothing as NoInteger}
+use Rattle.text.specs.declared.number.FittedInteger.the-variants.{Nothing as NoInteger}
 use Rattle.text.specs.declared.number.LeadingInteger.{LeadingInteger}
 use Rattle.text.specs.declared.words.Span.{Span}
 use Rattle.header.specs.Offset.{secondWord, fieldsOf}

@@ -10,11 +10,11 @@ use lib.Signed.{leZ, ltZ}
 use Rattle.ints.specs.Equal.{eqZ}
 use Rattle.text.specs.Bytes.{isSpace, ascii}
 use Rattle.text.specs.Words.{words}
-use Rattle.text.specs.declared.number.Integer.{Integer}
-use Rattle.text.specs.declared.number.Integer.the-variants.{Is, Nothing as NoInteger}
+use Rattle.text.specs.declared.number.FittedInteger.{FittedInteger}
+use Rattle.text.specs.declared.number.FittedInteger.the-variants.{Is, TooLarge, Nothing as NoInteger}
 use Rattle.time.specs.declared.Answer.{Answer}
 use Rattle.time.specs.declared.Answer.the-variants.{Time, Refused}
-use Rattle.time.specs.declared.Refusal.the-variants.{NotAscii, Form}
+use Rattle.time.specs.declared.Refusal.the-variants.{NotAscii, Form, TooLarge as NumberTooLarge}
 use Rattle.header.specs.Offset.{onlyWord, fieldsOf, readTime}
 use Rattle.header.specs.Header.{number64}
 use Rattle.header.specs.declared.offset.Field.the-variants.{Byte}
@@ -50,10 +50,12 @@ limitsOf Two = rule2
 unfoldable pub allows : Limits → Fields → Bool
 allows l f = l .hours (f .hours) && l .minutes (f .minutes) && eqZ (f .seconds) (pos 0)
 
--- the answer is 2 unless there are a number and an offset, and the limits allow its fields
-abbrev pub rawTime : Limits → Integer → Parsed → Answer
+-- a number that is too large is 11 (RULES 5.9). Otherwise the answer is 2 unless there are a number and an offset, and the limits
+-- allow its fields
+abbrev pub rawTime : Limits → FittedInteger → Parsed → Answer
 rawTime l (Is s) (Offset f) = cond (allows l f) (Time (readTime s f)) (Refused Form)
 rawTime l (Is s) NoOffset = Refused Form
+rawTime l TooLarge p = Refused NumberTooLarge
 rawTime l NoInteger p = Refused Form
 
 -- RULES 5.6: exactly two words, of which the first is a 64-bit number and the second an offset; RULES 5.7: its fields are

@@ -1,19 +1,23 @@
--- What the theorems about headers and raw dates speak of (docs/PROMISES.md): the seconds that 64 bits hold; the offsets that a
--- header can give, and a header for each of them; what a raw date is, within any limits; limits within others; the texts on which
--- the raw and the header reader agree. No contract cites these.
+-- What the theorems about headers and raw dates speak of (docs/PROMISES.md): the seconds that 64 bits hold, and the texts whose
+-- number is too large for them; the offsets that a header can give, and a header for each of them; what a raw date is, within any
+-- limits; limits within others; the texts on which the raw and the header reader agree. No contract cites these.
 -- Assumes nothing.
 use Prim.Native.Nat.{ℕ, _-_, _*_, _/_, _^_, min}
+use Prim.Native.Char.{code}
 use mathlib.Core.Path.{_≡_}
-use mathlib.Core.Bool.{true}
+use mathlib.Core.Bool.{true, false}
 use mathlib.Core.List.{List, [], _∷_}
 use mathlib.Core.Logic.{_⊎_}
 use lib.IntN.{ℤ, pos, negsuc, natAbs}
 use lib.ListN.{getD}
 use Rattle.ints.specs.Range.{In}
 use Rattle.text.specs.Bytes.{isSpace, isDigit, ascii}
+use Rattle.text.specs.Places.{has, leading}
 use Rattle.text.specs.Words.{words}
+use Rattle.text.specs.Number.{signedOf}
 use Rattle.text.specs.Decimal.{signedBefore, twoBefore}
-use Rattle.text.specs.declared.number.Integer.the-variants.{Is}
+use Rattle.text.specs.declared.number.Integer.the-variants.{Is as IsValue}
+use Rattle.text.specs.declared.number.FittedInteger.the-variants.{Is}
 use Rattle.time.specs.Header.{signByte, space}
 use Rattle.time.specs.declared.Time.{Time}
 use Rattle.header.specs.Offset.{secondWord, fieldsOf, offsetOf}
@@ -26,6 +30,29 @@ use Rattle.header.specs.declared.offset.Parsed.the-variants.{Offset}
 -- the seconds that 64 bits hold
 abbrev pub Seconds64 : ℤ → Type 0
 Seconds64 z = In (negsuc (2 ^ 63 - 1)) (pos (2 ^ 63 - 1)) z
+
+-- a number but for its value, which 64 bits do not hold (RULES 4.7)
+pub record Beyond64 (w : List ℕ) : Type 0 where
+  pub value : ℤ
+  pub value-is : signedOf w ≡ IsValue value
+  pub beyond : Seconds64 value → ⊥
+
+-- RULES 5.9 of headers: an ASCII text without `:`, of which the first word, or else its leading digits, are too large
+pub record HeaderTooLarge (s : List ℕ) : Type 0 where
+  pub ascii-is : ascii s ≡ true
+  pub no-colon : has (code ":") s ≡ false
+  pub first : List ℕ
+  pub others : List (List ℕ)
+  pub words-are : words isSpace s ≡ first ∷ others
+  pub too-large : Beyond64 first ⊎ Beyond64 (leading isDigit first)
+
+-- RULES 5.9 of raw dates: an ASCII text of which the first word is too large
+pub record RawTooLarge (s : List ℕ) : Type 0 where
+  pub ascii-is : ascii s ≡ true
+  pub first : List ℕ
+  pub others : List (List ℕ)
+  pub words-are : words isSpace s ≡ first ∷ others
+  pub too-large : Beyond64 first
 
 -- the offsets that a header can give: from -362439, which is `-999999`, to 362439
 abbrev pub HeaderOffset : ℤ → Type 0

@@ -15,7 +15,7 @@ use crate::offset::Field;
 use crate::offset::Parsed;
 use crate::walk::Walked;
 use text::bytes;
-use text::number::Integer;
+use text::number::FittedInteger;
 use text::number::LeadingInteger;
 use text::words;
 use time::Answer;
@@ -23,9 +23,9 @@ use time::Refusal;
 use time::Time;
 
 // Reads a header (RULES 5.1 to 5.5). The answer is refusal 1 if the text holds a byte of 128 or
-// more, and then refusal 2 if it holds a `:` or its first word gives no number. Without a second
-// word, with one that is no offset, or with a third word, the offset is 0. A number alone and the
-// usual form need no scan for words.
+// more, then refusal 2 if it holds a `:`, and then refusal 11 if the number of its first word is too
+// large, or 2 if there is none. Without a second word, with one that is no offset, or with a third
+// word, the offset is 0. A number alone and the usual form need no scan for words.
 pub fn parse_header(s: &[u8]) -> Answer
     ensures { λ r. ⌜ r ≡ headerOf (now (s .entry)) ⌝ }
 {
@@ -59,17 +59,19 @@ fn parse_other(s: &[u8], opening: LeadingInteger) -> Answer
     header_time(number, parse_offset(words::within(s, word)))
 }
 
-// Without a number the answer is refusal 2. Without an offset, the offset is 0.
-fn header_time(n: Integer, p: Parsed) -> Answer
+// Without a number the answer is refusal 2, with one that is too large refusal 11. Without an offset,
+// the offset is 0.
+fn header_time(n: FittedInteger, p: Parsed) -> Answer
     requires { ⌜ AllSmall p ⌝ }
     ensures { λ r. ⌜ r ≡ headerTime n p ⌝ }
 {
-    let Integer::Is(z) = n else {
-        return Answer::Refused(Refusal::Form);
-    };
-    match p {
-        Parsed::Offset(f) => Answer::Time(offset::read_time(z, f)),
-        Parsed::Nothing => without_offset(Time::new(z, 0)),
+    match n {
+        FittedInteger::Is(z) => match p {
+            Parsed::Offset(f) => Answer::Time(offset::read_time(z, f)),
+            Parsed::Nothing => without_offset(Time::new(z, 0)),
+        },
+        FittedInteger::TooLarge => Answer::Refused(Refusal::TooLarge),
+        FittedInteger::Nothing => Answer::Refused(Refusal::Form),
     }
 }
 

@@ -9,7 +9,7 @@ use crate::offset::Fields;
 use crate::offset::Parsed;
 use crate::walk;
 use crate::walk::Walked;
-use text::number::Integer;
+use text::number::FittedInteger;
 use text::number::LeadingInteger;
 use text::words;
 use time::Answer;
@@ -21,9 +21,10 @@ pub enum Rule {
     Two,
 }
 
-// Reads a raw date, by rule 1. The answer is refusal 1 if the text holds a byte of 128 or more, and
-// then refusal 2 if it is anything but a number and an offset within the limits. A number alone and
-// the usual form are recognised as soon as the number ends, as in `parse_header`.
+// Reads a raw date, by rule 1. The answer is refusal 1 if the text holds a byte of 128 or more, then
+// refusal 11 if its first word is a number that is too large, and then refusal 2 if it is anything
+// but a number and an offset within the limits. A number alone and the usual form are recognised as
+// soon as the number ends, as in `parse_header`.
 pub fn parse_raw(s: &[u8]) -> Answer
     ensures { λ r. ⌜ r ≡ rawOf rule1 (now (s .entry)) ⌝ }
 {
@@ -90,21 +91,25 @@ fn parse_words(s: &[u8], walked: Walked, rule: Rule) -> Answer
     Answer::Refused(Refusal::Form)
 }
 
-// The answer is refusal 2 unless there are a number and an offset, and the rule allows the fields.
-fn raw_time(rule: Rule, n: Integer, p: Parsed) -> Answer
+// A number that is too large is refusal 11, whatever follows it. Otherwise the answer is refusal 2
+// unless there are a number and an offset, and the rule allows the fields.
+fn raw_time(rule: Rule, n: FittedInteger, p: Parsed) -> Answer
     requires { ⌜ AllSmall p ⌝ }
     ensures { λ r. ⌜ r ≡ rawTime (limitsOf rule) n p ⌝ }
 {
-    let Integer::Is(z) = n else {
-        return Answer::Refused(Refusal::Form);
-    };
-    let Parsed::Offset(f) = p else {
-        return Answer::Refused(Refusal::Form);
-    };
-    if allows(rule, f) {
-        return Answer::Time(offset::read_time(z, f));
+    match n {
+        FittedInteger::Is(z) => {
+            let Parsed::Offset(f) = p else {
+                return Answer::Refused(Refusal::Form);
+            };
+            if allows(rule, f) {
+                return Answer::Time(offset::read_time(z, f));
+            }
+            Answer::Refused(Refusal::Form)
+        }
+        FittedInteger::TooLarge => Answer::Refused(Refusal::TooLarge),
+        FittedInteger::Nothing => Answer::Refused(Refusal::Form),
     }
-    Answer::Refused(Refusal::Form)
 }
 
 // Rule 1: hours are at most 14, and minutes are 0, 15, 30 or 45. Rule 2: hours are below 24, and

@@ -8,11 +8,11 @@ ghost use mathlib.Core.Bool.{cond, not, _||_};
 ghost use lib.ListN.{drop};
 ghost use Rattle.text.specs.Bytes.{isSpace, ascii as asciiOf};
 ghost use Rattle.text.specs.Places.{past};
-ghost use Rattle.text.specs.declared.number.Integer.the-variants.{Nothing};
+ghost use Rattle.text.specs.declared.number.FittedInteger.the-variants.{Nothing};
 ghost use Rattle.header.specs.Held.{endsAt, hasColon, nowhere, boundsOf, LeadsWithNumber, WordsRead};
 use text::bytes;
 use text::number;
-use text::number::Integer;
+use text::number::FittedInteger;
 use text::number::LeadingInteger;
 use text::number::Width;
 use text::scan;
@@ -23,7 +23,7 @@ use text::words::Span;
 // number is the whole word, the bounds of the second word, and whether there is a `:` anywhere. The
 // bounds are empty if there is no second word, or a third, or a `:`.
 pub struct First {
-    pub number: Integer,
+    pub number: FittedInteger,
     pub whole: bool,
     pub offset_word: Span,
     pub colon: bool,
@@ -95,18 +95,13 @@ fn ends_at(s: &[u8], at: usize) -> bool
 
 // The number as a header reads it (RULES 5.2): a number with a sign counts only if it is the whole
 // word, and digits count whatever follows them.
-fn number_in(n: Integer, whole: bool, signed: bool) -> Integer
+fn number_in(n: FittedInteger, whole: bool, signed: bool) -> FittedInteger
     ensures { λ r. ⌜ r ≡ cond (whole || not signed) n Nothing ⌝ }
 {
-    match n {
-        Integer::Is(z) => {
-            if whole | !signed {
-                return Integer::Is(z);
-            }
-            Integer::Nothing
-        }
-        Integer::Nothing => Integer::Nothing,
+    if whole | !signed {
+        return n;
     }
+    FittedInteger::Nothing
 }
 
 // Empty bounds if there is a third word.

@@ -16,18 +16,18 @@ use lib.Seq.{length-take-le}
 use lib.Signed.{leZ, ltZ}
 use Rattle.text.specs.Bytes.{same}
 use Rattle.text.specs.Decimal.{decimal, signed}
-use Rattle.text.specs.Number.{readFrom, digitsOf, unsignedOf, signedOf, fitSigned, plus, minus, numeral, LeadsWith}
+use Rattle.text.specs.Number.{readFrom, digitsOf, unsignedOf, signedOf, fitSigned, plain, plus, minus, numeral, LeadsWith}
 use Rattle.text.specs.declared.number.Number.{Number}
 use Rattle.text.specs.declared.number.Number.the-variants.{Value, Nothing as NoNumber}
 use Rattle.text.specs.declared.number.LeadingInteger.{LeadingInteger}
 use Rattle.text.specs.declared.number.Integer.{Integer}
 use Rattle.text.specs.declared.number.Integer.the-variants.{Is, Nothing as NoInteger}
 use Rattle.text.proofs.Lists.{by-test, both, same-of-length}
-use Rattle.text.proofs.Numbers.{digit-range, readFrom-digit, unsignedOf-below, fitSigned-value, numeral-le-run}
+use Rattle.text.proofs.Numbers.{digit-range, readFrom-digit, unsignedOf-below, fittedSigned-value, numeral-le-run}
 use Rattle.text.proofs.Runs.{run-le-length}
 use Rattle.text.proofs.Digits.{no-plus}
 use Rattle.text.proofs.Decimals.{length-decimal-pos, length-decimal-of-lt, length-decimal-le, readFrom-decimal}
-use Rattle.text.proofs.Signed.{fitSigned-signed}
+use Rattle.text.proofs.Signed.{tests-of-In, fittedSigned-signed}
 use Rattle.header.specs.Theorems.{Seconds64}
 use Rattle.stamps.specs.Stamps.{printed, printedAs}
 use Rattle.stamps.specs.Held.{ifWidth, OpensPrinted}
@@ -127,25 +127,26 @@ pub numeral-le-length : (s : List ℕ) → numeral s ≤ length s
 numeral-le-length s =
     omega (arith, numeral-le-run (λ b. true) (λ b e. refl) (λ b e. refl) s, run-le-length (λ b. true) s)
 
-pub OpensPrinted-of-width : (half : ℕ) (s : List ℕ) (at : ℕ) (r : LeadingInteger) (n : Integer) → LeadsWith half s at r → n ≡ ifWidth (r .number) (r .end - at)
+pub OpensPrinted-of-width : (half : ℕ) (s : List ℕ) (at : ℕ) (r : LeadingInteger) (n : Integer) → LeadsWith half s at r → n ≡ ifWidth (plain (r .number)) (r .end - at)
     → OpensPrinted half s at (record { number = n; end = r .end })
+unfolding fitSigned
 OpensPrinted-of-width half s at r n l e =
     let w = take (numeral s) s in
     let k : r .end - at ≡ length w = omega (arith, l .end-is, length-take-le (numeral s) s (numeral-le-length s)) in
     record {
-      number-is = e ∙ (λ i. ifWidth (l .number-is i) (k i)) ∙ sym (fitSigned-printed half w);
+      number-is = e ∙ (λ i. ifWidth (plain (l .number-is i)) (k i)) ∙ sym (fitSigned-printed half w);
       end-is = l .end-is;
     }
 
 -- ---- what is printed is read, and nothing else
 pub printed-signed : (z : ℤ) → Seconds64 z → printed (signed z) ≡ Is z
 unfolding printed
-printed-signed z r = rw (fitSigned-value (2 ^ 63) (signedOf (signed z)) z (fitSigned-signed z r), same-self (signed z))
+printed-signed z r = rw (fittedSigned-value (2 ^ 63) (signedOf (signed z)) z (fittedSigned-signed z r), same-self (signed z))
 
 -- in 64 bits
 pub fitSigned-printed-signed : (z : ℤ) → Seconds64 z → fitSigned (2 ^ 63) (printed (signed z)) ≡ Is z
-fitSigned-printed-signed z r =
-    ap (fitSigned (2 ^ 63)) (printed-signed z r ∙ sym (fitSigned-value (2 ^ 63) (signedOf (signed z)) z (fitSigned-signed z r))) ∙ fitSigned-signed z r
+unfolding fitSigned
+fitSigned-printed-signed z r = rw (printed-signed z r, tests-of-In (2 ^ 63) z r)
 
 printedAs-bytes : (x : Integer) (s : List ℕ) (z : ℤ) → printedAs x s ≡ Is z → s ≡ signed z
 printedAs-bytes (Is y) s z e =

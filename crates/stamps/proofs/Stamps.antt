@@ -14,17 +14,18 @@ use lib.IntN.{ℤ, pos, negℤ, predℤ, natAbs}
 use lib.Signed.{leZ, ltZ}
 use Rattle.ints.specs.Range.{In}
 use Rattle.ints.proofs.Parts.{le-parts, natAbs-parts, one-up, one-dn}
-use Rattle.ints.proofs.Machine.{lit, le-yes, lt-yes, lt-pred}
 use Rattle.text.specs.Bytes.{isSpace, isDigit, ascii, same}
 use Rattle.text.specs.Places.{has, leading}
 use Rattle.text.specs.Words.{words}
 use Rattle.text.specs.Decimal.{signed}
-use Rattle.text.specs.Number.{signedOf, fitSigned}
+use Rattle.text.specs.Number.{signedOf, fitSigned, plain}
 use Rattle.text.specs.declared.number.Integer.{Integer}
 use Rattle.text.specs.declared.number.Integer.the-variants.{Is, Nothing as NoInteger}
+use Rattle.text.specs.declared.number.FittedInteger.{FittedInteger}
+use Rattle.text.specs.declared.number.FittedInteger.the-variants.{Is as Fits, TooLarge, Nothing as NothingFits}
 use Rattle.text.proofs.Lists.{by-test, both}
 use Rattle.text.proofs.Runs.{has-cons}
-use Rattle.text.proofs.Signed.{signedBefore-append}
+use Rattle.text.proofs.Signed.{signedBefore-append, In-of-tests}
 use Rattle.time.specs.Header.{headerBytes, headerSign, wholeMinutes, cutToMinutes}
 use Rattle.time.specs.declared.Time.{Time as TimeValue}
 use Rattle.time.specs.declared.Answer.{Answer}
@@ -70,28 +71,29 @@ module _ (s : List ℕ) (t : TimeValue) (e : stampOf s ≡ At t) where
 pub In-of-fitSigned : (half : ℕ) (x : Integer) (z : ℤ) → fitSigned half x ≡ Is z → In (negℤ (pos half)) (predℤ (pos half)) z
 unfolding fitSigned
 In-of-fitSigned half (Is y) z e =
-    let lo : ℤ = negℤ (pos half) in
-    let hi : ℤ = pos half in
-    by-test (leZ lo y && ltZ y hi)
-    (λ k.
-    let q : y ≡ z = cc (rw k at e) in
-    let p = both (leZ lo y) (ltZ y hi) k in
-    rw (← q) (record { low = le-yes (lit lo) (lit y) (p .0); high = lt-pred (lt-yes (lit y) (lit hi) (p .1)) }))
+    by-test (leZ (negℤ (pos half)) y && ltZ y (pos half))
+    (λ k. let q : y ≡ z = cc (rw k at e) in rw (← q) (In-of-tests half y k))
     (λ k. let m = rw k at e in let q : _≡_ {A = ℕ} 0 1 = cc in absurd (omega arith))
 In-of-fitSigned half NoInteger z e = let q : _≡_ {A = ℕ} 0 1 = cc in absurd (omega arith)
 
-secondsOf-in : (w : List ℕ) (z : ℤ) → secondsOf w ≡ Is z → Seconds64 z
+number64-in : (w : List ℕ) (z : ℤ) → number64 w ≡ Fits z → Seconds64 z
+unfolding fitSigned
+number64-in w z e = In-of-fitSigned (2 ^ 63) (signedOf w) z (ap plain e)
+
+secondsOf-in : (w : List ℕ) (z : ℤ) → secondsOf w ≡ Fits z → Seconds64 z
 unfolding secondsOf
 secondsOf-in w z e = go (number64 w) refl e
   where
-    go : (x : Integer) → number64 w ≡ x → numberOr x (number64 (leading isDigit w)) ≡ Is z → Seconds64 z
-    go (Is y) k m = In-of-fitSigned (2 ^ 63) (signedOf w) z (k ∙ m)
-    go NoInteger k m = In-of-fitSigned (2 ^ 63) (signedOf (leading isDigit w)) z m
+    go : (x : FittedInteger) → number64 w ≡ x → numberOr x (number64 (leading isDigit w)) ≡ Fits z → Seconds64 z
+    go (Fits y) k m = number64-in w z (k ∙ m)
+    go TooLarge k m = let q : _≡_ {A = ℕ} 0 1 = cc in absurd (omega arith)
+    go NothingFits k m = number64-in (leading isDigit w) z m
 
-headerTime-in : (x : Integer) (p : Parsed) (t : TimeValue) → headerTime x p ≡ Time t → x ≡ Is (t .seconds)
-headerTime-in (Is z) (Offset f) t e = cc
-headerTime-in (Is z) NoOffset t e = cc
-headerTime-in NoInteger p t e = let q : _≡_ {A = ℕ} 0 1 = cc in absurd (omega arith)
+headerTime-in : (x : FittedInteger) (p : Parsed) (t : TimeValue) → headerTime x p ≡ Time t → x ≡ Fits (t .seconds)
+headerTime-in (Fits z) (Offset f) t e = cc
+headerTime-in (Fits z) NoOffset t e = cc
+headerTime-in TooLarge p t e = let q : _≡_ {A = ℕ} 0 1 = cc in absurd (omega arith)
+headerTime-in NothingFits p t e = let q : _≡_ {A = ℕ} 0 1 = cc in absurd (omega arith)
 
 headerOfWords-in : (ws : List (List ℕ)) (t : TimeValue) → headerOfWords ws ≡ Time t → Seconds64 (t .seconds)
 unfolding headerOfWords

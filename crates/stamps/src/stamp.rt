@@ -48,7 +48,7 @@ pub fn printed_at(s: &[u8], at: usize, width: Width) -> PrintedNumber
     let number = read.number;
     let end = read.end;
     PrintedNumber {
-        number: if_width(number, end - at),
+        number: if_width(number::plain(number), end - at),
         end,
     }
 }

@@ -10,13 +10,15 @@ use Rattle.text.specs.Quote.{bytes}
 use Rattle.text.specs.Places.{run, firstPlace, lastWhere, lastPlace, leading}
 use Rattle.text.specs.Trim.{trim, trimEnd, trimStart}
 use Rattle.text.specs.Words.{separator, words, pieces, full}
-use Rattle.text.specs.Number.{readFrom, digitsOf, unsignedOf, signedOf, fit, fitSigned}
+use Rattle.text.specs.Number.{readFrom, digitsOf, unsignedOf, signedOf, fitted, fittedSigned, fit, fitSigned}
 use Rattle.text.specs.Lines.{linesOf, endedLines}
 use Rattle.text.specs.Decimal.{digitsUpTo, decimal, signed}
 use Rattle.text.specs.Room.{fits, fitBoth, roomAfter}
 use Rattle.text.specs.declared.words.Separator.the-variants.{Space, Mark}
 use Rattle.text.specs.declared.number.Number.the-variants.{Value, Nothing as NoNumber}
 use Rattle.text.specs.declared.number.Integer.the-variants.{Is, Nothing as NoInteger}
+use Rattle.text.specs.declared.number.Fitted.the-variants.{TooLarge as TooLargeNumber}
+use Rattle.text.specs.declared.number.FittedInteger.the-variants.{TooLarge, Nothing as NothingFitsSigned}
 
 -- RULES 4.1, "the bytes 9 to 13 and 32": 11 is white space; 8, 14 and 31 are not
 byte-11-is-space : isSpace 11 ≡ true
@@ -96,6 +98,20 @@ most = refl
 above-most : fitSigned (2 ^ 63) (signedOf (bytes "9223372036854775808")) ≡ NoInteger
 unfolding fitSigned signedOf unsignedOf digitsOf readFrom isDigit
 above-most = refl
+
+-- RULES 4.7, "a number but for its value": one less and one more are too large, and so is 256 for 8 bits. With a byte that is no
+-- digit behind it, no number is too large
+too-large-signed : fittedSigned (2 ^ 63) (signedOf (bytes "-9223372036854775809")) ≡ TooLarge × fittedSigned (2 ^ 63) (signedOf (bytes "9223372036854775808")) ≡ TooLarge
+unfolding signedOf unsignedOf digitsOf readFrom isDigit
+too-large-signed = (refl, refl)
+
+too-large : fitted 255 (unsignedOf (bytes "256")) ≡ TooLargeNumber
+unfolding unsignedOf digitsOf readFrom isDigit
+too-large = refl
+
+not-too-large : fittedSigned (2 ^ 63) (signedOf (bytes "99999999999999999999x")) ≡ NothingFitsSigned
+unfolding signedOf unsignedOf digitsOf readFrom isDigit
+not-too-large = refl
 
 -- RULES 5.2, "its leading digits"
 leading-digits : leading isDigit (bytes "12abc3") ≡ bytes "12"

@@ -15,12 +15,15 @@ use lib.ListN.{length, getD, take, length-take}
 use lib.Signed.{leZ, ltZ}
 use Rattle.text.specs.Bytes.{isDigit, isSign}
 use Rattle.text.specs.Places.{run, leading}
-use Rattle.text.specs.Number.{readFrom, digitsOf, unsignedOf, signedOf, fit, fitSigned, plus, minus, numeral, AtMost}
+use Rattle.text.specs.Number.{readFrom, digitsOf, unsignedOf, signedOf, fitted, fittedSigned, plainNumber, plain, fit, fitSigned, plus, minus, numeral, AtMost}
 use Rattle.text.specs.Held.{signedBy}
 use Rattle.text.specs.declared.number.Number.{Number}
 use Rattle.text.specs.declared.number.Number.the-variants.{Value, Nothing as NoNumber}
 use Rattle.text.specs.declared.number.Integer.{Integer}
 use Rattle.text.specs.declared.number.Integer.the-variants.{Is, Nothing as NoInteger}
+use Rattle.text.specs.declared.number.Fitted.{Fitted}
+use Rattle.text.specs.declared.number.Fitted.the-variants.{Value as Fits, TooLarge as TooLargeNumber, Nothing as NothingFits}
+use Rattle.text.specs.declared.number.FittedInteger.the-variants.{Is as FitsSigned, TooLarge}
 use Rattle.text.proofs.Lists.{by-test, both}
 use Rattle.text.proofs.Runs.{run-le-run, run-leading}
 
@@ -54,29 +57,34 @@ digitsOf-of-run-lt [] h = refl
 digitsOf-of-run-lt (b ∷ s) h = readFrom-of-run-lt (b ∷ s) 0 h
 
 -- ---- values that fit
--- a value above the limit stays above it
-pub fit-readFrom-of-lt : (s : List ℕ) (limit v : ℕ) → limit < v → fit limit (readFrom v s) ≡ NoNumber
-unfolding fit readFrom
-fit-readFrom-of-lt [] limit v h = rw (lt-leb v limit h)
-fit-readFrom-of-lt (b ∷ s) limit v h = by-test (isDigit b) (λ e. rw e (fit-readFrom-of-lt s limit (10 * v + (b - 48)) (omega arith))) (λ e. rw e)
+-- a value above the limit stays above it, whatever digits follow
+pub fitted-readFrom-of-lt : (s : List ℕ) (limit v : ℕ) → limit < v → fitted limit (readFrom v (leading isDigit s)) ≡ TooLargeNumber
+unfolding readFrom run
+fitted-readFrom-of-lt [] limit v h = rw (lt-leb v limit h)
+fitted-readFrom-of-lt (b ∷ s) limit v h =
+    by-test (isDigit b) (λ e. rw (e, e) (fitted-readFrom-of-lt s limit (10 * v + (b - 48)) (omega arith))) (λ e. rw (e, lt-leb v limit h))
 
-pub fit-digitsOf-of-Nothing : (s : List ℕ) (limit : ℕ) → fit limit (readFrom 0 s) ≡ NoNumber → fit limit (digitsOf s) ≡ NoNumber
-unfolding fit digitsOf
-fit-digitsOf-of-Nothing [] limit h = refl
-fit-digitsOf-of-Nothing (b ∷ s) limit h = h
+pub fitted-digitsOf-of-TooLarge : (s : List ℕ) (limit : ℕ) → fitted limit (readFrom 0 s) ≡ TooLargeNumber → fitted limit (digitsOf s) ≡ TooLargeNumber
+unfolding readFrom digitsOf
+fitted-digitsOf-of-TooLarge [] limit h = let k = rw (le-leb 0 limit (omega arith)) at h in let z : _≡_ {A = ℕ} 0 1 = cc in absurd (omega arith)
+fitted-digitsOf-of-TooLarge (b ∷ s) limit h = h
 
 -- digits from one place up to another, with the value v: no number if the two places are the same
-pub fit-digitsOf-of-length : (s : List ℕ) (limit v from end : ℕ) → v ≤ limit → from + length s ≡ end → fit limit (readFrom 0 s) ≡ fit limit (Value v)
-    → fit limit (digitsOf s) ≡ cond (ltb from end) (Value v) NoNumber
-unfolding fit digitsOf
-fit-digitsOf-of-length [] limit v from end f l e = rw (le-ltb from end (omega arith))
-fit-digitsOf-of-length (b ∷ s) limit v from end f l e = rw (lt-ltb from end (omega arith)) (rw (le-leb v limit f) at e)
+pub fitted-digitsOf-of-length : (s : List ℕ) (limit v from end : ℕ) → v ≤ limit → from + length s ≡ end → fitted limit (readFrom 0 s) ≡ fitted limit (Value v)
+    → fitted limit (digitsOf s) ≡ cond (ltb from end) (Fits v) NothingFits
+unfolding digitsOf
+fitted-digitsOf-of-length [] limit v from end f l e = rw (le-ltb from end (omega arith))
+fitted-digitsOf-of-length (b ∷ s) limit v from end f l e = rw (lt-ltb from end (omega arith)) (rw (le-leb v limit f) at e)
 
 -- a result r of `fit` is at most the limit
 pub AtMost-of-fit : (limit k : ℕ) (x r : Number) → r ≡ fit limit x → limit ≤ k → AtMost k r
 unfolding fit
 AtMost-of-fit limit k (Value n) r e h = rw e (by-test (leb n limit) (λ y. rw y (omega (arith, leb-true n limit y))) (λ y. rw y tt))
 AtMost-of-fit limit k NoNumber r e h = rw e tt
+
+pub AtMost-of-fitted : (limit : ℕ) (x : Number) (r : Fitted) → r ≡ fitted limit x → AtMost limit (plainNumber r)
+unfolding fit
+AtMost-of-fitted limit x r e = AtMost-of-fit limit limit x (plainNumber r) (ap plainNumber e) (omega arith)
 
 -- the argument of `fit`, if its result is a number
 pub fit-value : (limit n : ℕ) (x : Number) → fit limit x ≡ Value n → x ≡ Value n
@@ -93,6 +101,10 @@ fitSigned-value half (Is y) z k =
     by-test (leZ (negℤ (pos half)) y && ltZ y (pos half)) (λ t. rw t at k)
     (λ t. let m = rw t at k in let q : _≡_ {A = ℕ} 0 1 = cc in absurd (omega arith))
 fitSigned-value half NoInteger z k = k
+
+pub fittedSigned-value : (half : ℕ) (x : Integer) (z : ℤ) → fittedSigned half x ≡ FitsSigned z → x ≡ Is z
+unfolding fitSigned
+fittedSigned-value half x z k = fitSigned-value half x z (ap plain k)
 
 -- what fits the smaller limit fits the larger one too
 pub fit-fit : (k l : ℕ) (x : Number) → k ≤ l → fit k (fit l x) ≡ fit k x
@@ -112,17 +124,14 @@ least-le-pos : (half n : ℕ) → leZ (negℤ (pos half)) (pos n) ≡ true
 least-le-pos zero n = le-leb 0 n (omega arith)
 least-le-pos (suc h) n = refl
 
-fitSigned-plus : (half : ℕ) (x : Number) → 0 < half → fitSigned half (plus x) ≡ plus (fit (half - 1) x)
-unfolding fit fitSigned
-fitSigned-plus half (Value n) h = rw (least-le-pos half n, leb-pred n half h) (by-test (ltb n half) (λ e. rw e) (λ e. rw e))
-fitSigned-plus half NoNumber h = refl
+-- below half a number fits with `+`, and half itself only with `-`
+pub fittedSigned-plus : (half n : ℕ) → fittedSigned half (plus (Value n)) ≡ cond (ltb n half) (FitsSigned (pos n)) TooLarge
+fittedSigned-plus half n = rw (least-le-pos half n)
 
-fitSigned-minus : (half : ℕ) (x : Number) → 0 < half → fitSigned half (minus x) ≡ minus (fit half x)
-unfolding fit fitSigned
-fitSigned-minus zero x h = absurd (not-suc-le-zero h)
-fitSigned-minus (suc h) (Value zero) p = rw (lt-ltb 0 (suc h) p, le-leb 0 (suc h) (omega arith))
-fitSigned-minus (suc h) (Value (suc n)) p = rw (leb·suc-suc) (by-test (leb n h) (λ e. rw e) (λ e. rw e))
-fitSigned-minus (suc h) NoNumber p = refl
+pub fittedSigned-minus : (half n : ℕ) → 0 < half → fittedSigned half (minus (Value n)) ≡ cond (leb n half) (FitsSigned (negℤ (pos n))) TooLarge
+fittedSigned-minus zero n h = absurd (not-suc-le-zero h)
+fittedSigned-minus (suc h) zero p = rw (lt-ltb 0 (suc h) p, le-leb 0 (suc h) (omega arith))
+fittedSigned-minus (suc h) (suc n) p = rw (leb·suc-suc) (by-test (leb n h) (λ e. rw e) (λ e. rw e))
 
 -- ---- the number of a short text: with k bytes it is below 10 to the k, with or without a sign
 abbrev pub Below : ℕ → Number → Type 0
@@ -220,25 +229,26 @@ signedOf-leading (b ∷ s) =
     rw (e, ne-eqb b 45 (λ k. omega arith), ne-eqb b 43 (λ k. omega arith)))
     (λ e. rw e)
 
--- n is the number that the digits after the sign are, if there is a sign
-module _ (half : ℕ) (h : 0 < half) (n : Number) where
-  fitSigned-minus-of : (s : List ℕ) → n ≡ fit half (digitsOf s) → signedBy half true n ≡ fitSigned half (minus (digitsOf s))
-  unfolding signedBy
-  fitSigned-minus-of s e = ap minus e ∙ sym (fitSigned-minus half (digitsOf s) h)
+-- digits that were read up to half, with their sign
+module _ (half : ℕ) (h : 0 < half) where
+  signedBy-minus : (x : Number) → signedBy half true (fitted half x) ≡ fittedSigned half (minus x)
+  signedBy-minus (Value n) =
+      by-test (leb n half) (λ e. rw e) (λ e. rw e (sym (fittedSigned-minus half n h ∙ rw e)))
+  signedBy-minus NoNumber = refl
 
-  fitSigned-plus-of : (s : List ℕ) → n ≡ fit half (digitsOf s) → signedBy half false n ≡ fitSigned half (plus (digitsOf s))
-  unfolding signedBy
-  fitSigned-plus-of s e =
-      ap (λ (x : Number). plus (fit (half - 1) x)) e ∙ ap plus (fit-fit (half - 1) half (digitsOf s) (omega arith)) ∙ sym (fitSigned-plus half (digitsOf s) h)
+  signedBy-plus : (x : Number) → signedBy half false (fitted half x) ≡ fittedSigned half (plus x)
+  signedBy-plus (Value n) =
+      by-test (leb n half) (λ e. rw e) (λ e. rw e (sym (fittedSigned-plus half n ∙ rw (le-ltb n half (omega (arith, leb-false n half e))))))
+  signedBy-plus NoNumber = refl
 
-  pub signedBy-numeral : (b : ℕ) (s : List ℕ) → n ≡ fit half (digitsOf (leading isDigit (cond (isSign b) s (b ∷ s))))
-      → signedBy half (eqb b 45) n ≡ fitSigned half (signedOf (take (numeral (b ∷ s)) (b ∷ s)))
+  pub signedBy-numeral : (b : ℕ) (s : List ℕ) (n : Fitted) → n ≡ fitted half (digitsOf (leading isDigit (cond (isSign b) s (b ∷ s))))
+      → signedBy half (eqb b 45) n ≡ fittedSigned half (signedOf (take (numeral (b ∷ s)) (b ∷ s)))
   unfolding numeral isSign signedOf unsignedOf
-  signedBy-numeral b s e =
-      by-test (eqb b 45) (λ k. rw (eqb-true b 45 k) (fitSigned-minus-of (leading isDigit s) (rw (eqb-true b 45 k) at e)))
+  signedBy-numeral b s n e =
+      by-test (eqb b 45) (λ k. rw (eqb-true b 45 k) (ap (signedBy half true) (rw (eqb-true b 45 k) at e) ∙ signedBy-minus (digitsOf (leading isDigit s))))
       (λ k.
-      by-test (eqb b 43) (λ j. rw (eqb-true b 43 j) (fitSigned-plus-of (leading isDigit s) (rw (eqb-true b 43 j) at e)))
-      (λ j. rw (k, j) (fitSigned-plus-of (leading isDigit (b ∷ s)) (rw (j, k) at e) ∙ sym (ap (fitSigned half) (signedOf-leading (b ∷ s))))))
+      by-test (eqb b 43) (λ j. rw (eqb-true b 43 j) (ap (signedBy half false) (rw (eqb-true b 43 j) at e) ∙ signedBy-plus (digitsOf (leading isDigit s))))
+      (λ j. rw (k, j) (ap (signedBy half false) (rw (j, k) at e) ∙ signedBy-plus (digitsOf (leading isDigit (b ∷ s))) ∙ sym (ap (fittedSigned half) (signedOf-leading (b ∷ s))))))
 
 -- ---- a text with other bytes after the sign and the digits is no number
 pub signedOf-of-numeral-lt : (s : List ℕ) → numeral s < length s → signedOf s ≡ NoInteger

@@ -1,19 +1,22 @@
 -- Signed plain decimal. In order: what the sign decides; a text after it; how many bytes it takes; which bytes they are; reading
--- it back; the digits written in front of a place, and the minus in front of them.
+-- it back, and which numbers a width holds; the digits written in front of a place, and the minus in front of them.
 -- Assumes nothing.
 use mathlib.Core.Path.{_≡_, refl, sym, ap, _∙_}
+use mathlib.Core.Bool.{true, _&&_}
 use mathlib.Core.List.{List, _∷_, _++_, append-assoc}
-use Prim.Native.Nat.{ℕ, suc, _+_, _-_, _^_, _≤_, _<_}
+use Prim.Native.Nat.{ℕ, zero, suc, _+_, _-_, _^_, _≤_, _<_}
 use native.Mathlib.Omega.{arith}
-use lib.IntN.{ℤ, pos, negsuc, natAbs}
+use lib.IntN.{ℤ, pos, negsuc, negℤ, predℤ, natAbs}
 use lib.ListN.{length, take, drop, length-append}
-use lib.Signed.{_≤ℤ_, _<ℤ_}
+use lib.Signed.{leZ, ltZ, _≤ℤ_, _<ℤ_}
 use Rattle.ints.specs.Range.{In}
 use Rattle.ints.proofs.Parts.{le-parts, lt-parts, parts-le, parts-lt}
-use Rattle.ints.proofs.Machine.{leZ-true, ltZ-true}
-use Rattle.text.specs.Number.{signedOf, fitSigned}
+use Rattle.ints.proofs.Machine.{lit, le-yes, lt-yes, lt-pred, leZ-true, ltZ-true}
+use Rattle.text.specs.Number.{signedOf, fittedSigned}
 use Rattle.text.specs.Decimal.{decimal, decimalBefore, signed, signedBefore}
 use Rattle.text.specs.declared.number.Integer.the-variants.{Is}
+use Rattle.text.specs.declared.number.FittedInteger.the-variants.{Is as FitsSigned}
+use Rattle.text.proofs.Lists.{both}
 use Rattle.text.proofs.Decimals.{Between, Between-append, length-decimal-pos, length-decimal-le, readFrom-decimal, decimal-between}
 use Rattle.text.proofs.Putting.{put-put}
 use Rattle.text.proofs.Texts.{signedOf-of-digits, signedOf-of-minus}
@@ -81,12 +84,22 @@ signedOf-signed (pos n) =
     signedOf-of-digits (decimal n) n (length-decimal-pos n) (decimal-between 48 57 (omega arith) (omega arith) n) (readFrom-decimal n)
 signedOf-signed (negsuc n) = signedOf-of-minus (decimal (suc n)) (suc n) (length-decimal-pos (suc n)) (readFrom-decimal (suc n))
 
+-- signed bits hold the numbers from -half to half - 1
+pub In-of-tests : (half : ℕ) (z : ℤ) → (leZ (negℤ (pos half)) z && ltZ z (pos half)) ≡ true → In (negℤ (pos half)) (predℤ (pos half)) z
+In-of-tests half z e =
+    let p = both (leZ (negℤ (pos half)) z) (ltZ z (pos half)) e in
+    record { low = le-yes (lit (negℤ (pos half))) (lit z) (p .0); high = lt-pred (lt-yes (lit z) (lit (pos half)) (p .1)) }
+
+pub tests-of-In : (half : ℕ) (z : ℤ) → In (negℤ (pos half)) (predℤ (pos half)) z → (leZ (negℤ (pos half)) z && ltZ z (pos half)) ≡ true
+tests-of-In half z r = rw (leZ-true (r .low), ltZ-true (below half (r .high)))
+  where
+    below : (h : ℕ) → z ≤ℤ predℤ (pos h) → z <ℤ pos h
+    below zero k = parts-lt _ _ (omega (arith, le-parts k))
+    below (suc h) k = parts-lt _ _ (omega (arith, le-parts k))
+
 -- in 64 bits
-pub fitSigned-signed : (z : ℤ) → In (negsuc (2 ^ 63 - 1)) (pos (2 ^ 63 - 1)) z → fitSigned (2 ^ 63) (signedOf (signed z)) ≡ Is z
-unfolding fitSigned
-fitSigned-signed z r =
-    let below : z <ℤ pos (2 ^ 63) = parts-lt _ _ (omega (arith, le-parts (r .high))) in
-    rw (signedOf-signed z, leZ-true (r .low), ltZ-true below)
+pub fittedSigned-signed : (z : ℤ) → In (negsuc (2 ^ 63 - 1)) (pos (2 ^ 63 - 1)) z → fittedSigned (2 ^ 63) (signedOf (signed z)) ≡ FitsSigned z
+fittedSigned-signed z r = rw (signedOf-signed z, tests-of-In (2 ^ 63) z r)
 
 -- ---- written in front of a place: where it starts, and the buffer after the call
 abbrev pub PutSigned : ℤ → ℕ → List ℕ → ℕ → List ℕ → Type 0

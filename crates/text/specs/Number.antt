@@ -1,5 +1,5 @@
--- Numbers: an optional sign and then digits only, at least one, whose value fits the width (RULES 4.2 to 4.4). Values are
--- unbounded; only `fit` and `fitSigned` know a width.
+-- Numbers: an optional sign and then digits only, at least one, whose value fits the width (RULES 4.2 to 4.4 and 4.7). Values
+-- are unbounded; only `fitted` and `fittedSigned` know a width, and `fit` and `fitSigned` by them.
 -- Assumes nothing.
 use Prim.Native.Nat.{ℕ, suc, _+_, _-_, _*_, _≤_, _^_}
 use Prim.Native.Char.{code}
@@ -18,6 +18,10 @@ use Rattle.text.specs.declared.number.Number.{Number}
 use Rattle.text.specs.declared.number.Number.the-variants.{Value, Nothing as NoNumber}
 use Rattle.text.specs.declared.number.Integer.{Integer}
 use Rattle.text.specs.declared.number.Integer.the-variants.{Is, Nothing as NoInteger}
+use Rattle.text.specs.declared.number.Fitted.{Fitted}
+use Rattle.text.specs.declared.number.Fitted.the-variants.{Value as Fits, TooLarge as TooLargeNumber, Nothing as NothingFits}
+use Rattle.text.specs.declared.number.FittedInteger.{FittedInteger}
+use Rattle.text.specs.declared.number.FittedInteger.the-variants.{Is as FitsSigned, TooLarge, Nothing as NothingFitsSigned}
 use Rattle.text.specs.declared.number.LeadingInteger.{LeadingInteger}
 
 -- digits only: their value, where the digits before them have the value v
@@ -48,20 +52,38 @@ unfoldable pub signedOf : List ℕ → Integer
 signedOf [] = NoInteger
 signedOf (b ∷ s) = cond (eqb b (code "-")) (minus (digitsOf s)) (plus (unsignedOf (b ∷ s)))
 
--- the value fits the width: it is at most the limit
+-- the value fits the width if it is at most the limit; a larger one is too large. What is no number is none at any width
+abbrev pub fitted : ℕ → Number → Fitted
+fitted limit (Value n) = cond (leb n limit) (Fits n) TooLargeNumber
+fitted limit NoNumber = NothingFits
+
+-- the same for those who do not tell too large from no number
+abbrev pub plainNumber : Fitted → Number
+plainNumber (Fits n) = Value n
+plainNumber TooLargeNumber = NoNumber
+plainNumber NothingFits = NoNumber
+
 unfoldable pub fit : ℕ → Number → Number
-fit limit (Value n) = cond (leb n limit) (Value n) NoNumber
-fit limit NoNumber = NoNumber
+fit limit x = plainNumber (fitted limit x)
 
 -- half of a width of w bits is 2 to the w - 1
 abbrev pub halfOf : Width → ℕ
 halfOf Bits32 = 2 ^ 31
 halfOf Bits64 = 2 ^ 63
 
--- signed bits hold the numbers from -half to half - 1
+-- signed bits hold the numbers from -half to half - 1; any other is too large
+abbrev pub fittedSigned : ℕ → Integer → FittedInteger
+fittedSigned half (Is z) = cond (leZ (negℤ (pos half)) z && ltZ z (pos half)) (FitsSigned z) TooLarge
+fittedSigned half NoInteger = NothingFitsSigned
+
+-- the same for those who do not tell too large from no number
+abbrev pub plain : FittedInteger → Integer
+plain (FitsSigned z) = Is z
+plain TooLarge = NoInteger
+plain NothingFitsSigned = NoInteger
+
 unfoldable pub fitSigned : ℕ → Integer → Integer
-fitSigned half (Is z) = cond (leZ (negℤ (pos half)) z && ltZ z (pos half)) (Is z) NoInteger
-fitSigned half NoInteger = NoInteger
+fitSigned half x = plain (fittedSigned half x)
 
 -- how many bytes at the front of s are a sign, if there is one, and digits
 unfoldable pub numeral : List ℕ → ℕ
@@ -70,7 +92,7 @@ numeral (b ∷ s) = cond (isSign b) (suc (run isDigit s)) (run isDigit (b ∷ s)
 
 -- what is read from those bytes, where s begins at the place `at` of a text
 pub record LeadsWith (half : ℕ) (s : List ℕ) (at : ℕ) (r : LeadingInteger) : Type 0 where
-  pub number-is : r .number ≡ fitSigned half (signedOf (take (numeral s) s))
+  pub number-is : r .number ≡ fittedSigned half (signedOf (take (numeral s) s))
   pub end-is : r .end ≡ at + numeral s
   pub signed-is : r .signed ≡ isSign (getD s 0 0)
 

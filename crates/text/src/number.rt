@@ -1,6 +1,7 @@
-// Numbers in a text (RULES 4.2 to 4.4). The digits may be of any length, with leading zeros: a
-// value above the limit is no number, and nothing overflows on the way. One function reads the
-// digits for every width, up to the limit that it is given.
+// Numbers in a text (RULES 4.2 to 4.4 and 4.7). The digits may be of any length, with leading zeros:
+// a value above the limit is too large, and nothing overflows on the way. One function reads the
+// digits for every width, up to the limit that it is given. Callers that do not tell a number that
+// is too large from no number take the plain answer.
 ghost use mathlib.Core.Path.{_≡_};
 ghost use mathlib.Core.Bool.{cond};
 ghost use Prim.Native.Nat.{_+_, _*_, _≤_, _<_, _-_, _^_};
@@ -9,10 +10,10 @@ ghost use lib.IntN.{pos, negℤ};
 ghost use lib.ListN.{drop};
 ghost use Rattle.text.specs.Bytes.{isDigit};
 ghost use Rattle.text.specs.Places.{leading, past};
-ghost use Rattle.text.specs.Number.{digitsOf, unsignedOf, signedOf, fit, fitSigned, halfOf};
-ghost use Rattle.text.specs.Number.{AtMost, LeadsWith};
+ghost use Rattle.text.specs.Number.{digitsOf, unsignedOf, signedOf, halfOf, AtMost, LeadsWith};
+ghost use Rattle.text.specs.Number.{fitted, fit, fitSigned, plainNumber, plain as plainOf};
 ghost use Rattle.text.specs.Held.{signedBy};
-ghost use Rattle.text.specs.declared.number.Number.the-variants.{Value, Nothing};
+ghost use Rattle.text.specs.declared.number.Fitted.the-variants.{Value, Nothing};
 use crate::bytes;
 use crate::scan;
 use crate::scan::Class;
@@ -50,6 +51,42 @@ pub enum Integer {
     Nothing,
 }
 
+// An unsigned number, or one that is too large for its width, or no number.
+pub enum Fitted {
+    Value(u64),
+    TooLarge,
+    Nothing,
+}
+
+// A signed number, or one that is too large for its width, or no number.
+pub enum FittedInteger {
+    Is(i64),
+    TooLarge,
+    Nothing,
+}
+
+// The number, if it is one that fits.
+pub fn plain_number(n: Fitted) -> Number
+    ensures { λ r. ⌜ r ≡ plainNumber n ⌝ }
+{
+    match n {
+        Fitted::Value(v) => Number::Value(v),
+        Fitted::TooLarge => Number::Nothing,
+        Fitted::Nothing => Number::Nothing,
+    }
+}
+
+// The same for a signed number.
+pub fn plain(n: FittedInteger) -> Integer
+    ensures { λ r. ⌜ r ≡ plainOf n ⌝ }
+{
+    match n {
+        FittedInteger::Is(z) => Integer::Is(z),
+        FittedInteger::TooLarge => Integer::Nothing,
+        FittedInteger::Nothing => Integer::Nothing,
+    }
+}
+
 // The whole text as an unsigned number: an optional `+`, then digits.
 pub fn unsigned_number(s: &[u8], limit: u64) -> Number
     ensures { λ r. ⌜ r ≡ fit limit (unsignedOf (now (s .entry))) ⌝ }
@@ -71,7 +108,8 @@ pub fn signed_number(s: &[u8], width: Width) -> Integer
     if read.end < s.len() {
         return Integer::Nothing;
     }
-    read.number
+    let number = read.number;
+    plain(number)
 }
 
 // The text from `from` on as digits alone: at least one, with a value up to the limit.
@@ -82,19 +120,20 @@ pub fn digits(s: &[u8], from: usize, limit: u64) -> Number
     if read.end < s.len() {
         return Number::Nothing;
     }
-    read.number
+    let number = read.number;
+    plain_number(number)
 }
 
 // The number that leading digits are, and the place past them.
 pub struct Leading {
-    pub number: Number,
+    pub number: Fitted,
     pub end: usize,
 }
 
-// The leading digits of the text from `from` on. They are no number if there is none, or if their
-// value is above the limit.
+// The leading digits of the text from `from` on. They are too large if their value is above the
+// limit, and no number if there is none.
 pub fn leading_number(s: &[u8], from: usize, limit: u64) -> Leading
-    ensures { λ r. ⌜ r .number ≡ fit limit (digitsOf (leading isDigit (drop from (now (s .entry))))) ⌝ }
+    ensures { λ r. ⌜ r .number ≡ fitted limit (digitsOf (leading isDigit (drop from (now (s .entry))))) ⌝ }
     ensures { λ r. ⌜ r .end ≡ past isDigit (now (s .entry)) from ⌝ }
 {
     let mut v: u64 = 0;
@@ -109,7 +148,7 @@ pub fn leading_number(s: &[u8], from: usize, limit: u64) -> Leading
             } else {
                 let end = scan::past(s, i, Class::Digit);
                 return Leading {
-                    number: Number::Nothing,
+                    number: Fitted::TooLarge,
                     end,
                 };
             }
@@ -144,12 +183,12 @@ fn read_up_to(from: usize, end: usize, v: u64) -> Leading
 {
     if from < end {
         return Leading {
-            number: Number::Value(v),
+            number: Fitted::Value(v),
             end,
         };
     }
     Leading {
-        number: Number::Nothing,
+        number: Fitted::Nothing,
         end,
     }
 }
@@ -163,7 +202,7 @@ fn as_u64(b: u8) -> u64
 // The number that an optional sign and the digits after it are, the place past them, and whether
 // the sign is there.
 pub struct LeadingInteger {
-    pub number: Integer,
+    pub number: FittedInteger,
     pub end: usize,
     pub signed: bool,
 }
@@ -182,7 +221,7 @@ fn leading_between(s: &[u8], from: usize, half: u64) -> LeadingInteger
 {
     if s.len() <= from {
         return LeadingInteger {
-            number: Integer::Nothing,
+            number: FittedInteger::Nothing,
             end: from,
             signed: false,
         };
@@ -211,21 +250,22 @@ fn past_sign(at: usize, signed: bool) -> usize
 }
 
 // n with its sign. `half` itself fits only with a minus sign.
-fn with_sign(negative: bool, n: Number, half: u64) -> Integer
-    requires { ⌜ AtMost half n × (0 < half) × (half ≤ 2 ^ 63) ⌝ }
+fn with_sign(negative: bool, n: Fitted, half: u64) -> FittedInteger
+    requires { ⌜ AtMost half (plainNumber n) × (0 < half) × (half ≤ 2 ^ 63) ⌝ }
     ensures { λ r. ⌜ r ≡ signedBy half negative n ⌝ }
 {
     match n {
-        Number::Value(v) => {
+        Fitted::Value(v) => {
             if negative {
-                return Integer::Is(minus_i64(v));
+                return FittedInteger::Is(minus_i64(v));
             }
             if v < half {
-                return Integer::Is(v as i64);
+                return FittedInteger::Is(v as i64);
             }
-            Integer::Nothing
+            FittedInteger::TooLarge
         }
-        Number::Nothing => Integer::Nothing,
+        Fitted::TooLarge => FittedInteger::TooLarge,
+        Fitted::Nothing => FittedInteger::Nothing,
     }
 }
 

@@ -1,10 +1,13 @@
 -- What the theorems about times speak of (docs/PROMISES.md): the times that a header can carry, the shape of a line, the year that a line
--- shows, and the answers of its writer in their order. No contract cites these.
+-- shows, and the answers of its writer in their order; a reader's answer beside the one that it gave before there was an 11. No contract
+-- cites these.
 -- Assumes nothing.
 use Prim.Native.Char.{code}
 use Prim.Native.Nat.{ℕ, _<_}
 use mathlib.Core.Bool.{Bool, true, false, cond, _&&_}
+use mathlib.Core.Path.{_≡_}
 use mathlib.Core.List.{List, [], _∷_}
+use mathlib.Core.Logic.{_⊎_}
 use lib.Dec.{eqb}
 use lib.IntN.{ℤ, pos, negsuc, natAbs, _-ℤ_}
 use mir.Syntax.{w64}
@@ -12,7 +15,9 @@ use mir.Val.{SFits}
 use Rattle.text.specs.Bytes.{isDigit, isSign}
 use Rattle.time.specs.Iso.{lineClock, clockYear, shown}
 use Rattle.time.specs.declared.Time.{Time}
-use Rattle.time.specs.declared.Refusal.the-variants.{Offset, Range, Room}
+use Rattle.time.specs.declared.Refusal.the-variants.{Form, Offset, Range, Room, TooLarge}
+use Rattle.time.specs.declared.Answer.{Answer}
+use Rattle.time.specs.declared.Answer.the-variants.{Refused as NotRead}
 use Rattle.time.specs.declared.Written.{Written}
 use Rattle.time.specs.declared.Written.the-variants.{Length, Refused}
 
@@ -47,3 +52,7 @@ yearZero = negsuc 62167219199
 -- room is too short
 abbrev pub answerBy : Bool → Bool → Bool → Written
 answerBy wide good short = cond wide (Refused Offset) (cond good (cond short (Refused Room) (Length 25)) (Refused Range))
+
+-- an answer that is as it was before there was an 11; or it was 2, and is 11 now
+abbrev pub AsBefore : Answer → Answer → Type 0
+AsBefore was now = (now ≡ was) ⊎ ((was ≡ NotRead Form) × (now ≡ NotRead TooLarge))

@@ -140,6 +140,8 @@ pub enum Refusal {
     Room,
     // 10: a book of stamps is too long or has a bad line; or the values given for a line would not be read back from it.
     Book,
+    // 11: the number that opens a header or a raw date is too large for 64 bits.
+    TooLarge,
 }
 
 // The number of a refusal (RULES 2.1).
@@ -156,6 +158,7 @@ pub fn number_of(r: Refusal) -> u8
         Refusal::Offset => 7,
         Refusal::Room => 8,
         Refusal::Book => 10,
+        Refusal::TooLarge => 11,
     }
 }
 

@@ -10,7 +10,7 @@ returns : tie.Need-returns
 unfolding markedOf
 returns c = rw (← c .before .before .before .parse-raw-by .ensures, c .before .date .given .1)
 
--- a refusal other than 2
+-- a refusal other than 2 and 11
 returns-2 : tie.Need-returns-2
 unfolding markedOf
 returns-2 c =

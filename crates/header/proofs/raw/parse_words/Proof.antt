@@ -3,7 +3,7 @@
 use mathlib.Core.Path.{_≡_}
 use mathlib.Core.Bool.{cond}
 use Rattle.text.specs.Places.{part}
-use Rattle.text.specs.declared.number.Integer.the-variants.{Nothing}
+use Rattle.text.specs.declared.number.FittedInteger.the-variants.{Nothing}
 use Rattle.header.specs.Offset.{fieldsOf}
 use Rattle.header.specs.Raw.{limitsOf, rawOf, rawTime}
 use Rattle.header.specs.declared.offset.Field.the-variants.{Byte}

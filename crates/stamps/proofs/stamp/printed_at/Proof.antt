@@ -5,11 +5,17 @@ use Rattle.stamps.proofs.Printed.{OpensPrinted-of-width}
 use Rattle.stamps.proofs.stamp.printed_at.Statement.{statement}
 use Rattle.stamps.proofs.stamp.printed_at.Tie as tie
 
+returns : tie.Need-returns
+returns c =
+    let read = c .before .before in
+    OpensPrinted-of-width _ _ _ _ _ (read .leading-integer .ensures) (rw (c .before .plain .ensures) at (c .if-width .ensures))
+
 pub printed-at-spec : {M : Type 1} → statement M
 printed-at-spec =
     tie.close
     (tie.spec
     (λ c κs. search needs)
+    (λ c κs. search needs)
     (λ c. search needs)
     (λ c κs. search needs)
-    (λ c. OpensPrinted-of-width _ _ _ _ _ (c .before .leading-integer .ensures) (c .if-width .ensures)))
+    returns)

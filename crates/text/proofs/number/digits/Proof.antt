@@ -9,7 +9,7 @@ use lib.ListN.{length, drop, length-drop}
 use lib.Seq.{take-all}
 use Rattle.text.specs.Bytes.{isDigit}
 use Rattle.text.specs.Places.{run, leading, past}
-use Rattle.text.specs.Number.{digitsOf, fit}
+use Rattle.text.specs.Number.{digitsOf, fit, plainNumber}
 use Rattle.text.specs.declared.number.Number.the-variants.{Nothing}
 use Rattle.text.proofs.Numbers.{digitsOf-of-run-lt}
 use borrow.Author.Needs.{needs}
@@ -32,10 +32,12 @@ unfolding fit
 returns c = rw (digitsOf-of-past-lt _ _ (rw (c .before .before .leading-number .ensures .1) at (c .if1 .taken)))
 
 returns-2 : tie.Need-returns-2
+unfolding fit
 returns-2 c =
-    let at-read = c .before .before in
+    let at-read = c .before .before .before in
     let a = at-read .before .before .args in
-    at-read .leading-number .ensures .0 ∙ ap (λ (t : List ℕ). fit (a .limit) (digitsOf t)) (leading-of-past-le _ (a .from) (rw (at-read .leading-number .ensures .1) at (c .if1 .left)))
+    c .plain-number .ensures ∙ ap plainNumber (at-read .leading-number .ensures .0)
+    ∙ ap (λ (t : List ℕ). fit (a .limit) (digitsOf t)) (leading-of-past-le _ (a .from) (rw (at-read .leading-number .ensures .1) at (c .before .if1 .left)))
 
 pub digits-spec : {M : Type 1} → statement M
-digits-spec = tie.close (tie.spec (λ c κs. search needs) returns returns-2)
+digits-spec = tie.close (tie.spec (λ c κs. search needs) returns (λ c κs. search needs) returns-2)

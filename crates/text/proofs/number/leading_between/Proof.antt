@@ -5,25 +5,24 @@ use mathlib.Core.Bool.{Bool, false, cond}
 use mathlib.Core.List.{List, _∷_}
 use Prim.Native.Nat.{ℕ, _+_, _≤_, _<_}
 use native.Mathlib.Omega.{arith}
-use native.Mathlib.Nat.{le-refl}
 use lib.Dec.{eqb}
 use lib.ListN.{length, drop, getD, drop-of-length-le}
 use Rattle.text.specs.Bytes.{isDigit, isSign}
 use Rattle.text.specs.Places.{past, leading}
-use Rattle.text.specs.Number.{digitsOf, signedOf, fit, fitSigned, numeral, LeadsWith}
+use Rattle.text.specs.Number.{digitsOf, signedOf, fitted, numeral, LeadsWith}
 use Rattle.text.specs.Held.{signedBy}
 use Rattle.text.specs.declared.number.LeadingInteger.{LeadingInteger}
-use Rattle.text.specs.declared.number.Number.{Number}
-use Rattle.text.specs.declared.number.Integer.the-variants.{Nothing}
+use Rattle.text.specs.declared.number.Fitted.{Fitted}
+use Rattle.text.specs.declared.number.FittedInteger.the-variants.{Nothing}
 use Rattle.text.proofs.Lists.{by-test, drop-cons-add-one}
-use Rattle.text.proofs.Numbers.{AtMost-of-fit, signedBy-numeral}
+use Rattle.text.proofs.Numbers.{AtMost-of-fitted, signedBy-numeral}
 use borrow.Author.Needs.{needs}
 use Rattle.text.proofs.number.leading_between.Statement.{statement}
 use Rattle.text.proofs.number.leading_between.Tie as tie
 
 -- nothing is left
 LeadsWith-nil : (half : ℕ) (s : List ℕ) (at : ℕ) → length s ≤ at → LeadsWith half (drop at s) at (record { number = Nothing; end = at; signed = false })
-unfolding numeral signedOf fitSigned isSign
+unfolding numeral signedOf isSign
 LeadsWith-nil half s at h = rw (drop-of-length-le s h) (record { number-is = refl; end-is = omega arith; signed-is = refl })
 
 -- where the digits start, and where they end
@@ -41,12 +40,12 @@ module _ (s : List ℕ) (at : ℕ) (h : at < length s) where
   unfolding past numeral
   end = by-test (isSign byte) (λ e. rw e (omega arith)) (λ e. rw (e, drop-cons-add-one s at h))
 
-  LeadsWith-cons : (half : ℕ) → 0 < half → (n : Number) → n ≡ fit half (digitsOf (leading isDigit (drop start s))) → (r : LeadingInteger)
+  LeadsWith-cons : (half : ℕ) → 0 < half → (n : Fitted) → n ≡ fitted half (digitsOf (leading isDigit (drop start s))) → (r : LeadingInteger)
       → r .number ≡ signedBy half (eqb byte 45) n → r .end ≡ past isDigit s start → r .signed ≡ isSign byte → LeadsWith half (drop at s) at r
   LeadsWith-cons half k n e r number-is end-is signed-is =
       rw (drop-cons-add-one s at h)
       (record {
-        number-is = number-is ∙ signedBy-numeral half k n byte (drop (at + 1) s) (e ∙ ap (λ (t : List ℕ). fit half (digitsOf (leading isDigit t))) left);
+        number-is = number-is ∙ signedBy-numeral half k byte (drop (at + 1) s) n (e ∙ ap (λ (t : List ℕ). fitted half (digitsOf (leading isDigit t))) left);
         end-is = end-is ∙ end;
         signed-is = signed-is;
       })
@@ -56,8 +55,9 @@ returns c = LeadsWith-nil _ _ _ (c .if1 .taken)
 
 with-sign-requires : tie.Need-with-sign-requires
 with-sign-requires c κs =
-    let p = c .before .before .before .before .before .before .pre in
-    (AtMost-of-fit _ _ _ _ (c .leading-number .ensures .0) (le-refl _), p .0, p .1)
+    let begin = c .before .before .before .before .before .before in
+    let digits = digitsOf (leading isDigit (drop (c .before .past-sign .result) (begin .args .s .now))) in
+    (AtMost-of-fitted (begin .args .half) digits _ (c .leading-number .ensures .0), begin .pre .0, begin .pre .1)
 
 returns-2 : tie.Need-returns-2
 returns-2 c =

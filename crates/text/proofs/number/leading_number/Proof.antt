@@ -12,16 +12,16 @@ use lib.Dec.{ltb}
 use lib.ListN.{length, getD, drop}
 use Rattle.text.specs.Bytes.{isDigit}
 use Rattle.text.specs.Places.{leading, past}
-use Rattle.text.specs.Number.{digitsOf, readFrom, fit}
-use Rattle.text.specs.declared.number.Number.the-variants.{Value, Nothing}
+use Rattle.text.specs.Number.{digitsOf, readFrom, fitted}
+use Rattle.text.specs.declared.number.Fitted.the-variants.{Value, TooLarge, Nothing}
 use Rattle.text.proofs.Runs.{past-of-true, past-of-false, past-of-length-le, length-leading, leading-of-past, leading-of-true}
-use Rattle.text.proofs.Numbers.{digit-range, readFrom-cons, fit-readFrom-of-lt, fit-digitsOf-of-Nothing, fit-digitsOf-of-length}
+use Rattle.text.proofs.Numbers.{digit-range, readFrom-cons, fitted-readFrom-of-lt, fitted-digitsOf-of-TooLarge, fitted-digitsOf-of-length}
 use Rattle.text.proofs.number.leading_number.Statement.{statement}
 use Rattle.text.proofs.number.leading_number.Tie as tie
 
 -- the answer, read on from v at i
 abbrev On : List ℕ → ℕ → ℕ → ℕ → ℕ → Type 0
-On s from limit v i = fit limit (readFrom 0 (leading isDigit (drop from s))) ≡ fit limit (readFrom v (leading isDigit (drop i s)))
+On s from limit v i = fitted limit (readFrom 0 (leading isDigit (drop from s))) ≡ fitted limit (readFrom v (leading isDigit (drop i s)))
 
 abbrev Inv-loop : tie.InvT-loop
 Inv-loop s from limit v₀ i₀ v i = (v ≤ limit) × (past isDigit s from ≡ past isDigit s i) × On s from limit v i
@@ -32,18 +32,18 @@ abbrev μ-loop : tie.MeasureT-loop
 module _ (s : List ℕ) (from limit v i : ℕ) (on : On s from limit v i) where
   -- with one digit more the answer is the same
   step : (d : ℕ) → i < length s → isDigit (getD s i 0) ≡ true → d ≡ getD s i 0 - 48 → On s from limit (10 * v + d) (i + 1)
-  step d h e k = on ∙ ap (λ (t : List ℕ). fit limit (readFrom v t)) (leading-of-true isDigit s i h e) ∙ ap (fit limit) (readFrom-cons _ v _ d e k)
+  step d h e k = on ∙ ap (λ (t : List ℕ). fitted limit (readFrom v t)) (leading-of-true isDigit s i h e) ∙ ap (fitted limit) (readFrom-cons _ v _ d e k)
 
   -- if no digit is left, the value is the answer
-  done : v ≤ limit → past isDigit s from ≡ i → past isDigit s i ≡ i → fit limit (digitsOf (leading isDigit (drop from s))) ≡ cond (ltb from i) (Value v) Nothing
+  done : v ≤ limit → past isDigit s from ≡ i → past isDigit s i ≡ i → fitted limit (digitsOf (leading isDigit (drop from s))) ≡ cond (ltb from i) (Value v) Nothing
   unfolding readFrom
   done f p q =
-      fit-digitsOf-of-length _ limit v from i f (length-leading isDigit s from ∙ p)
-      (on ∙ ap (λ (t : List ℕ). fit limit (readFrom v t)) (leading-of-past isDigit s i q))
+      fitted-digitsOf-of-length _ limit v from i f (length-leading isDigit s from ∙ p)
+      (on ∙ ap (λ (t : List ℕ). fitted limit (readFrom v t)) (leading-of-past isDigit s i q))
 
   -- a digit that has no room
-  over : limit < v → fit limit (digitsOf (leading isDigit (drop from s))) ≡ Nothing
-  over h = fit-digitsOf-of-Nothing _ limit (on ∙ fit-readFrom-of-lt _ limit v h)
+  over : limit < v → fitted limit (digitsOf (leading isDigit (drop from s))) ≡ TooLarge
+  over h = fitted-digitsOf-of-TooLarge _ limit (on ∙ fitted-readFrom-of-lt _ limit v h)
 
 sub-as-u64 : tie.Need-sub-as-u64 Inv-loop μ-loop
 sub-as-u64 c = omega (arith, digit-range _ (sym (c .before .is-digit .ensures) ∙ c .if1 .taken))

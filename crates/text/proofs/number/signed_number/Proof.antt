@@ -7,7 +7,7 @@ use Prim.Native.Nat.{ℕ, _≤_, _<_}
 use native.Mathlib.Omega.{arith}
 use lib.ListN.{length}
 use lib.Seq.{take-all}
-use Rattle.text.specs.Number.{signedOf, fitSigned, halfOf, numeral}
+use Rattle.text.specs.Number.{signedOf, fitSigned, plain, halfOf, numeral}
 use Rattle.text.proofs.Numbers.{signedOf-of-numeral-lt}
 use borrow.Author.Needs.{needs}
 use Rattle.text.proofs.number.signed_number.Statement.{statement}
@@ -22,11 +22,12 @@ returns c =
     rw (signedOf-of-numeral-lt s h)
 
 returns-2 : tie.Need-returns-2
+unfolding fitSigned
 returns-2 c =
-    let at-read = c .before .before in
+    let at-read = c .before .before .before in
     let a = at-read .before .before .args in
-    let h : length (a .s .now) ≤ numeral (a .s .now) = omega (arith, at-read .leading-integer .ensures .end-is, c .if1 .left) in
-    at-read .leading-integer .ensures .number-is ∙ ap (λ (t : List ℕ). fitSigned (halfOf (a .width)) (signedOf t)) (take-all _ _ h)
+    let h : length (a .s .now) ≤ numeral (a .s .now) = omega (arith, at-read .leading-integer .ensures .end-is, c .before .if1 .left) in
+    c .plain .ensures ∙ ap plain (at-read .leading-integer .ensures .number-is) ∙ ap (λ (t : List ℕ). fitSigned (halfOf (a .width)) (signedOf t)) (take-all _ _ h)
 
 pub signed-number-spec : {M : Type 1} → statement M
-signed-number-spec = tie.close (tie.spec (λ c κs. search needs) returns returns-2)
+signed-number-spec = tie.close (tie.spec (λ c κs. search needs) returns (λ c κs. search needs) returns-2)
