@@ -3,7 +3,7 @@
 -- it.
 -- Assumes nothing.
 use mathlib.Core.Path.{_≡_, refl, ap, _∙_}
-use mathlib.Core.Bool.{true, false}
+use mathlib.Core.Bool.{Bool, true, false, cond}
 use mathlib.Core.List.{List, []}
 use Prim.Native.Nat.{ℕ, _+_, _-_, _≤_}
 use native.Mathlib.Omega.{arith}
@@ -20,9 +20,10 @@ use Rattle.text.proofs.Plain.{isPlain-of-isSign, isPlain-of-isDigit, no-space-o
 use Rattle.header.specs.Offset.{fieldsOf}
 use Rattle.header.specs.Header.{headerTime, headerOf}
 use Rattle.header.specs.Raw.{Limits, rawTime, rawOf}
-use Rattle.header.specs.Held.{Small, LeadsWithNumber, usualOf, endsAt, boundsOf, WordsRead}
+use Rattle.header.specs.Held.{Small, LeadsWithNumber, isNumber, usualOf, endsAt, boundsOf, WordsRead}
 use Rattle.header.specs.declared.offset.Field.the-variants.{Byte}
 use Rattle.header.specs.declared.offset.Fields.{Fields}
+use Rattle.header.specs.declared.offset.Parsed.{Parsed}
 use Rattle.header.specs.declared.offset.Parsed.the-variants.{Offset, Nothing}
 use Rattle.header.specs.declared.walk.First.{First}
 use Rattle.header.specs.declared.walk.Walked.the-variants.{Words}
@@ -65,6 +66,10 @@ module _ (s : List ℕ) (at : ℕ) (u : Usual s at) where
   unfolding isSpace
   ends = endsAt-of-lt s at (omega (arith, u .length-is)) ∙ ap isSpace (u .space)
 
+offset-of-cond : (b : Bool) (p : Parsed) (f : Fields) → cond b p Nothing ≡ Offset f → p ≡ Offset f
+offset-of-cond true p f e = e
+offset-of-cond false p f e = let q : _≡_ {A = ℕ} 0 1 = cc in absurd (omega arith)
+
 module _ (s : List ℕ) (r : LeadingInteger) (l : LeadsWithNumber s r) where
   pub end-le-length : r .end ≤ length s
   end-le-length =
@@ -89,9 +94,9 @@ module _ (s : List ℕ) (r : LeadingInteger) (l : LeadsWithNumber s r) where
       has-is = has-kept s r l ∙ has-drop-nil 58 s (third s (r .end)) n
 
   -- ---- the usual form
-  module _ (f : Fields) (e : usualOf s (r .end) ≡ Offset f) where
+  module _ (f : Fields) (e : cond (isNumber (r .number)) (usualOf s (r .end)) Nothing ≡ Offset f) where
     usual : Usual s (r .end) × (fieldsOf Byte (drop (r .end + 1) s) ≡ Offset f)
-    usual = Usual-of-usualOf s (r .end) f e
+    usual = Usual-of-usualOf s (r .end) f (offset-of-cond (isNumber (r .number)) (usualOf s (r .end)) f e)
 
     pub usual-small : Small f
     usual-small = fieldsOf-small Byte (drop (r .end + 1) s) f (usual .1)

@@ -14,7 +14,8 @@ use Rattle.text.specs.Bytes.{isSpace, isDigit, isSign, ascii}
 use Rattle.text.specs.Places.{run, no, past, has, part}
 use Rattle.text.specs.Words.{words}
 use Rattle.text.specs.Number.{LeadsWith}
-use Rattle.text.specs.declared.number.FittedInteger.the-variants.{Nothing as NoInteger}
+use Rattle.text.specs.declared.number.FittedInteger.{FittedInteger}
+use Rattle.text.specs.declared.number.FittedInteger.the-variants.{Is, TooLarge, Nothing as NoInteger}
 use Rattle.text.specs.declared.number.LeadingInteger.{LeadingInteger}
 use Rattle.text.specs.declared.words.Span.{Span}
 use Rattle.header.specs.Offset.{secondWord, fieldsOf}
@@ -44,6 +45,12 @@ twoDigits tens ones = 10 * (tens - code "0") + (ones - code "0")
 -- the number at the front of the first word, and where it ends
 abbrev pub LeadsWithNumber : List ℕ → LeadingInteger → Type 0
 LeadsWithNumber s r = let first = past isSpace s 0 in LeadsWith (2 ^ 63) (drop first s) first r
+
+-- whether a number was read, and not one that is too large
+abbrev pub isNumber : FittedInteger → Bool
+isNumber (Is z) = true
+isNumber TooLarge = false
+isNumber NoInteger = false
 
 -- whether the usual tail begins at a place: a space, a sign, four digits, and nothing more
 unfoldable pub isUsual : List ℕ → ℕ → Bool

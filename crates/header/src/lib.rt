@@ -35,7 +35,7 @@ pub fn parse_header(s: &[u8]) -> Answer
     if end == s.len() {
         return header_time(number, Parsed::Nothing);
     }
-    let usual = offset::usual_fields(s, end);
+    let usual = walk::usual_tail(s, opening);
     let Parsed::Offset(f) = usual else {
         return parse_other(s, opening);
     };

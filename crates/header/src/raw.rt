@@ -34,7 +34,7 @@ pub fn parse_raw(s: &[u8]) -> Answer
     if end == s.len() {
         return raw_time(Rule::One, number, Parsed::Nothing);
     }
-    let usual = offset::usual_fields(s, end);
+    let usual = walk::usual_tail(s, opening);
     let Parsed::Offset(f) = usual else {
         return parse_words(s, walk::read_words(s, opening), Rule::One);
     };
@@ -54,7 +54,7 @@ pub fn parse_raw_by(s: &[u8], rule: Rule) -> Answer
     if end == s.len() {
         return raw_time(rule, number, Parsed::Nothing);
     }
-    let usual = offset::usual_fields(s, end);
+    let usual = walk::usual_tail(s, opening);
     let Parsed::Offset(f) = usual else {
         return parse_words(s, read_on(s, opening), rule);
     };

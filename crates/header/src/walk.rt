@@ -9,7 +9,10 @@ ghost use lib.ListN.{drop};
 ghost use Rattle.text.specs.Bytes.{isSpace, ascii as asciiOf};
 ghost use Rattle.text.specs.Places.{past};
 ghost use Rattle.text.specs.declared.number.FittedInteger.the-variants.{Nothing};
-ghost use Rattle.header.specs.Held.{endsAt, hasColon, nowhere, boundsOf, LeadsWithNumber, WordsRead};
+ghost use Rattle.header.specs.Held.{endsAt, hasColon, nowhere, boundsOf, isNumber, usualOf, LeadsWithNumber, WordsRead};
+ghost use Rattle.header.specs.declared.offset.Parsed.the-variants.{Nothing as NoOffset};
+use crate::offset;
+use crate::offset::Parsed;
 use text::bytes;
 use text::number;
 use text::number::FittedInteger;
@@ -54,6 +57,29 @@ fn first_word(s: &[u8]) -> usize
         return 0;
     }
     scan::past(s, 0, Class::Space)
+}
+
+// The fields of the usual tail, if a number is in front of it. Then neither reader has to ask again
+// whether there is a number.
+pub fn usual_tail(s: &[u8], opening: LeadingInteger) -> Parsed
+    requires { ⌜ LeadsWithNumber (now s) opening ⌝ }
+    ensures { λ r. ⌜ r ≡ cond (isNumber (opening .number)) (usualOf (now (s .entry)) (opening .end)) NoOffset ⌝ }
+{
+    let number = opening.number;
+    if is_number(number) {
+        return offset::usual_fields(s, opening.end);
+    }
+    Parsed::Nothing
+}
+
+fn is_number(n: FittedInteger) -> bool
+    ensures { λ r. ⌜ r ≡ isNumber n ⌝ }
+{
+    match n {
+        FittedInteger::Is(_) => true,
+        FittedInteger::TooLarge => false,
+        FittedInteger::Nothing => false,
+    }
 }
 
 // Scans past the rest of the first word, white space, the second word, and white space again. At

@@ -2,7 +2,7 @@
 -- decide; any other text is read word by word.
 -- Assumes nothing.
 use mathlib.Core.Path.{sym, _∙_}
-use Rattle.header.proofs.Shortcuts.{end-le-length, usual-small, headerOf-of-usual, headerOf-of-alone}
+use Rattle.header.proofs.Shortcuts.{usual-small, headerOf-of-usual, headerOf-of-alone}
 use borrow.Author.Needs.{needs}
 use Rattle.header.proofs.parse_header.Statement.{statement}
 use Rattle.header.proofs.parse_header.Tie as tie
@@ -11,19 +11,16 @@ use Rattle.header.proofs.parse_header.Tie as tie
 returns : tie.Need-returns
 returns c = c .header-time .ensures ∙ sym (headerOf-of-alone _ _ (c .before .before .«open» .ensures) (c .before .if1 .taken))
 
-usual-fields-requires : tie.Need-usual-fields-requires
-usual-fields-requires c κs = end-le-length _ _ (c .before .«open» .ensures)
-
 -- the usual form
 header-time-requires-2 : tie.Need-header-time-requires-2
 header-time-requires-2 c κs =
     let at-fields = c .before .before .before in
-    usual-small _ _ (at-fields .before .before .«open» .ensures) _ (sym (at-fields .usual-fields .ensures) ∙ c .before .usual .given .1)
+    usual-small _ _ (at-fields .before .before .«open» .ensures) _ (sym (at-fields .usual-tail .ensures) ∙ c .before .usual .given .1)
 
 returns-3 : tie.Need-returns-3
 returns-3 c =
     let at-fields = c .before .before .before .before in
-    c .header-time2 .ensures ∙ sym (headerOf-of-usual _ _ (at-fields .before .before .«open» .ensures) _ (sym (at-fields .usual-fields .ensures) ∙ c .before .before .usual .given .1))
+    c .header-time2 .ensures ∙ sym (headerOf-of-usual _ _ (at-fields .before .before .«open» .ensures) _ (sym (at-fields .usual-tail .ensures) ∙ c .before .before .usual .given .1))
 
 pub parse-header-spec : {M : Type 1} → statement M
 parse-header-spec =
@@ -32,7 +29,7 @@ parse-header-spec =
     (λ c κs. search needs)
     (λ c κs. search needs)
     returns
-    usual-fields-requires
+    (λ c κs. search needs)
     (λ c. search needs)
     (λ c. search needs)
     (λ c κs. search needs)

@@ -2,7 +2,7 @@
 -- decide; any other text is read word by word.
 -- Assumes nothing.
 use mathlib.Core.Path.{sym, _∙_}
-use Rattle.header.proofs.Shortcuts.{end-le-length, usual-small, rawOf-of-usual, rawOf-of-alone}
+use Rattle.header.proofs.Shortcuts.{usual-small, rawOf-of-usual, rawOf-of-alone}
 use borrow.Author.Needs.{needs}
 use Rattle.header.proofs.raw.parse_raw_by.Statement.{statement}
 use Rattle.header.proofs.raw.parse_raw_by.Tie as tie
@@ -10,9 +10,6 @@ use Rattle.header.proofs.raw.parse_raw_by.Tie as tie
 -- a number alone
 returns : tie.Need-returns
 returns c = c .raw-time .ensures ∙ sym (rawOf-of-alone _ _ (c .before .before .«open» .ensures) (c .before .if1 .taken) _)
-
-usual-fields-requires : tie.Need-usual-fields-requires
-usual-fields-requires c κs = end-le-length _ _ (c .before .«open» .ensures)
 
 -- a text of any other form
 returns-2 : tie.Need-returns-2
@@ -22,13 +19,13 @@ returns-2 c = c .parse-words .ensures
 raw-time-requires-2 : tie.Need-raw-time-requires-2
 raw-time-requires-2 c κs =
     let at-fields = c .before .before .before in
-    usual-small _ _ (at-fields .before .before .«open» .ensures) _ (sym (at-fields .usual-fields .ensures) ∙ c .before .usual .given .1)
+    usual-small _ _ (at-fields .before .before .«open» .ensures) _ (sym (at-fields .usual-tail .ensures) ∙ c .before .usual .given .1)
 
 returns-3 : tie.Need-returns-3
 returns-3 c =
     let at-usual = c .before .before in
     let at-fields = at-usual .before .before in
-    c .raw-time2 .ensures ∙ sym (rawOf-of-usual _ _ (at-fields .before .before .«open» .ensures) _ (sym (at-fields .usual-fields .ensures) ∙ at-usual .usual .given .1) _)
+    c .raw-time2 .ensures ∙ sym (rawOf-of-usual _ _ (at-fields .before .before .«open» .ensures) _ (sym (at-fields .usual-tail .ensures) ∙ at-usual .usual .given .1) _)
 
 pub parse-raw-by-spec : {M : Type 1} → statement M
 parse-raw-by-spec =
@@ -37,7 +34,7 @@ parse-raw-by-spec =
     (λ c κs. search needs)
     (λ c κs. search needs)
     returns
-    usual-fields-requires
+    (λ c κs. search needs)
     (λ c. search needs)
     (λ c. search needs)
     (λ c κs. search needs)
