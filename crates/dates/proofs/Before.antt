@@ -2,7 +2,7 @@
 -- are read, as the same times (`any-reads-as-before`). "Any" as it was is in this file alone; `orElse` is that of today, since no reader
 -- answered 11, and it judges all other answers as it did.
 -- Assumes nothing.
-use mathlib.Core.Path.{_≡_, refl, sym}
+use mathlib.Core.Path.{_≡_, refl}
 use mathlib.Core.Bool.{cond}
 use mathlib.Core.List.{List, [], _∷_}
 use mathlib.Core.Logic.{_↔_, inl, ⊎-elim}
@@ -18,7 +18,7 @@ use Rattle.time.specs.declared.Refusal.the-variants.{NotAscii, Form}
 use Rattle.time.specs.declared.Answer.{Answer}
 use Rattle.time.specs.declared.Answer.the-variants.{Time, Refused}
 use Rattle.time.proofs.Before.{read-as-before}
-use Rattle.header.specs.Raw.{Limits, rawOf}
+use Rattle.header.specs.Raw.{Limits}
 use Rattle.header.proofs.Before.{rawWas, raw-as-before}
 use Rattle.iso.specs.Iso.{isoOf}
 use Rattle.relative.specs.Relative.{maxPairs, relativeOf}

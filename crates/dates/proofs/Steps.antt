@@ -20,7 +20,7 @@ use Rattle.text.proofs.Texts.{signedOf-not-ascii}
 use Rattle.time.specs.declared.Now.{Now}
 use Rattle.time.specs.declared.Refusal.the-variants.{NotAscii, Form}
 use Rattle.time.specs.declared.Answer.{Answer}
-use Rattle.time.specs.declared.Answer.the-variants.{Time, Refused}
+use Rattle.time.specs.declared.Answer.the-variants.{Refused}
 use Rattle.header.specs.Raw.{Limits, rawOf}
 use Rattle.iso.specs.Iso.{isoOf}
 use Rattle.relative.specs.Relative.{maxPairs, relativeOf}

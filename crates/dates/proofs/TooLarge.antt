@@ -3,14 +3,14 @@
 -- (`at-never-too-large`).
 -- Assumes nothing.
 use mathlib.Core.Path.{_≡_, sym, ap, _∙_}
-use mathlib.Core.Bool.{true, false, not, _&&_, _||_, false≢true}
+use mathlib.Core.Bool.{false, not, _&&_, _||_, false≢true}
 use mathlib.Core.List.{List, [], _∷_}
 use mathlib.Core.Logic.{_↔_}
 use Prim.Native.Char.{code}
 use Prim.Native.Nat.{ℕ, _+_, _*_}
 use native.Mathlib.Omega.{arith}
 use lib.Dec.{leb, ltb}
-use lib.IntN.{ℤ, pos, _-ℤ_}
+use lib.IntN.{ℤ, _-ℤ_}
 use lib.ListN.{length}
 use Rattle.text.specs.Bytes.{ascii}
 use Rattle.text.specs.Trim.{trim}
@@ -26,7 +26,7 @@ use Rattle.time.specs.declared.Now.the-variants.{Missing, At as CurrentAt}
 use Rattle.time.specs.declared.Refusal.the-variants.{TooLarge}
 use Rattle.time.specs.declared.Answer.{Answer}
 use Rattle.time.specs.declared.Answer.the-variants.{Time, Refused}
-use Rattle.header.specs.Raw.{Limits, rawOf}
+use Rattle.header.specs.Raw.{Limits}
 use Rattle.header.proofs.RawDates.{raw-too-large}
 use Rattle.iso.specs.Forms.{formOf}
 use Rattle.iso.specs.Iso.{dayOf, momentOf, zoned, isoOf}

@@ -1,47 +1,32 @@
 -- The time. In order: a part that is fitted to 32 bits and then to its limit; the clock by its three parts; its range; with
 -- colons and without.
 -- Assumes nothing.
-use mathlib.Core.Path.{_≡_, refl, subst}
+use mathlib.Core.Path.{_≡_}
 use mathlib.Core.List.{List, _∷_}
 use Prim.Native.Nat.{ℕ, _+_, _-_, _*_, _^_, _≤_, _<_}
 use native.Mathlib.Omega.{arith}
-use borrow.Author.Tests.{leb-true, leb-false, lt-leb, lt-ltb, le-ltb}
+use borrow.Author.Tests.{leb-true, leb-false, lt-ltb, le-ltb}
 use lib.Dec.{leb}
 use lib.ListN.{length, take, drop}
 use lib.Seq.{take-all}
-use Rattle.text.specs.Number.{fit, unsignedOf, AtMost}
+use Rattle.text.specs.Number.{fit, unsignedOf}
 use Rattle.text.specs.Places.{firstPlace, before, has}
 use Rattle.text.specs.Quote.{bytes}
 use Rattle.text.specs.Words.{pieces}
 use Rattle.text.specs.declared.number.Number.{Number}
 use Rattle.text.specs.declared.number.Number.the-variants.{Value, Nothing}
 use Rattle.text.proofs.Lists.{by-test, take-length-sub-drop}
+use Rattle.text.proofs.Numbers.{fit-fit}
 use Rattle.iso.specs.Clock.{timePart, secondOf, clock, isColon, colonTime, plainTime, isoTime}
 use Rattle.text.proofs.FirstPlaces.{pieces-of-lt, pieces-of-le}
 
 -- ---- a part
--- what fits the smaller limit fits the larger one too
-fit-fit : (a b : ℕ) (x : Number) → a ≤ b → fit a (fit b x) ≡ fit a x
-unfolding fit
-fit-fit a b (Value n) h =
-    by-test (leb n b) (λ e. rw e)
-    (λ e. let k : a < n = omega (arith, leb-false n b e) in rw (e, lt-leb n a k))
-fit-fit a b Nothing h = refl
-
--- so no part is lost by reading it up to its limit at once
+-- what fits the smaller limit fits the larger one too, so no part is lost by reading it up to its limit at once
 timePart-fit : (limit : ℕ) (s : List ℕ) → limit ≤ 2 ^ 32 - 1 → timePart limit s ≡ fit limit (unsignedOf s)
 unfolding timePart
 timePart-fit limit s h = fit-fit limit (2 ^ 32 - 1) (unsignedOf s) h
 
 -- ---- the clock
-AtMost-fit : (limit : ℕ) (x : Number) → AtMost limit (fit limit x)
-unfolding fit
-AtMost-fit limit (Value n) = by-test (leb n limit) (λ e. rw e (leb-true n limit e)) (λ e. rw e tt)
-AtMost-fit limit Nothing = tt
-
-pub fit-value-le : (limit : ℕ) (x : Number) {n : ℕ} → fit limit x ≡ Value n → n ≤ limit
-fit-value-le limit x e = subst (AtMost limit) e (AtMost-fit limit x)
-
 module _ (h m s : List ℕ) where
   clock-fit : clock h m s ≡ secondOf (fit 23 (unsignedOf h)) (fit 59 (unsignedOf m)) (fit 59 (unsignedOf s))
   unfolding clock

@@ -57,7 +57,7 @@ abbrev pub fitted : ℕ → Number → Fitted
 fitted limit (Value n) = cond (leb n limit) (Fits n) TooLargeNumber
 fitted limit NoNumber = NothingFits
 
--- the same for those who do not tell too large from no number
+-- the plain answer, for readers to which a number that is too large is no number
 abbrev pub plainNumber : Fitted → Number
 plainNumber (Fits n) = Value n
 plainNumber TooLargeNumber = NoNumber
@@ -76,7 +76,7 @@ abbrev pub fittedSigned : ℕ → Integer → FittedInteger
 fittedSigned half (Is z) = cond (leZ (negℤ (pos half)) z && ltZ z (pos half)) (FitsSigned z) TooLarge
 fittedSigned half NoInteger = NothingFitsSigned
 
--- the same for those who do not tell too large from no number
+-- the plain answer, for readers to which a number that is too large is no number
 abbrev pub plain : FittedInteger → Integer
 plain (FitsSigned z) = Is z
 plain TooLarge = NoInteger

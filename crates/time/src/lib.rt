@@ -125,6 +125,9 @@ pub enum Refusal {
     NotAscii,
     // 2: the text is not of the form asked for.
     Form,
+    // 11: the number that opens a header or a raw date is too large for 64 bits. It stands beside 2, as
+    // the other one after which "any" goes on: so the compiler tests for both at once.
+    TooLarge,
     // 3: the text is relative and the current time is missing.
     Missing,
     // 4: the text is relative and the current time's seconds or offset is out of range.
@@ -140,8 +143,6 @@ pub enum Refusal {
     Room,
     // 10: a book of stamps is too long or has a bad line; or the values given for a line would not be read back from it.
     Book,
-    // 11: the number that opens a header or a raw date is too large for 64 bits.
-    TooLarge,
 }
 
 // The number of a refusal (RULES 2.1).

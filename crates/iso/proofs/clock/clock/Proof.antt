@@ -3,7 +3,8 @@
 use mathlib.Core.Path.{sym, _∙_}
 use Prim.Native.Nat.{_≤_}
 use native.Mathlib.Omega.{arith}
-use Rattle.iso.proofs.Times.{fit-value-le, clock-value, clock-not-hour, clock-not-minute, clock-not-second}
+use Rattle.text.proofs.Numbers.{fit-value-le}
+use Rattle.iso.proofs.Times.{clock-value, clock-not-hour, clock-not-minute, clock-not-second}
 use borrow.Author.Needs.{needs}
 use Rattle.iso.proofs.clock.clock.Statement.{statement}
 use Rattle.iso.proofs.clock.clock.Tie as tie
