@@ -4,7 +4,6 @@
 use mathlib.Core.Path.{_≡_, refl}
 use Prim.Native.Nat.{ℕ, suc, _+_, _-_, _*_, _/_, _%_, _≤_, _<_}
 use native.Mathlib.Omega.{arith}
-use native.Mathlib.Nat.{div-lt-iff-lt-mul}
 use borrow.Author.Tests.{leb-true, leb-false}
 use lib.Dec.{leb}
 use lib.IntN.{ℤ, pos, negsuc, negℤ, _+ℤ_, _-ℤ_, _*ℤ_}
@@ -33,10 +32,9 @@ landed-of-lt z o h = rw (isIn-of-lt leastSeconds mostSeconds h)
 
 -- ---- seconds
 -- a difference below 0 is below the range
-pub seconds-far : (t n k : ℕ) (o : ℤ) → 1 ≤ k → t / k < n → landed (since1970 t -ℤ pos (n * k)) o ≡ Refused Range
-seconds-far t n k o h l =
-    let m : t < n * k = div-lt-iff-lt-mul h .0 l in
-    landed-of-lt _ o (parts-lt _ _ (omega (arith, add-parts (since1970 t) (negℤ (pos (n * k))), add-parts (pos t) (negsuc 377736739199), up-neg (pos (n * k)), dn-neg (pos (n * k)))))
+pub seconds-far : (t m : ℕ) (o : ℤ) → t < m → landed (since1970 t -ℤ pos m) o ≡ Refused Range
+seconds-far t m o l =
+    landed-of-lt _ o (parts-lt _ _ (omega (arith, add-parts (since1970 t) (negℤ (pos m)), add-parts (pos t) (negsuc 377736739199), up-neg (pos m), dn-neg (pos m))))
 
 -- ---- months
 -- months before month 0 begin before day 0

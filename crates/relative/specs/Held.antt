@@ -43,12 +43,6 @@ Coded (Seconds k) = (1 ≤ k) × (k ≤ 1000000)
 Coded (Months k) = (1 ≤ k) × (k ≤ 1000000)
 Coded Unknown = Unit {0}
 
--- a unit of at least one second or one month
-abbrev pub Sized : PairUnit → Type 0
-Sized (Seconds k) = 1 ≤ k
-Sized (Months k) = 1 ≤ k
-Sized Unknown = Unit {0}
-
 -- the pairs that the two lists hold
 unfoldable pub zipped : List ℕ → List ℕ → List Pair
 zipped [] us = []

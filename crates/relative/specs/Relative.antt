@@ -2,7 +2,7 @@
 -- Refusals are tested in the order 1, 2, 5, 3, 4, 6. The current time is looked at only once a text is known to be relative.
 -- Assumes nothing.
 use Prim.Native.Nat.{ℕ}
-use mathlib.Core.Bool.{cond, not, _&&_, _||_}
+use mathlib.Core.Bool.{Bool, cond, not, _&&_, _||_}
 use mathlib.Core.List.{List, [], _∷_}
 use lib.Dec.{leb, ltb}
 use lib.ListN.{length}
@@ -37,12 +37,13 @@ namedOf s =
     let t = trim s in
     cond (is t "now" || is t "today") (Value 0) (cond (is t "yesterday") (Value 86400) Nothing)
 
--- any other text goes by its pairs: 2 without a pair, 2 for an unknown unit without the mark, then 5 for too many pairs
+-- the answer a of n pairs: but 2 without a pair, 2 for units that are not allowed, then 5 for too many pairs
+abbrev pub verdict : ℕ → ℕ → Bool → Answer → Answer
+verdict bound n allowed a = cond (not (ltb 0 n && allowed)) (Refused Form) (cond (not (leb n bound)) (Refused Pairs) a)
+
+-- any other text goes by its pairs; an unknown unit is allowed with the mark
 unfoldable pub byPairs : ℕ → List ℕ → Now → Answer
-byPairs bound s current =
-    let ps = pairsOf s in
-    cond (not (ltb 0 (length ps) && (known ps || agoIn s))) (Refused Form)
-    (cond (not (leb (length ps) bound)) (Refused Pairs) (from current ps))
+byPairs bound s current = let ps = pairsOf s in verdict bound (length ps) (known ps || agoIn s) (from current ps)
 
 abbrev pub byName : Number → ℕ → List ℕ → Now → Answer
 byName (Value k) bound s current = from current (record { count = k; unit = Seconds 1 } ∷ [])

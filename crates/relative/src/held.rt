@@ -1,7 +1,7 @@
 // Pairs are stored in two arrays of numbers, the counts in one and the units in the other. A unit
 // is stored as its seconds, or as MONTHS_FROM plus its months; an unknown unit is 0.
 ghost use mathlib.Core.Path.{_≡_};
-ghost use Rattle.relative.specs.Held.{codeOf, unitAt, Coded, Sized};
+ghost use Rattle.relative.specs.Held.{codeOf, unitAt, Coded};
 use crate::pair::Unit;
 
 // How many pairs the arrays have room for: at least MAX_PAIRS (`maxPairs-le-places`).
@@ -24,8 +24,7 @@ pub fn code_of(u: Unit) -> u64
 
 // The unit that is stored as n.
 pub fn unit_at(n: u64) -> Unit
-    ensures is { λ r. ⌜ r ≡ unitAt n ⌝ }
-    ensures size { λ r. ⌜ Sized r ⌝ }
+    ensures { λ r. ⌜ r ≡ unitAt n ⌝ }
 {
     if n == 0 {
         return Unit::Unknown;

@@ -7,18 +7,18 @@ mod held;
 mod pair;
 mod pairs;
 mod steps;
-mod words;
+pub mod words;
 
 ghost use mathlib.Core.Path.{_≡_};
 ghost use mathlib.Core.List.{_∷_, []};
 ghost use Rattle.calendar.specs.Table.{IsMonths};
 ghost use Rattle.relative.specs.Relative.{maxPairs, from, namedOf, byPairs, relativeOf};
-ghost use Rattle.relative.specs.declared.pair.Unit.the-variants.{Seconds};
 use calendar::SECONDS_PER_DAY;
 use held::PLACES;
 pub use pair::MAX_PAIRS;
 pub use pair::Pair;
 pub use pair::Unit;
+pub use pair::is_known;
 use pairs::Counted;
 use steps::Start;
 use text::number::Number;
@@ -50,14 +50,20 @@ pub fn parse_with(months: &[u32], s: &[u8], current: Now) -> Answer
         let Number::Value(k) = named else {
             return parse_pairs(months, s, current);
         };
-        return seconds_before(current, k);
+        return pair_before(
+            current,
+            Pair {
+                count: k,
+                unit: Unit::Seconds(1),
+            },
+        );
     }
     Answer::Refused(Refusal::NotAscii)
 }
 
 // How many seconds before the current time `now`, `today` or `yesterday` is. Any other text is Nothing,
 // also `yesterday 1 day`.
-fn parse_named(s: &[u8]) -> Number
+pub fn parse_named(s: &[u8]) -> Number
     ensures { λ r. ⌜ r ≡ namedOf (now (s .entry)) ⌝ }
 {
     let t = text::trim::trimmed(s);
@@ -73,13 +79,17 @@ fn parse_named(s: &[u8]) -> Number
     Number::Nothing
 }
 
-// The time k seconds before the current time.
-fn seconds_before(current: Now, k: u64) -> Answer
-    ensures { λ r. ⌜ r ≡ from current (record { count = k; unit = Seconds 1 } ∷ []) ⌝ }
+// The time one pair before the current time. It is refused as
+//   Missing (3)  if there is no current time,
+//   Current (4)  if the current time is out of range,
+//   Range (6)    if the pair lands out of range.
+// An unknown unit is a second here: whether it is allowed is for a reader to say.
+pub fn pair_before(current: Now, pair: Pair) -> Answer
+    ensures { λ r. ⌜ r ≡ from current (pair ∷ []) ⌝ }
 {
     let start = steps::start_of(current);
     match start {
-        Start::From(i) => steps::answer(steps::seconds_back(i, k, 1)),
+        Start::From(i) => steps::answer(steps::subtract_pair(&[], pair, i)),
         Start::Refused(r) => Answer::Refused(r),
     }
 }

@@ -1,4 +1,6 @@
 // A pair is a count and its unit.
+ghost use mathlib.Core.Path.{_≡_};
+ghost use Rattle.relative.specs.Pairs.{isKnown};
 
 // The most pairs that a text may have; with more it is refused by 5.
 pub const MAX_PAIRS: usize = 32;
@@ -14,4 +16,14 @@ pub enum Unit {
 pub struct Pair {
     pub count: u64,
     pub unit: Unit,
+}
+
+pub fn is_known(u: Unit) -> bool
+    ensures { λ r. ⌜ r ≡ isKnown u ⌝ }
+{
+    match u {
+        Unit::Seconds(_) => true,
+        Unit::Months(_) => true,
+        Unit::Unknown => false,
+    }
 }

@@ -5,10 +5,10 @@ ghost use mathlib.Core.Bool.{_||_};
 ghost use Prim.Native.Nat.{_≤_};
 ghost use lib.ListN.{length, take};
 ghost use Rattle.relative.specs.Held.{places, zipped, countedOf, Holds};
-ghost use Rattle.relative.specs.Pairs.{isKnown, known, pairsOf, agoIn};
+ghost use Rattle.relative.specs.Pairs.{known, pairsOf, agoIn};
 use crate::held;
 use crate::held::PLACES;
-use crate::pair::Unit;
+use crate::pair;
 use crate::words;
 use text::bytes;
 use text::number::Number;
@@ -91,7 +91,7 @@ fn scan(s: &[u8], counts: &mut [u64; PLACES], units: &mut [u64; PLACES]) -> Scan
         };
         w = after;
         let u = words::unit(text::words::within(s, y));
-        known = known & is_known(u);
+        known = known & pair::is_known(u);
         if n < PLACES {
             let code = held::code_of(u);
             counts[n] = v;
@@ -100,15 +100,5 @@ fn scan(s: &[u8], counts: &mut [u64; PLACES], units: &mut [u64; PLACES]) -> Scan
             continue;
         }
         n += 1;
-    }
-}
-
-fn is_known(u: Unit) -> bool
-    ensures { λ r. ⌜ r ≡ isKnown u ⌝ }
-{
-    match u {
-        Unit::Seconds(_) => true,
-        Unit::Months(_) => true,
-        Unit::Unknown => false,
     }
 }

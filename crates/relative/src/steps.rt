@@ -2,12 +2,13 @@
 // product or difference overflows, however large a count is: it is compared with a quotient first.
 ghost use mathlib.Core.Path.{_≡_};
 ghost use Prim.Native.Nat.{_*_, _≤_};
+ghost use lib.Dec.{leb};
 ghost use lib.IntN.{pos, _-ℤ_};
 ghost use lib.ListN.{length, take};
 ghost use Rattle.calendar.specs.Table.{IsMonths};
 ghost use Rattle.time.specs.Range.{since1970, timeOf, InRange, MovedInRange};
 ghost use Rattle.time.specs.declared.Answer.the-variants.{Time as TimeAt};
-ghost use Rattle.relative.specs.Held.{places, Sized, zipped, startOf, StartInRange, answerOf};
+ghost use Rattle.relative.specs.Held.{places, zipped, startOf, StartInRange, answerOf};
 ghost use Rattle.relative.specs.Steps.{monthsEarlier, landed, step, steps};
 use crate::held;
 use crate::held::PLACES;
@@ -85,8 +86,8 @@ pub fn subtract_pairs(
 }
 
 // Subtracts one pair. An unknown unit is a second.
-fn subtract_pair(months: &[u32], p: Pair, i: Instant) -> Moved
-    requires { ⌜ IsMonths (now months) × InRange i × Sized (p .unit) ⌝ }
+pub fn subtract_pair(months: &[u32], p: Pair, i: Instant) -> Moved
+    requires { ⌜ IsMonths (now months) × InRange i ⌝ }
     ensures is { λ r. ⌜ answerOf r ≡ step p (TimeAt (timeOf i)) ⌝ }
     ensures range { λ r. ⌜ MovedInRange r ⌝ }
 {
@@ -100,38 +101,48 @@ fn subtract_pair(months: &[u32], p: Pair, i: Instant) -> Moved
 }
 
 // n * k seconds earlier.
-pub fn seconds_back(i: Instant, n: u64, k: u64) -> Moved
-    requires { ⌜ InRange i × (1 ≤ k) ⌝ }
+fn seconds_back(i: Instant, n: u64, k: u64) -> Moved
+    requires { ⌜ InRange i ⌝ }
     ensures is { λ r. ⌜ answerOf r ≡ landed (since1970 (i .seconds) -ℤ pos (n * k)) (timeOf i .offset) ⌝ }
     ensures range { λ r. ⌜ MovedInRange r ⌝ }
 {
     let t = i.seconds;
-    if t / k < n {
-        return Moved::Nothing;
+    if product_within(n, k, t) {
+        return if_in_range(t - n * k, i.offset);
     }
-    if_in_range(t - n * k, i.offset)
+    Moved::Nothing
 }
 
 // n * k months earlier, on the local clock. The landing is tested for range, not the first day of
 // its month: at offset 0, January of year -9999 begins out of range.
 fn months_earlier(months: &[u32], i: Instant, n: u64, k: u64) -> Moved
-    requires { ⌜ IsMonths (now months) × InRange i × (1 ≤ k) ⌝ }
+    requires { ⌜ IsMonths (now months) × InRange i ⌝ }
     ensures is { λ r. ⌜ answerOf r ≡ landed (monthsEarlier (timeOf i) (n * k)) (timeOf i .offset) ⌝ }
     ensures range { λ r. ⌜ MovedInRange r ⌝ }
 {
     let t = i.seconds;
     let o = i.offset;
-    if MONTHS_COUNTED / k < n {
-        return Moved::Nothing;
+    if product_within(n, k, MONTHS_COUNTED) {
+        let back = calendar::months_back(months, t + o - OFFSET_ZERO, n * k);
+        let Found::At(l) = back else {
+            return Moved::Nothing;
+        };
+        if l + OFFSET_ZERO < o {
+            return Moved::Nothing;
+        }
+        return if_in_range(l + OFFSET_ZERO - o, o);
     }
-    let back = calendar::months_back(months, t + o - OFFSET_ZERO, n * k);
-    let Found::At(l) = back else {
-        return Moved::Nothing;
-    };
-    if l + OFFSET_ZERO < o {
-        return Moved::Nothing;
+    Moved::Nothing
+}
+
+// Whether n * k is at most `bound`. The product itself may overflow, so n is compared with a quotient.
+fn product_within(n: u64, k: u64, bound: u64) -> bool
+    ensures { λ r. ⌜ r ≡ leb (n * k) bound ⌝ }
+{
+    if k == 0 {
+        return true;
     }
-    if_in_range(l + OFFSET_ZERO - o, o)
+    n <= bound / k
 }
 
 // A landing, if it is in range.

@@ -1,20 +1,19 @@
 -- `relative::steps::subtract_pair` meets its contract.
 -- Assumes nothing.
 use native.Mathlib.Nat.{mul-one}
-use native.Mathlib.Omega.{arith}
 use Rattle.relative.specs.Steps.{step, landing}
 use borrow.Author.Needs.{needs}
 use Rattle.relative.proofs.steps.subtract_pair.Statement.{statement}
 use Rattle.relative.proofs.steps.subtract_pair.Tie as tie
 
 seconds-back-requires : tie.Need-seconds-back-requires
-seconds-back-requires c κs = (c .before .before .before .before .pre .1, rw (c .before .unit .given .1) at (c .before .before .before .before .pre .2))
+seconds-back-requires c κs = c .before .before .before .before .pre .1
 
 months-earlier-requires : tie.Need-months-earlier-requires
-months-earlier-requires c κs = (c .before .before .before .before .pre .0, c .before .before .before .before .pre .1, rw (c .before .unit2 .given .1) at (c .before .before .before .before .pre .2))
+months-earlier-requires c κs = c .before .before .before .before .pre
 
 seconds-back-requires-2 : tie.Need-seconds-back-requires-2
-seconds-back-requires-2 c κs = (c .before .before .before .pre .1, omega arith)
+seconds-back-requires-2 c κs = c .before .before .before .pre .1
 
 returns : tie.Need-returns
 unfolding step landing

@@ -30,13 +30,13 @@ onward c =
     let at-start = c .before .before .before .before .before .before .before in
     let a = at-start .args in
     let at-loop = c .before .before .before .before .before .loop in
-    at-loop .inv .2 ∙ steps-next (a .counts .now) (a .units .now) (at-start .pre .0 .1) (at-start .pre .0 .2) (a .n) (at-start .pre .1 .0) (at-loop .k) _ _ (c .before .before .before .before .loop-test .taken) (c .before .before .unit-at .ensures .0) ∙ ap (steps (drop (at-loop .k + 1) (take (a .n) (zipped (a .counts .now) (a .units .now))))) (sym (c .subtract-pair .ensures .0))
+    at-loop .inv .2 ∙ steps-next (a .counts .now) (a .units .now) (at-start .pre .0 .1) (at-start .pre .0 .2) (a .n) (at-start .pre .1 .0) (at-loop .k) _ _ (c .before .before .before .before .loop-test .taken) (c .before .before .unit-at .ensures) ∙ ap (steps (drop (at-loop .k + 1) (take (a .n) (zipped (a .counts .now) (a .units .now))))) (sym (c .subtract-pair .ensures .0))
 
 loop-holds : tie.Need-loop-holds Inv-loop μ-loop
 loop-holds c = (search needs, c .before .pre .1 .1, refl)
 
 subtract-pair-requires : tie.Need-subtract-pair-requires Inv-loop μ-loop
-subtract-pair-requires c κs = (c .before .before .before .before .before .before .pre .0 .0, c .before .before .before .before .loop .inv .1, c .before .unit-at .ensures .1)
+subtract-pair-requires c κs = (c .before .before .before .before .before .before .pre .0 .0, c .before .before .before .before .loop .inv .1)
 
 -- out of range
 returns : tie.Need-returns Inv-loop μ-loop

@@ -1,0 +1,36 @@
+-- `relative::pair_before` meets its contract.
+-- Assumes nothing.
+use mathlib.Core.Path.{sym, _∙_}
+use Rattle.relative.specs.Steps.{steps}
+use Rattle.relative.proofs.Cases.{from-of-start}
+use borrow.Author.Needs.{needs}
+use Rattle.relative.proofs.pair_before.Statement.{statement}
+use Rattle.relative.proofs.pair_before.Tie as tie
+
+subtract-pair-requires : tie.Need-subtract-pair-requires
+subtract-pair-requires c κs =
+    let at-start = c .before .before in
+    (search needs, rw (at-start .start .given .1) at (at-start .before .before .start-of .ensures .1))
+
+returns : tie.Need-returns
+unfolding steps
+returns c =
+    let at-start = c .before .before .before .before in
+    c .answer .ensures ∙ c .before .subtract-pair .ensures .0 ∙ sym (from-of-start _ _ _ _ (at-start .before .before .start-of .ensures .0) (at-start .start .given .1))
+
+-- 3 or 4
+returns-2 : tie.Need-returns-2
+returns-2 c = sym (from-of-start _ _ _ _ (c .before .before .before .start-of .ensures .0) (c .before .start2 .given .1))
+
+pub pair-before-spec : {M : Type 1} → statement M
+pair-before-spec =
+    tie.close
+    (tie.spec
+    (λ c κs. search needs)
+    (λ c. search needs)
+    (λ c. search needs)
+    subtract-pair-requires
+    (λ c κs. search needs)
+    (λ c. search needs)
+    returns
+    returns-2)

@@ -1,0 +1,28 @@
+-- RULES 12.8: the second reader answers as the first on each text of at most 4,096 bytes. RULES 7.12: a longer text is 2, after 1. The
+-- contract of `parse` carries this to the code.
+-- Assumes nothing.
+use mathlib.Core.Path.{_≡_}
+use mathlib.Core.Bool.{true, false, and-false}
+use mathlib.Core.List.{List}
+use Prim.Native.Nat.{ℕ, _≤_, _<_}
+use borrow.Author.Tests.{lt-ltb, le-ltb}
+use lib.ListN.{length}
+use Rattle.text.specs.Bytes.{ascii}
+use Rattle.time.specs.declared.Now.{Now}
+use Rattle.time.specs.declared.Refusal.the-variants.{NotAscii, Form}
+use Rattle.time.specs.declared.Answer.the-variants.{Refused}
+use Rattle.relative.specs.Relative.{relativeOf}
+use Rattle.turns.specs.Turns.{maxLength, turnsOf}
+
+module _ (bound : ℕ) (s : List ℕ) (current : Now) where
+  pub turns-as-relative : length s ≤ maxLength → turnsOf bound s current ≡ relativeOf bound s current
+  unfolding turnsOf
+  turns-as-relative h = rw (le-ltb maxLength (length s) h, and-false)
+
+  pub turns-too-long : ascii s ≡ true → maxLength < length s → turnsOf bound s current ≡ Refused Form
+  unfolding turnsOf
+  turns-too-long a h = rw (a, lt-ltb maxLength (length s) h)
+
+  pub turns-not-ascii : ascii s ≡ false → turnsOf bound s current ≡ Refused NotAscii
+  unfolding turnsOf relativeOf
+  turns-not-ascii a = rw a

@@ -1,0 +1,49 @@
+-- `turns::parse` meets its contract.
+-- Assumes nothing.
+use mathlib.Core.Path.{sym, _∙_}
+use Rattle.relative.specs.Relative.{byPairs, relativeOf}
+use Rattle.turns.proofs.Alike.{turns-as-relative, turns-too-long, turns-not-ascii}
+use borrow.Author.Needs.{needs}
+use Rattle.turns.proofs.parse.Statement.{statement}
+use Rattle.turns.proofs.parse.Tie as tie
+
+-- too long
+returns : tie.Need-returns
+returns c = sym (turns-too-long _ _ _ (sym (c .before .before .is-ascii .ensures) ∙ c .before .if1 .taken) (c .if2 .taken))
+
+-- words, in turns
+returns-2 : tie.Need-returns-2
+unfolding relativeOf byPairs
+returns-2 c =
+    let at-named = c .before .before .before .before in
+    let at-short = at-named .before in
+    rw (turns-as-relative _ _ _ (at-short .if2 .left), ← at-short .before .before .is-ascii .ensures, at-short .before .if1 .taken, ← at-named .parse-named .ensures, c .before .before .enum-told .given .1)
+    (c .await-count .ensures ∙ c .before .start .ensures _ _)
+
+-- `now`, `today` or `yesterday`
+returns-3 : tie.Need-returns-3
+unfolding relativeOf
+returns-3 c =
+    let at-named = c .before .before .before .before in
+    let at-short = at-named .before in
+    rw (turns-as-relative _ _ _ (at-short .if2 .left), ← at-short .before .before .is-ascii .ensures, at-short .before .if1 .taken, ← at-named .parse-named .ensures, c .before .before .named .given .1)
+    (c .pair-before .ensures)
+
+returns-4 : tie.Need-returns-4
+returns-4 c = sym (turns-not-ascii _ _ _ (sym (c .before .is-ascii .ensures) ∙ c .if1 .left))
+
+pub parse-spec : {M : Type 1} → statement M
+parse-spec =
+    tie.close
+    (tie.spec
+    (λ c κs. search needs)
+    returns
+    (λ c κs. search needs)
+    (λ c. search needs)
+    (λ c. search needs)
+    (λ c κs. search needs)
+    (λ c κs. search needs)
+    returns-2
+    (λ c κs. search needs)
+    returns-3
+    returns-4)

@@ -1,0 +1,93 @@
+// Relative dates (RULES 7), read by two functions that take turns. `await_count` waits for a count,
+// `await_unit` for its unit, and each hands the rest of the text to the other.
+// docs/relative-dates.md explains relative dates by these two.
+//
+// No pair is stored: each is subtracted when its unit is read. A call goes one level deeper with
+// every word, so texts are limited to MAX_LENGTH bytes. `relative::parse` gives the same answers
+// without that limit.
+mod reading;
+
+ghost use mathlib.Core.Path.{_≡_};
+ghost use Rattle.text.specs.declared.number.Number.the-variants.{Value, Nothing};
+ghost use Rattle.relative.specs.Relative.{maxPairs};
+ghost use Rattle.turns.specs.Turns.{turnsOf};
+ghost use Rattle.turns.specs.Reading.{readRest};
+use reading::Reading;
+use relative::Pair;
+use relative::Unit;
+use relative::words;
+use text::bytes;
+use text::number::Number;
+use text::places;
+use text::words::Separator;
+use text::words::Taken;
+use text::words::Words;
+use time::Answer;
+use time::Now;
+use time::Refusal;
+
+// The most bytes that a text may have, counted before anything is trimmed.
+pub const MAX_LENGTH: usize = 4096;
+
+// The time that a relative text means, as `relative::parse` answers it. A text of more than
+// MAX_LENGTH bytes is refused as Form (2), unless it has a byte of 128 or more: then it is
+// NotAscii (1).
+pub fn parse(s: &[u8], current: Now) -> Answer
+    ensures { λ r. ⌜ r ≡ turnsOf maxPairs (now (s .entry)) current ⌝ }
+{
+    if bytes::is_ascii(s) {
+        if s.len() > MAX_LENGTH {
+            return Answer::Refused(Refusal::Form);
+        }
+        let named = relative::parse_named(s);
+        let Number::Value(k) = named else {
+            return await_count(s, reading::start(current));
+        };
+        return relative::pair_before(
+            current,
+            Pair {
+                count: k,
+                unit: Unit::Seconds(1),
+            },
+        );
+    }
+    Answer::Refused(Refusal::NotAscii)
+}
+
+// Waits for a count. `ago` sets the mark; any other word that is not a count is passed over.
+fn await_count(s: &[u8], reading: Reading) -> Answer
+    ensures { λ r. ⌜ r ≡ readRest maxPairs reading Nothing (now (s .entry)) ⌝ }
+{
+    let taken = Words::new().take(s, Separator::Mark);
+    let Taken::Word(x, next) = taken else {
+        return reading.verdict();
+    };
+    let word = text::words::within(s, x);
+    let rest = places::from(s, next.at);
+    if bytes::same_ignoring_case(word, b"ago") {
+        return await_count(rest, reading.with_mark());
+    }
+    let count = words::count(word);
+    let Number::Value(n) = count else {
+        return await_count(rest, reading);
+    };
+    await_unit(rest, n, reading)
+}
+
+// Waits for the unit of the count n. The very next word is the unit, even if it is `ago` or a
+// number. A count at the end of the text is dropped.
+fn await_unit(s: &[u8], n: u64, reading: Reading) -> Answer
+    ensures { λ r. ⌜ r ≡ readRest maxPairs reading (Value n) (now (s .entry)) ⌝ }
+{
+    let taken = Words::new().take(s, Separator::Mark);
+    let Taken::Word(x, next) = taken else {
+        return reading.verdict();
+    };
+    let word = text::words::within(s, x);
+    let rest = places::from(s, next.at);
+    let pair = Pair {
+        count: n,
+        unit: words::unit(word),
+    };
+    await_count(rest, reading.with_pair(pair))
+}
