@@ -38,6 +38,12 @@ use Rattle.iso.proofs.parse_git_date_format.Reads as parse-git-date-format
 use Rattle.iso.proofs.parse_git_date_format_with.Reads as parse-git-date-format-with
 use Rattle.relative.proofs.parse.Reads as relative-parse
 use Rattle.relative.proofs.parse_with.Reads as relative-parse-with
+use Rattle.relative.proofs.parse_named.Reads as relative-parse-named
+use Rattle.relative.proofs.pair_before.Reads as relative-pair-before
+use Rattle.relative.proofs.is_known.Reads as relative-is-known
+use Rattle.relative.proofs.words.count.Reads as relative-count
+use Rattle.relative.proofs.words.unit.Reads as relative-unit
+use Rattle.turns.proofs.parse.Reads as turns-parse
 use Rattle.dates.proofs.parse.Reads as dates-parse
 use Rattle.dates.proofs.parse_with.Reads as dates-parse-with
 use Rattle.dates.proofs.parse_by.Reads as dates-parse-by
@@ -56,6 +62,7 @@ use Rattle.chowderbell.proofs.times.chowderbell_raw.Reads as chowderbel
 use Rattle.chowderbell.proofs.times.chowderbell_raw_by.Reads as chowderbell-raw-by
 use Rattle.chowderbell.proofs.times.chowderbell_iso.Reads as chowderbell-iso
 use Rattle.chowderbell.proofs.times.chowderbell_relative.Reads as chowderbell-relative
+use Rattle.chowderbell.proofs.times.chowderbell_relative_turns.Reads as chowderbell-relative-turns
 use Rattle.chowderbell.proofs.times.chowderbell_any.Reads as chowderbell-any
 use Rattle.chowderbell.proofs.times.chowderbell_any_by.Reads as chowderbell-any-by
 use Rattle.chowderbell.proofs.times.chowderbell_size.Reads as chowderbell-size
@@ -141,6 +148,24 @@ relative-parse-unique κ a r s e f = one-answer
 pub relative-parse-with-unique : OneAnswer relative-parse-with.Post
 relative-parse-with-unique κ a r s e f = one-answer
 
+pub relative-parse-named-unique : OneAnswer relative-parse-named.Post
+relative-parse-named-unique κ a r s e f = one-answer
+
+pub relative-pair-before-unique : OneAnswer relative-pair-before.Post
+relative-pair-before-unique κ a r s e f = one-answer
+
+pub relative-is-known-unique : OneAnswer relative-is-known.Post
+relative-is-known-unique κ a r s e f = one-answer
+
+pub relative-count-unique : OneAnswer relative-count.Post
+relative-count-unique κ a r s e f = one-answer
+
+pub relative-unit-unique : OneAnswer relative-unit.Post
+relative-unit-unique κ a r s e f = one-answer
+
+pub turns-parse-unique : OneAnswer turns-parse.Post
+turns-parse-unique κ a r s e f = one-answer
+
 pub dates-parse-unique : OneAnswer dates-parse.Post
 dates-parse-unique κ a r s e f = one-answer
 
@@ -200,6 +225,9 @@ chowderbell-iso-unique κ a r s e f = HandedOut-unique
 
 pub chowderbell-relative-unique : OneAnswerAnd chowderbell-relative.Post (ℤ × ℤ) (λ κ e. (now (e .1 .1 .1 .1 .0), now (e .1 .1 .1 .1 .1 .0)))
 chowderbell-relative-unique κ a r s e f = HandedOut-unique
+
+pub chowderbell-relative-turns-unique : OneAnswerAnd chowderbell-relative-turns.Post (ℤ × ℤ) (λ κ e. (now (e .1 .1 .1 .1 .0), now (e .1 .1 .1 .1 .1 .0)))
+chowderbell-relative-turns-unique κ a r s e f = HandedOut-unique
 
 pub chowderbell-any-unique : OneAnswerAnd chowderbell-any.Post (ℤ × ℤ) (λ κ e. (now (e .1 .1 .1 .1 .0), now (e .1 .1 .1 .1 .1 .0)))
 chowderbell-any-unique κ a r s e f = HandedOut-unique

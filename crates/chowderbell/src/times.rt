@@ -10,6 +10,7 @@ ghost use Rattle.header.specs.Header.{headerOf};
 ghost use Rattle.header.specs.Raw.{rawOf, rule1};
 ghost use Rattle.iso.specs.Iso.{isoOf};
 ghost use Rattle.relative.specs.Relative.{maxPairs, relativeOf};
+ghost use Rattle.turns.specs.Turns.{turnsOf};
 ghost use Rattle.dates.specs.Any.{anyOf};
 ghost use Rattle.chowderbell.specs.Entries.{nowOf, ruleOf, noRule, ruled, HandedOut, HandedLength};
 use header::raw;
@@ -82,6 +83,25 @@ pub extern "C" fn chowderbell_relative(
 {
     hand_out(
         relative::parse(text, now_of(has_now, now_seconds, now_offset)),
+        seconds,
+        offset,
+    )
+}
+
+// The same by the second reader, for texts of at most 4,096 bytes (RULES 7.12).
+#[no_mangle]
+pub extern "C" fn chowderbell_relative_turns(
+    text: &[u8],
+    has_now: u8,
+    now_seconds: i64,
+    now_offset: i32,
+    seconds: &mut i64,
+    offset: &mut i32,
+) -> u8
+    ensures { λ r. ⌜ HandedOut (turnsOf maxPairs (now (text .entry)) (nowOf «has_now» «now_seconds» «now_offset»)) r (now (seconds .exit)) (now (offset .exit)) ⌝ }
+{
+    hand_out(
+        turns::parse(text, now_of(has_now, now_seconds, now_offset)),
         seconds,
         offset,
     )
