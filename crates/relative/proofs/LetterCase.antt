@@ -8,14 +8,15 @@ use Prim.Native.Nat.{ℕ, _-_}
 use Prim.Native.Char.{code}
 use lib.Dec.{eqb}
 use lib.ListN.{length, getD}
-use Rattle.text.specs.Bytes.{lowerOf, sameLetters}
+use Rattle.text.specs.Bytes.{isDigit, lowerOf, sameLetters}
 use Rattle.text.specs.Quote.{bytes}
+use Rattle.text.specs.Number.{fit, digitsOf, readFrom}
 use Rattle.text.specs.declared.number.Number.{Number}
 use Rattle.text.specs.declared.number.Number.the-variants.{Value, Nothing}
 use Rattle.text.proofs.Lists.{by-test}
 use Rattle.text.proofs.LowerCase.{lowerOf-lowerOf, lowers, ascii-lowers, sameLetters-lowers, lowers-of-same, trim-lowers, length-lowers, getD-lowers, take-lowers, allLowers, words-lowers, digitsOf-lowers}
 use Rattle.time.specs.declared.Now.{Now}
-use Rattle.relative.specs.Words.{wordsOf, spelled, countOf, singular, unitNamed, unitOf}
+use Rattle.relative.specs.Words.{wordsOf, is, spelled, countOf, singular, unitNamed, unitOf}
 use Rattle.relative.specs.Pairs.{next, pairsFrom, agoFrom}
 use Rattle.relative.specs.Relative.{namedOf, byPairs, byName, relativeOf}
 
@@ -68,6 +69,11 @@ byName-lowers Nothing bound s current = byPairs-lowers bound s current
 relativeOf-lowers : (bound : ℕ) (s : List ℕ) (current : Now) → relativeOf bound (lowers s) current ≡ relativeOf bound s current
 unfolding relativeOf
 relativeOf-lowers bound s current = rw (ascii-lowers s, namedOf-lowers s, byName-lowers (namedOf s) bound s current)
+
+-- ---- `ago` is no count, so that either may be looked for first
+pub ago-is-no-count : (w : List ℕ) → is w "ago" ≡ true → countOf w ≡ Nothing
+unfolding countOf spelled sameLetters lowerOf fit digitsOf readFrom isDigit
+ago-is-no-count w e = sym (countOf-lowers w) ∙ ap countOf (lowers-of-same w (bytes "ago") e)
 
 -- ---- the theorem
 pub letter-case-does-not-matter : (bound : ℕ) (s t : List ℕ) (current : Now) → sameLetters s t ≡ true → relativeOf bound s current ≡ relativeOf bound t current

@@ -1,8 +1,8 @@
--- What a reading answers in the end, along its way: at the start, past the mark, past a pair, and with nothing left. In order: pairs
+-- What a reading answers in the end, along its way: at the start, past a word that is no count, past a pair, and with nothing left. In order: pairs
 -- subtracted one by one; the four laws.
 -- Assumes nothing.
 use mathlib.Core.Path.{_≡_, refl, sym, _∙_}
-use mathlib.Core.Bool.{true, false, _&&_, _||_, and-assoc, and-true, or-false, or-true}
+use mathlib.Core.Bool.{Bool, true, false, _&&_, _||_, and-assoc, and-true, or-false, or-assoc}
 use mathlib.Core.List.{List, [], _∷_}
 use Prim.Native.Nat.{ℕ, _+_, _≤_}
 use native.Mathlib.Nat.{zero-add, add-zero}
@@ -61,10 +61,10 @@ module _ (bound : ℕ) where
   readOn-start current (p ∷ ps) ago = rw (zero-add, subtracted-unmoved current p ps)
 
   module _ (r : Reading) where
-    -- ---- the mark
-    pub readOn-mark : AnswersBy bound (record { pairs = r .pairs; known = r .known; ago = true; answer = r .answer }) (λ ps ago. readOn bound r ps true)
+    -- ---- a word passed over, which may set the mark
+    pub readOn-past : (mark : Bool) → AnswersBy bound (record { pairs = r .pairs; known = r .known; ago = r .ago || mark; answer = r .answer }) (λ ps ago. readOn bound r ps (mark || ago))
     unfolding readOn
-    readOn-mark ps ago = rw (or-true (r .ago), or-true (r .known && known ps))
+    readOn-past mark ps ago = rw or-assoc
 
     -- ---- a pair: it is counted and subtracted
     module _ (p : Pair) where

@@ -1,6 +1,7 @@
--- A text, by its first word and the rest of it, as the word reader finds them.
+-- A text, by its first word and the rest of it, as the word reader finds them; and what is awaited behind that word.
 -- Assumes nothing.
-use mathlib.Core.Path.{_≡_}
+use mathlib.Core.Path.{_≡_, sym, _∙_}
+use mathlib.Core.Bool.{false}
 use mathlib.Core.List.{List, [], _∷_}
 use Prim.Native.Nat.{ℕ, _<_}
 use native.Mathlib.Omega.{arith}
@@ -13,7 +14,11 @@ use Rattle.text.specs.declared.words.Words.{Words}
 use Rattle.text.specs.declared.words.Taken.{Taken}
 use Rattle.text.specs.declared.words.Taken.the-variants.{Word, Nothing}
 use Rattle.text.proofs.Taking.{words-takeWord, takeWord-moves}
-use Rattle.relative.specs.Words.{wordsOf}
+use Rattle.text.specs.declared.number.Number.the-variants.{Value, Nothing as NoNumber}
+use Rattle.text.proofs.Lists.{by-test}
+use Rattle.relative.specs.Words.{wordsOf, is, countOf}
+use Rattle.relative.specs.Pairs.{next}
+use Rattle.relative.proofs.LetterCase.{ago-is-no-count}
 
 module _ (s : List ℕ) {at : ℕ} {t : Taken} (z : at ≡ 0) (e : t ≡ takeWord (separator Mark) s at) where
   pub no-word : t ≡ Nothing → wordsOf s ≡ []
@@ -29,3 +34,12 @@ module _ (s : List ℕ) {at : ℕ} {t : Taken} (z : at ≡ 0) (e : t ≡ takeWor
     rest-shorter =
         let m = rw (← e, f) at (takeWord-moves (separator Mark) s at) in
         rw d (omega (arith, m .0, m .1, length-drop (w .at) s))
+
+-- ---- behind the first word
+-- a count is not `ago`, so that its unit is awaited
+pub not-ago : (w : List ℕ) {n : ℕ} → countOf w ≡ Value n → is w "ago" ≡ false
+not-ago w {n} e = by-test (is w "ago") (λ f. let k : NoNumber ≡ Value n = sym (ago-is-no-count w f) ∙ e in let z : _≡_ {A = ℕ} 0 1 = cc in absurd (omega arith)) (λ f. f)
+
+-- behind any other word a count is still awaited
+pub still-awaited : (w : List ℕ) → countOf w ≡ NoNumber → next NoNumber w ≡ NoNumber
+still-awaited w e = by-test (is w "ago") (λ f. rw f) (λ f. rw (f, e))

@@ -54,7 +54,7 @@ pub fn parse(s: &[u8], current: Now) -> Answer
     Answer::Refused(Refusal::NotAscii)
 }
 
-// Waits for a count. `ago` sets the mark; any other word that is not a count is passed over.
+// Waits for a count. Any other word is passed over; if it is `ago`, it sets the mark.
 fn await_count(s: &[u8], reading: Reading) -> Answer
     ensures { λ r. ⌜ r ≡ readRest maxPairs reading Nothing (now (s .entry)) ⌝ }
 {
@@ -64,14 +64,11 @@ fn await_count(s: &[u8], reading: Reading) -> Answer
     };
     let word = text::words::within(s, x);
     let rest = places::from(s, next.at);
-    if bytes::same_ignoring_case(word, b"ago") {
-        return await_count(rest, reading.with_mark());
-    }
     let count = words::count(word);
-    let Number::Value(n) = count else {
-        return await_count(rest, reading);
-    };
-    await_unit(rest, n, reading)
+    match count {
+        Number::Value(n) => await_unit(rest, n, reading),
+        Number::Nothing => await_count(rest, reading.pass_over(word)),
+    }
 }
 
 // Waits for the unit of the count n. The very next word is the unit, even if it is `ago` or a

@@ -1,14 +1,16 @@
 // What a reading carries from word to word. Each contract says what the reading answers in the end,
 // whatever the rest of the text is.
 ghost use mathlib.Core.Path.{_≡_};
-ghost use mathlib.Core.Bool.{true, false, _||_};
+ghost use mathlib.Core.Bool.{false, _||_};
 ghost use mathlib.Core.List.{_∷_, []};
 ghost use lib.ListN.{length};
+ghost use Rattle.relative.specs.Words.{is};
 ghost use Rattle.relative.specs.Pairs.{known as allKnown};
 ghost use Rattle.relative.specs.Relative.{maxPairs, from, verdict as verdictOf};
 ghost use Rattle.turns.specs.Reading.{subtracted, unmoved, readOn, AnswersBy};
 use relative::MAX_PAIRS;
 use relative::Pair;
+use text::bytes;
 use time::Answer;
 use time::Now;
 use time::Refusal;
@@ -48,15 +50,15 @@ fn not_moved(current: Now) -> Answer
 }
 
 impl Reading {
-    // The mark has been read.
-    pub fn with_mark(self) -> Reading
-        ensures { λ r. ⌜ AnswersBy maxPairs r (λ ps ago. readOn maxPairs self ps true) ⌝ }
+    // A word has been read that is no count, where a count was awaited. `ago` sets the mark.
+    pub fn pass_over(self, word: &[u8]) -> Reading
+        ensures { λ r. ⌜ AnswersBy maxPairs r (λ ps ago. readOn maxPairs self ps (is (now (word .entry)) "ago" || ago)) ⌝ }
     {
         let answer = self.answer;
         Reading {
             pairs: self.pairs,
             known: self.known,
-            ago: true,
+            ago: self.ago | bytes::same_ignoring_case(word, b"ago"),
             answer: answer,
         }
     }

@@ -2,7 +2,6 @@
 -- text that is left.
 -- Assumes nothing.
 use mathlib.Core.Path.{_≡_, ap, _∙_}
-use mathlib.Core.Bool.{true, false}
 use mathlib.Core.List.{List, _∷_}
 use Prim.Native.Nat.{ℕ, _<_}
 use lib.ListN.{length}
@@ -11,10 +10,9 @@ use borrow.Fn.Kinds.{In}
 use borrow.Fn.PlainCycle.{Measures, is, falls, and}
 use Rattle.text.specs.Places.{part}
 use Rattle.text.specs.declared.number.Number.the-variants.{Value, Nothing}
-use Rattle.relative.specs.Words.{wordsOf, is as named, countOf, unitOf}
+use Rattle.relative.specs.Words.{wordsOf, countOf, unitOf}
 use Rattle.relative.specs.Pairs.{pairsFrom, agoFrom}
-use Rattle.turns.proofs.Rests.{no-word, first-word, rest-shorter}
-use Rattle.text.proofs.bytes.same_ignoring_case.Reads as same-ignoring-case-reads
+use Rattle.turns.proofs.Rests.{no-word, first-word, rest-shorter, not-ago, still-awaited}
 use Rattle.text.proofs.places.from.Reads as from-reads
 use Rattle.text.proofs.words.Words.new.Reads as new-reads
 use Rattle.text.proofs.words.Words.take.Reads as take-reads
@@ -22,7 +20,7 @@ use Rattle.text.proofs.words.within.Reads as within-reads
 use Rattle.relative.proofs.words.count.Reads as count-reads
 use Rattle.relative.proofs.words.unit.Reads as unit-reads
 use Rattle.turns.proofs.reading.Reading.verdict.Reads as verdict-reads
-use Rattle.turns.proofs.reading.Reading.with_mark.Reads as with-mark-reads
+use Rattle.turns.proofs.reading.Reading.pass_over.Reads as pass-over-reads
 use Rattle.turns.proofs.reading.Reading.with_pair.Reads as with-pair-reads
 use Rattle.turns.proofs.await_count.Reads as await-count
 use Rattle.turns.proofs.await_count.Kinds as await-count-kinds
@@ -66,16 +64,14 @@ module _ (t : ℕ) where
     within-reads.Learnt,
     from-reads.Asked,
     from-reads.Learnt,
-    same-ignoring-case-reads.Asked,
-    same-ignoring-case-reads.Learnt,
-    with-mark-reads.Asked,
-    with-mark-reads.Learnt,
-    await-count-below,
-    await-count.Post,
     count-reads.Asked,
     count-reads.Learnt,
     await-unit-below,
     await-unit.Post,
+    pass-over-reads.Asked,
+    pass-over-reads.Learnt,
+    await-count-below,
+    await-count.Post,
   )
 
   abbrev unit-calls : await-unit-lts.Claims
@@ -117,45 +113,27 @@ module _ (t : ℕ) where
     count-falls : length (c .from .result .now) < t
     count-falls = rw (← count-start .pre .0) (rest-shorter _ (c .before .before .before .before .before .before .new .ensures) (c .before .before .before .before .before .take .ensures) (c .before .before .before .taken .given .1) (c .from .ensures))
 
-  -- `ago`
-  count-await-count-requires : await-count-lts.Need-await-count-requires count-calls await-count-at await-count.Post
-  count-await-count-requires c κs = (count-falls (c .before .before .before .before), tt)
+  -- a count
+  count-await-unit-requires : await-count-lts.Need-await-unit-requires count-calls await-count-at await-count.Post
+  count-await-unit-requires c κs = (count-falls (c .before .before .before .before), tt)
 
   count-returns-2 : await-count-lts.Need-returns-2 count-calls await-count-at await-count.Post
   unfolding pairsFrom agoFrom
   count-returns-2 c =
       let at-rest = c .before .before .before .before .before in
-      let is-ago : named (count-word at-rest) "ago" ≡ true = rw (← at-rest .before .within .ensures, ← c .before .before .before .same-ignoring-case .ensures) (c .before .before .if1 .taken) in
-      rw (count-first at-rest, is-ago) (c .await-count .ensures ∙ c .before .with-mark .ensures _ _)
+      let counts : countOf (count-word at-rest) ≡ Value (c .before .before .count2 .given .0 .0) = rw (← at-rest .before .within .ensures, ← c .before .before .before .before .count .ensures) (c .before .before .count2 .given .1) in
+      rw (count-first at-rest, not-ago (count-word at-rest) counts, counts) (c .await-unit .ensures)
 
   -- another word
-  module _ (c : await-count-lts.Else1 count-calls await-count-at await-count.Post) where
-    not-ago : named (count-word (c .before .before .before)) "ago" ≡ false
-    not-ago = rw (← c .before .before .before .before .within .ensures, ← c .before .same-ignoring-case .ensures) (c .if1 .left)
-
-  -- no count
-  count-await-count-requires-2 : await-count-lts.Need-await-count-requires-2 count-calls await-count-at await-count.Post
-  count-await-count-requires-2 c κs = (count-falls (c .before .before .before .before .before .before), tt)
+  count-await-count-requires : await-count-lts.Need-await-count-requires count-calls await-count-at await-count.Post
+  count-await-count-requires c κs = (count-falls (c .before .before .before .before), tt)
 
   count-returns-3 : await-count-lts.Need-returns-3 count-calls await-count-at await-count.Post
   unfolding pairsFrom agoFrom
   count-returns-3 c =
-      let at-other = c .before .before .before .before in
-      let at-rest = at-other .before .before .before in
-      let no-count : countOf (count-word at-rest) ≡ Nothing = rw (← at-rest .before .within .ensures, ← c .before .before .before .count .ensures) (c .before .enum-told2 .given .1) in
-      rw (count-first at-rest, not-ago at-other, no-count) (c .await-count2 .ensures)
-
-  -- a count
-  count-await-unit-requires : await-count-lts.Need-await-unit-requires count-calls await-count-at await-count.Post
-  count-await-unit-requires c κs = (count-falls (c .before .before .before .before .before .before .before), tt)
-
-  count-returns-4 : await-count-lts.Need-returns-4 count-calls await-count-at await-count.Post
-  unfolding pairsFrom agoFrom
-  count-returns-4 c =
-      let at-other = c .before .before .before .before .before in
-      let at-rest = at-other .before .before .before in
-      let counts : countOf (count-word at-rest) ≡ Value (c .before .before .count2 .given .0 .0) = rw (← at-rest .before .within .ensures, ← c .before .before .before .before .count .ensures) (c .before .before .count2 .given .1) in
-      rw (count-first at-rest, not-ago at-other, counts) (c .await-unit .ensures)
+      let at-rest = c .before .before .before .before .before in
+      let no-count : countOf (count-word at-rest) ≡ Nothing = rw (← at-rest .before .within .ensures, ← c .before .before .before .before .count .ensures) (c .before .before .enum-told2 .given .1) in
+      rw (count-first at-rest, still-awaited (count-word at-rest) no-count, ← at-rest .before .within .ensures) (c .await-count .ensures ∙ c .before .pass-over .ensures _ _)
 
   -- ---- `await_unit`
   -- no word is left
@@ -205,18 +183,14 @@ pub +await-count+await-unit-spec : {M : Type 1} → statement M
     (count-returns t)
     (λ c κs. search needs)
     (λ c κs. search needs)
-    (λ c. search needs)
     (λ c κs. search needs)
+    (λ c. search needs)
+    (count-await-unit-requires t)
+    (λ c. search needs)
     (λ c κs. search needs)
     (count-await-count-requires t)
     (count-returns-2 t)
-    (λ c κs. search needs)
-    (λ c. search needs)
-    (λ c. search needs)
-    (count-await-count-requires-2 t)
-    (count-returns-3 t)
-    (count-await-unit-requires t)
-    (count-returns-4 t))
+    (count-returns-3 t))
     (λ t.
     await-unit-lts.spec
     (unit-calls t)
