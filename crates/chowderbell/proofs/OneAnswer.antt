@@ -38,7 +38,6 @@ use Rattle.iso.proofs.parse_git_date_format.Reads as parse-git-date-format
 use Rattle.iso.proofs.parse_git_date_format_with.Reads as parse-git-date-format-with
 use Rattle.relative.proofs.parse.Reads as relative-parse
 use Rattle.relative.proofs.parse_with.Reads as relative-parse-with
-use Rattle.relative.proofs.parse_named.Reads as relative-parse-named
 use Rattle.relative.proofs.pair_before.Reads as relative-pair-before
 use Rattle.relative.proofs.is_known.Reads as relative-is-known
 use Rattle.relative.proofs.words.count.Reads as relative-count
@@ -147,9 +146,6 @@ relative-parse-unique κ a r s e f = one-answer
 
 pub relative-parse-with-unique : OneAnswer relative-parse-with.Post
 relative-parse-with-unique κ a r s e f = one-answer
-
-pub relative-parse-named-unique : OneAnswer relative-parse-named.Post
-relative-parse-named-unique κ a r s e f = one-answer
 
 pub relative-pair-before-unique : OneAnswer relative-pair-before.Post
 relative-pair-before-unique κ a r s e f = one-answer

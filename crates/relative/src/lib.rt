@@ -13,6 +13,7 @@ ghost use mathlib.Core.Path.{_≡_};
 ghost use mathlib.Core.List.{_∷_, []};
 ghost use Rattle.calendar.specs.Table.{IsMonths};
 ghost use Rattle.relative.specs.Relative.{maxPairs, from, namedOf, byPairs, relativeOf};
+ghost use Rattle.relative.specs.declared.pair.Unit.the-variants.{Seconds};
 use calendar::SECONDS_PER_DAY;
 use held::PLACES;
 pub use pair::MAX_PAIRS;
@@ -50,20 +51,14 @@ pub fn parse_with(months: &[u32], s: &[u8], current: Now) -> Answer
         let Number::Value(k) = named else {
             return parse_pairs(months, s, current);
         };
-        return pair_before(
-            current,
-            Pair {
-                count: k,
-                unit: Unit::Seconds(1),
-            },
-        );
+        return seconds_before(current, k);
     }
     Answer::Refused(Refusal::NotAscii)
 }
 
 // How many seconds before the current time `now`, `today` or `yesterday` is. Any other text is Nothing,
 // also `yesterday 1 day`.
-pub fn parse_named(s: &[u8]) -> Number
+fn parse_named(s: &[u8]) -> Number
     ensures { λ r. ⌜ r ≡ namedOf (now (s .entry)) ⌝ }
 {
     let t = text::trim::trimmed(s);
@@ -77,6 +72,17 @@ pub fn parse_named(s: &[u8]) -> Number
         return Number::Value(SECONDS_PER_DAY);
     }
     Number::Nothing
+}
+
+// The time k seconds before the current time.
+fn seconds_before(current: Now, k: u64) -> Answer
+    ensures { λ r. ⌜ r ≡ from current (record { count = k; unit = Seconds 1 } ∷ []) ⌝ }
+{
+    let start = steps::start_of(current);
+    match start {
+        Start::From(i) => steps::answer(steps::seconds_back(i, k, 1)),
+        Start::Refused(r) => Answer::Refused(r),
+    }
 }
 
 // The time one pair before the current time. It is refused as

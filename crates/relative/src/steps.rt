@@ -101,7 +101,7 @@ pub fn subtract_pair(months: &[u32], p: Pair, i: Instant) -> Moved
 }
 
 // n * k seconds earlier.
-fn seconds_back(i: Instant, n: u64, k: u64) -> Moved
+pub fn seconds_back(i: Instant, n: u64, k: u64) -> Moved
     requires { ⌜ InRange i ⌝ }
     ensures is { λ r. ⌜ answerOf r ≡ landed (since1970 (i .seconds) -ℤ pos (n * k)) (timeOf i .offset) ⌝ }
     ensures range { λ r. ⌜ MovedInRange r ⌝ }
@@ -135,10 +135,16 @@ fn months_earlier(months: &[u32], i: Instant, n: u64, k: u64) -> Moved
     Moved::Nothing
 }
 
-// Whether n * k is at most `bound`. The product itself may overflow, so n is compared with a quotient.
+// Numbers below this have a product of at most 64 bits.
+const HALF_WIDTH: u64 = 4294967296;
+
+// Whether n * k is at most `bound`. If the product might overflow, n is compared with a quotient.
 fn product_within(n: u64, k: u64, bound: u64) -> bool
     ensures { λ r. ⌜ r ≡ leb (n * k) bound ⌝ }
 {
+    if (n < HALF_WIDTH) & (k < HALF_WIDTH) {
+        return n * k <= bound;
+    }
     if k == 0 {
         return true;
     }

@@ -8,10 +8,13 @@
 mod reading;
 
 ghost use mathlib.Core.Path.{_≡_};
+ghost use mathlib.Core.List.{_∷_, []};
 ghost use Rattle.text.specs.declared.number.Number.the-variants.{Value, Nothing};
-ghost use Rattle.relative.specs.Relative.{maxPairs};
+ghost use Rattle.relative.specs.Relative.{maxPairs, from, namedOf, byName};
+ghost use Rattle.relative.specs.declared.pair.Unit.the-variants.{Seconds};
 ghost use Rattle.turns.specs.Turns.{turnsOf};
 ghost use Rattle.turns.specs.Reading.{readRest};
+use calendar::SECONDS_PER_DAY;
 use reading::Reading;
 use relative::Pair;
 use relative::Unit;
@@ -39,19 +42,32 @@ pub fn parse(s: &[u8], current: Now) -> Answer
         if s.len() > MAX_LENGTH {
             return Answer::Refused(Refusal::Form);
         }
-        let named = relative::parse_named(s);
-        let Number::Value(k) = named else {
-            return await_count(s, reading::start(current));
-        };
-        return relative::pair_before(
-            current,
-            Pair {
-                count: k,
-                unit: Unit::Seconds(1),
-            },
-        );
+        return parse_ascii(s, current);
     }
     Answer::Refused(Refusal::NotAscii)
+}
+
+// The answer of an ASCII text: `now`, `today` and `yesterday` are tested here, and every other text
+// is read in turns.
+fn parse_ascii(s: &[u8], current: Now) -> Answer
+    ensures { λ r. ⌜ r ≡ byName (namedOf (now (s .entry))) maxPairs (now (s .entry)) current ⌝ }
+{
+    let t = text::trim::trimmed(s);
+    if bytes::same_ignoring_case(t, b"now") | bytes::same_ignoring_case(t, b"today") {
+        return seconds_before(current, 0);
+    }
+    if bytes::same_ignoring_case(t, b"yesterday") {
+        return seconds_before(current, SECONDS_PER_DAY);
+    }
+    await_count(s, reading::start(current))
+}
+
+// The time k seconds before the current time.
+fn seconds_before(current: Now, k: u64) -> Answer
+    ensures { λ r. ⌜ r ≡ from current (record { count = k; unit = Seconds 1 } ∷ []) ⌝ }
+{
+    let unit = Unit::Seconds(1);
+    relative::pair_before(current, Pair { count: k, unit })
 }
 
 // Waits for a count. Any other word is passed over; if it is `ago`, it sets the mark.

@@ -11,7 +11,7 @@ returns c = rw (← c .before .before .before .before .before .is-ascii .ensures
 
 returns-2 : tie.Need-returns-2
 unfolding relativeOf
-returns-2 c = rw (← c .before .before .before .before .before .before .is-ascii .ensures, c .before .before .before .before .before .if1 .taken, ← c .before .before .before .before .parse-named .ensures, c .before .before .named .given .1, c .pair-before .ensures)
+returns-2 c = rw (← c .before .before .before .before .before .before .is-ascii .ensures, c .before .before .before .before .before .if1 .taken, ← c .before .before .before .before .parse-named .ensures, c .before .before .named .given .1, c .seconds-before .ensures)
 
 returns-3 : tie.Need-returns-3
 unfolding relativeOf
