@@ -35,7 +35,7 @@ pub fn start(current: Now) -> Reading
         pairs: 0,
         known: true,
         ago: false,
-        answer: answer,
+        answer,
     }
 }
 
@@ -54,12 +54,13 @@ impl Reading {
     pub fn pass_over(self, word: &[u8]) -> Reading
         ensures { λ r. ⌜ AnswersBy maxPairs r (λ ps ago. readOn maxPairs self ps (is (now (word .entry)) "ago" || ago)) ⌝ }
     {
+        let known = self.known;
         let answer = self.answer;
         Reading {
             pairs: self.pairs,
-            known: self.known,
+            known,
             ago: self.ago | bytes::same_ignoring_case(word, b"ago"),
-            answer: answer,
+            answer,
         }
     }
 
@@ -75,16 +76,16 @@ impl Reading {
             let earlier = subtract(pair, answer);
             return Reading {
                 pairs: self.pairs + 1,
-                known: known,
+                known,
                 ago: self.ago,
                 answer: earlier,
             };
         }
         Reading {
             pairs: MAX_PAIRS + 1,
-            known: known,
+            known,
             ago: self.ago,
-            answer: answer,
+            answer,
         }
     }
 
