@@ -9,7 +9,8 @@
  *   number                        given exactly when
  *   0  CHOWDERBELL_OK             it succeeded
  *   1  CHOWDERBELL_NOT_ASCII      the text holds a byte of 128 or more
- *   2  CHOWDERBELL_FORM           the text is not of the form asked for; or the number of a rule is not 1 or 2
+ *   2  CHOWDERBELL_FORM           the text is not of the form asked for; or the number of a rule is not 1 or 2; or the text has more
+ *                                 than the 4096 bytes that chowderbell_relative_turns takes
  *   3  CHOWDERBELL_MISSING        the text is relative and the current time is missing
  *   4  CHOWDERBELL_CURRENT        the text is relative and the current time's seconds or offset is out of range
  *   5  CHOWDERBELL_PAIRS          the text is relative with more than 32 pairs of a count and a unit
@@ -63,6 +64,9 @@ extern "C" {
 #define CHOWDERBELL_HEADER_MAX 26
 #define CHOWDERBELL_ISO_LENGTH 25
 
+/* The bytes of the longest text that chowderbell_relative_turns reads. */
+#define CHOWDERBELL_TURNS_MAX 4096
+
 /* The most bytes that a book has, and that the path of a hull has. The bytes of every key. */
 #define CHOWDERBELL_BOOK_MAX 65536
 #define CHOWDERBELL_PATH_MAX 255
@@ -98,6 +102,16 @@ uint8_t chowderbell_iso(const uint8_t *text, size_t len, int64_t *seconds, int32
    and now_offset are ignored. The answer has the offset of the current time. Returns 0 to 6. */
 uint8_t chowderbell_relative(const uint8_t *text, size_t len, uint8_t has_now, int64_t now_seconds, int32_t now_offset,
                              int64_t *seconds, int32_t *offset);
+
+/* A relative date, read by a second reader, which takes turns: one function waits for a count, the other for its unit, and each
+   hands the rest of the text to the other. docs/relative-dates.md explains relative dates by this reader. If you only want the
+   answer, call chowderbell_relative: it has no limit on the length, and it is faster or as fast.
+   If len is at most 4096, the answer is that of chowderbell_relative in every case, refusals and the bound of 32 pairs included.
+   White space at the ends counts toward len. If len is more, the text is refused: by 1 if it holds a byte of 128 or more,
+   otherwise by 2. It calls itself at most once for each word of the text, so at most 2049 calls deep, and uses up to STACK_TODO
+   of stack. Returns 0 to 6. */
+uint8_t chowderbell_relative_turns(const uint8_t *text, size_t len, uint8_t has_now, int64_t now_seconds, int32_t now_offset,
+                                   int64_t *seconds, int32_t *offset);
 
 /* A date in any form, tried in this order: "@" and then a raw date or a number; a number of at least 100000000, as seconds at
    offset 0; an ISO date; a relative date; a raw date. Raw dates are read by rule 1. 11 is given only by that last step:

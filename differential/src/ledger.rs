@@ -5,7 +5,7 @@ use std::io::{IsTerminal, Write as _};
 use std::time::{Duration, Instant};
 
 use crate::fence::Fence;
-use crate::oracle::{self, Answer, By, Bytes, FORMS, Form, Now, Writer};
+use crate::oracle::{self, Answer, By, Bytes, FORMS, Form, MAX_TURNS, Now, Writer};
 use crate::side::Side;
 
 /// The longest text that is asked.
@@ -14,6 +14,11 @@ pub const LONGEST: usize = 1 << 16;
 const PRINTED: u64 = 3;
 /// How many bytes in front of a room are checked after a call.
 const IN_FRONT: usize = 32;
+/// The longest text of which every run of bytes is tried when it is cut down.
+const EVERY_RUN: usize = 512;
+/// The longest part of a text that is printed once if it is repeated, and how many bytes such repeats must have.
+const REPEATED: usize = 24;
+const LEAST_REPEATS: usize = 64;
 /// What outputs and rooms hold before a call, so that a byte that was written can be recognised.
 const SECONDS_BEFORE: i64 = 0x5a5a_5a5a_5a5a_5a5a;
 const OFFSET_BEFORE: i32 = 0x5a5a_5a5a;
@@ -22,10 +27,11 @@ const ROOM_BEFORE: u8 = 0xa5;
 /// Numbers that name no rule. A text is asked by one of them, by its length.
 const NO_RULES: [u32; 4] = [0, 3, 4, u32::MAX];
 
-/// What a side was asked.
+/// What a side was asked. `Alike` asks whether both readers of relative dates answer alike.
 #[derive(Clone, PartialEq, Eq)]
 pub enum Question {
     Read { form: Form, text: Vec<u8>, now: Option<(i64, i32)> },
+    Alike { text: Vec<u8>, now: Option<(i64, i32)> },
     Size { seconds: i64, offset: i32 },
     Write { writer: Writer, seconds: i64, offset: i32, room: usize },
 }
@@ -34,7 +40,7 @@ impl Question {
     /// The order by size: short texts come first, then little room, then small numbers.
     fn rank(&self) -> (usize, u64, u32, Vec<u8>) {
         match self {
-            Question::Read { text, now, .. } => {
+            Question::Read { text, now, .. } | Question::Alike { text, now } => {
                 let (seconds, offset) = now.unwrap_or((0, 0));
                 (text.len(), seconds.unsigned_abs(), offset.unsigned_abs(), text.clone())
             }
@@ -50,13 +56,15 @@ impl fmt::Display for Question {
     fn fmt(&self, f: &mut fmt::Formatter<'_>) -> fmt::Result {
         match self {
             Question::Read { form, text, now } => {
-                write!(f, "{form} \"{}\"", text.escape_ascii())?;
+                write!(f, "{form} {}", quoted(text))?;
                 match now {
-                    Some((seconds, offset)) if matches!(form, Form::Relative | Form::Any | Form::AnyBy(_)) => {
-                        write!(f, ", current time {seconds} {offset}")
-                    }
+                    Some((seconds, offset)) if form.takes_now() => write!(f, ", current time {seconds} {offset}"),
                     _ => Ok(()),
                 }
+            }
+            Question::Alike { text, now } => {
+                write!(f, "relative by turns as by the first reader {}", quoted(text))?;
+                now.map_or(Ok(()), |(seconds, offset)| write!(f, ", current time {seconds} {offset}"))
             }
             Question::Size { seconds, offset } => write!(f, "size of {seconds} {offset}"),
             Question::Write { writer, seconds, offset, room } => {
@@ -92,8 +100,9 @@ pub struct Row {
     pub smallest: Option<Difference>,
 }
 
-/// The rows of the summary. A reader by a rule has one for each rule, and one for all numbers that name none.
-const ROW_NAMES: [&str; 14] = [
+/// The rows of the summary. A reader by a rule has one for each rule, and one for all numbers that name none. In the row
+/// "turns as first" the second reader of relative dates is compared with the first, and gix-date is not asked.
+const ROW_NAMES: [&str; 16] = [
     "header",
     "raw",
     "raw by 1",
@@ -101,6 +110,8 @@ const ROW_NAMES: [&str; 14] = [
     "raw by no rule",
     "iso",
     "relative",
+    "relative turns",
+    "turns as first",
     "any",
     "any by 1",
     "any by 2",
@@ -110,7 +121,8 @@ const ROW_NAMES: [&str; 14] = [
     "ISO writer",
 ];
 const ROWS: usize = ROW_NAMES.len();
-const SIZE_ROW: usize = 11;
+const ALIKE_ROW: usize = 8;
+const SIZE_ROW: usize = 13;
 
 /// The row of a reader.
 fn row_of(form: Form) -> usize {
@@ -122,10 +134,11 @@ fn row_of(form: Form) -> usize {
         Form::RawBy(_) => 4,
         Form::Iso => 5,
         Form::Relative => 6,
-        Form::Any => 7,
-        Form::AnyBy(1) => 8,
-        Form::AnyBy(2) => 9,
-        Form::AnyBy(_) => 10,
+        Form::Turns => 7,
+        Form::Any => 9,
+        Form::AnyBy(1) => 10,
+        Form::AnyBy(2) => 11,
+        Form::AnyBy(_) => 12,
     }
 }
 
@@ -133,7 +146,8 @@ fn row_of(form: Form) -> usize {
 pub struct Ledger<'a> {
     side: &'a dyn Side,
     fence: Fence,
-    at_last: bool,
+    /// Whether the last text of each reader lay at the upper fence, by its row. Its next text lies at the other fence.
+    at_last: [bool; ROWS],
     rows: [Row; ROWS],
     /// Ask nothing more after the first difference.
     stop_at_first: bool,
@@ -152,7 +166,7 @@ impl<'a> Ledger<'a> {
         Ledger {
             side,
             fence: Fence::new(LONGEST),
-            at_last: false,
+            at_last: [false; ROWS],
             rows: Default::default(),
             stop_at_first: false,
             suite: String::new(),
@@ -205,24 +219,31 @@ impl<'a> Ledger<'a> {
     }
 
     /// Asks the reader of a form. Raw and "any" are also asked by rule 1, by rule 2 and by a number that names no rule.
+    /// A relative date is also asked of the second reader, and held to the same answer of gix-date.
     pub fn ask(&mut self, form: Form, text: &[u8], now: &Now) {
-        self.ask_one(form, text, now);
+        if self.is_over() {
+            return;
+        }
+        let wanted = oracle::wanted(form, text, now);
+        self.ask_one(form, text, now, wanted);
         let by: fn(u32) -> Form = match form {
             Form::Raw => Form::RawBy,
             Form::Any => Form::AnyBy,
+            Form::Relative => return self.ask_one(Form::Turns, text, now, oracle::by_turns(text, wanted)),
             _ => return,
         };
         for rule in [1, 2, NO_RULES[text.len() % NO_RULES.len()]] {
-            self.ask_one(by(rule), text, now);
+            if !self.is_over() {
+                self.ask_one(by(rule), text, now, oracle::wanted(by(rule), text, now));
+            }
         }
     }
 
     /// Asks one reader, and compares number, seconds and offset. On a refusal seconds and offset must be 0.
-    fn ask_one(&mut self, form: Form, text: &[u8], now: &Now) {
+    fn ask_one(&mut self, form: Form, text: &[u8], now: &Now, (wanted, by): (Answer, By)) {
         if self.is_over() {
             return;
         }
-        let (wanted, by) = oracle::wanted(form, text, now);
         let got = self.read(form, text, now);
         let row = &mut self.rows[row_of(form)];
         row.compared += 1;
@@ -233,6 +254,29 @@ impl<'a> Ledger<'a> {
             self.note(row_of(form), question, shown(wanted), shown(got));
         }
         self.tick();
+    }
+
+    /// Asks both readers of relative dates, and compares the second with the first.
+    pub fn ask_alike(&mut self, text: &[u8], now: &Now) {
+        if self.is_over() {
+            return;
+        }
+        let (wanted, got) = self.both(text, now);
+        let row = &mut self.rows[ALIKE_ROW];
+        row.compared += 1;
+        row.accepted += u64::from(wanted.number == 0);
+        if got != wanted {
+            let question = Question::Alike { text: text.to_vec(), now: now.time };
+            self.note(ALIKE_ROW, question, shown(wanted), shown(got));
+        }
+        self.tick();
+    }
+
+    /// What the second reader of relative dates should answer, by the side's own first reader, and what it does answer.
+    fn both(&mut self, text: &[u8], now: &Now) -> (Answer, Answer) {
+        let first = self.read(Form::Relative, text, now);
+        let (wanted, _) = oracle::by_turns(text, (first, By::Rules));
+        (wanted, self.read(Form::Turns, text, now))
     }
 
     /// Asks `size`.
@@ -294,8 +338,9 @@ impl<'a> Ledger<'a> {
 
     /// What the side answers. The text lies next to a fence, and the call must not change it.
     fn read(&mut self, form: Form, text: &[u8], now: &Now) -> Answer {
-        self.at_last = !self.at_last;
-        let memory = if self.at_last { self.fence.last(text.len()) } else { self.fence.first(text.len()) };
+        let at_last = &mut self.at_last[row_of(form)];
+        *at_last = !*at_last;
+        let memory = if *at_last { self.fence.last(text.len()) } else { self.fence.first(text.len()) };
         memory.copy_from_slice(text);
         let (mut seconds, mut offset) = (SECONDS_BEFORE, OFFSET_BEFORE);
         let number = self.side.read(form, memory, now, &mut seconds, &mut offset);
@@ -352,31 +397,60 @@ impl<'a> Ledger<'a> {
 
     fn smallest_of(&mut self, row: usize) -> Option<Difference> {
         let difference = self.rows[row].smallest.clone()?;
-        let Question::Read { form, text, now } = difference.question else { return Some(difference) };
+        let (form, text, now) = match difference.question {
+            Question::Read { form, text, now } => (Some(form), text, now),
+            Question::Alike { text, now } => (None, text, now),
+            _ => return Some(difference),
+        };
         let current = now.map_or(Now::missing(), |(seconds, offset)| Now::at(seconds, offset));
         let text = self.cut_down(form, text, &current);
-        let (wanted, _) = oracle::wanted(form, &text, &current);
-        let got = self.read(form, &text, &current);
-        Some(Difference { question: Question::Read { form, text, now }, wanted: shown(wanted), got: shown(got) })
+        let (wanted, got) = self.answers(form, &text, &current);
+        let question = match form {
+            Some(form) => Question::Read { form, text, now },
+            None => Question::Alike { text, now },
+        };
+        Some(Difference { question, wanted: shown(wanted), got: shown(got) })
+    }
+
+    /// What the reader of a form should answer, and what it does answer. Without a form, the same of [`Self::both`].
+    fn answers(&mut self, form: Option<Form>, text: &[u8], now: &Now) -> (Answer, Answer) {
+        match form {
+            Some(form) => (oracle::wanted(form, text, now).0, self.read(form, text, now)),
+            None => self.both(text, now),
+        }
     }
 
     /// Removes runs of bytes, long ones first, wherever the answers still differ without them.
-    fn cut_down(&mut self, form: Form, mut text: Vec<u8>, now: &Now) -> Vec<u8> {
+    ///
+    /// A text of more than [`EVERY_RUN`] bytes is first cut by runs that lie side by side and are half as long each time.
+    /// To try every run of it would take too long.
+    fn cut_down(&mut self, form: Option<Form>, mut text: Vec<u8>, now: &Now) -> Vec<u8> {
         let mut run = text.len();
-        while run > 0 {
-            let mut at = 0;
-            while at + run <= text.len() {
-                let mut shorter = text.clone();
-                shorter.drain(at..at + run);
-                if oracle::wanted(form, &shorter, now).0 != self.read(form, &shorter, now) {
-                    text = shorter;
-                } else {
-                    at += 1;
-                }
+        while run > 0 && text.len() > EVERY_RUN {
+            self.remove_runs(form, &mut text, now, run, run);
+            run /= 2;
+        }
+        if text.len() <= EVERY_RUN {
+            for run in (1..=text.len()).rev() {
+                self.remove_runs(form, &mut text, now, run, 1);
             }
-            run = if run > text.len() { text.len() } else { run - 1 };
         }
         text
+    }
+
+    /// Removes runs of `run` bytes wherever the answers still differ, and goes on by `step` bytes where they do not.
+    fn remove_runs(&mut self, form: Option<Form>, text: &mut Vec<u8>, now: &Now, run: usize, step: usize) {
+        let mut at = 0;
+        while at + run <= text.len() {
+            let mut shorter = text.clone();
+            shorter.drain(at..at + run);
+            let (wanted, got) = self.answers(form, &shorter, now);
+            if wanted == got {
+                at += step;
+            } else {
+                *text = shorter;
+            }
+        }
     }
 
     /// Prints the summary: a row for each reader and writer, and the smallest difference of each.
@@ -400,7 +474,8 @@ impl<'a> Ledger<'a> {
         println!(
             "\"rules alone\": answers that gix-date cannot give (4; 2 by a number that names no rule), or that differ"
         );
-        println!("from its own on purpose (1, 5). By rule 2 the others are gix-date's with the limits of that rule.");
+        println!("from its own on purpose (1; 5; 2 by turns for a text of more than {MAX_TURNS} bytes). By rule 2 the");
+        println!("others are gix-date's with the limits of that rule. \"turns as first\" does not ask gix-date.");
         for (row, name) in ROW_NAMES.iter().enumerate() {
             if let Some(difference) = self.smallest_of(row) {
                 println!("\nsmallest of {name}: {difference}");
@@ -411,6 +486,32 @@ impl<'a> Ledger<'a> {
 
 fn shown(answer: Answer) -> String {
     format!("{} {} {}", answer.number, answer.seconds, answer.offset)
+}
+
+/// A text in quotes. In long texts, repeats are printed as in Python: `"now" + " " * 4094`.
+fn quoted(text: &[u8]) -> String {
+    let (mut parts, mut plain, mut rest) = (Vec::new(), Vec::new(), text);
+    while let Some((first, after)) = rest.split_first() {
+        let repeats = (1..=REPEATED.min(rest.len())).find_map(|len| {
+            let (part, count) = (&rest[..len], rest.chunks(len).take_while(|chunk| *chunk == &rest[..len]).count());
+            (count > 1 && count * len >= LEAST_REPEATS).then_some((part, count))
+        });
+        if let Some((part, count)) = repeats {
+            if !plain.is_empty() {
+                parts.push(format!("\"{}\"", plain.escape_ascii()));
+                plain.clear();
+            }
+            parts.push(format!("\"{}\" * {count}", part.escape_ascii()));
+            rest = &rest[part.len() * count..];
+        } else {
+            plain.push(*first);
+            rest = after;
+        }
+    }
+    if !plain.is_empty() || parts.is_empty() {
+        parts.push(format!("\"{}\"", plain.escape_ascii()));
+    }
+    parts.join(" + ")
 }
 
 /// A number with a comma after every third digit from the right.

@@ -4,8 +4,9 @@
 //! the current time. Whether it is 2 or 11 follows from the first word (RULES 5.9), and Rust's own reader of numbers says
 //! whether that is too large. gix-date calls the same reader, and drops its reason.
 //!
-//! Four answers follow from the rules alone, because gix-date has nothing like them: 1 for a byte of 128 or more, 2 for a
-//! number that names no rule, 4 for a current time out of range, 5 for more than 32 pairs.
+//! Five answers follow from the rules alone, because gix-date has nothing like them: 1 for a byte of 128 or more, 2 for a
+//! number that names no rule, 2 for a text that is too long for the second reader of relative dates, 4 for a current time
+//! out of range, 5 for more than 32 pairs.
 //!
 //! gix-date reads raw dates by rule 1 (RULES 5.7). By rule 2 the answers are those of its own code with the two limits
 //! of that rule.
@@ -26,6 +27,8 @@ pub const MAX_SECONDS: i64 = 253402207200;
 pub const MAX_OFFSET: i32 = 93599;
 /// The most pairs that are read.
 pub const MAX_PAIRS: usize = 32;
+/// The most bytes of a text that the second reader of relative dates takes (RULES 7.12).
+pub const MAX_TURNS: usize = 4096;
 /// The least number that "any" reads as seconds without an `@` before it.
 pub const LEAST_PLAIN: i64 = 100_000_000;
 
@@ -38,15 +41,17 @@ pub enum Form {
     RawBy(u32),
     Iso,
     Relative,
+    /// A relative date by the second reader, which takes turns (RULES 7.11).
+    Turns,
     Any,
     /// A date in any form, with raw dates by the rule with this number.
     AnyBy(u32),
 }
 
-/// The forms whose readers take no rule: those of `whenread`.
+/// The forms that a line of `whenread` can name. Their readers take no rule, and relative dates have the first reader.
 pub const FORMS: [Form; 5] = [Form::Header, Form::Raw, Form::Iso, Form::Relative, Form::Any];
 
-/// Its name. Without a rule, that is its name in a line of `whenread`.
+/// Its name. That of one of [`FORMS`] is its name in a line of `whenread`.
 impl fmt::Display for Form {
     fn fmt(&self, f: &mut fmt::Formatter<'_>) -> fmt::Result {
         match self {
@@ -55,9 +60,17 @@ impl fmt::Display for Form {
             Form::RawBy(rule) => write!(f, "raw by rule {rule}"),
             Form::Iso => f.write_str("iso"),
             Form::Relative => f.write_str("relative"),
+            Form::Turns => f.write_str("relative by turns"),
             Form::Any => f.write_str("any"),
             Form::AnyBy(rule) => write!(f, "any by rule {rule}"),
         }
+    }
+}
+
+impl Form {
+    /// Whether its reader takes the current time.
+    pub fn takes_now(self) -> bool {
+        matches!(self, Form::Relative | Form::Turns | Form::Any | Form::AnyBy(_))
     }
 }
 
@@ -85,8 +98,8 @@ pub enum By {
     /// gix-date, which by rule 2 has the limits of that rule: it read the text, or did not. The number for "did not" is
     /// derived, 11 like the others.
     Rust,
-    /// The rules alone: they differ from gix-date on purpose (1, 5), or gix-date cannot be asked (4, and 2 for a number
-    /// that names no rule).
+    /// The rules alone: they differ from gix-date on purpose (1, 5, and 2 for a text that is too long for the second
+    /// reader of relative dates), or gix-date cannot be asked (4, and 2 for a number that names no rule).
     Rules,
 }
 
@@ -157,9 +170,16 @@ pub fn wanted(form: Form, text: &[u8], now: &Now) -> (Answer, By) {
             Some(Ok(zoned)) => (landed(&zoned), By::Rust),
             Some(Err(_)) => unread(now),
         },
+        Form::Turns => by_turns(text.as_bytes(), wanted(Form::Relative, text.as_bytes(), now)),
         Form::Any => any(BY_RULE_1, text, now),
         Form::AnyBy(rule) => readers_by(rule).map_or(NO_RULE, |readers| any(readers, text, now)),
     }
+}
+
+/// The right answer of the second reader of relative dates, given that of the first: the same, or 2 if the text is too
+/// long. A byte of 128 or more is 1 before that.
+pub fn by_turns(text: &[u8], first: (Answer, By)) -> (Answer, By) {
+    if text.len() > MAX_TURNS && first.0.number != 1 { (Answer::refused(2), By::Rules) } else { first }
 }
 
 /// The answer to every ASCII text if the number of the rule names none.

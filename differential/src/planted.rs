@@ -5,9 +5,9 @@ use std::num::IntErrorKind;
 
 use jiff::ToSpan as _;
 
-use crate::oracle::{self, Answer, Bytes, Form, MAX_SECONDS, MIN_SECONDS, Now, Writer};
+use crate::oracle::{self, Answer, Bytes, Form, MAX_PAIRS, MAX_SECONDS, MAX_TURNS, MIN_SECONDS, Now, Writer};
 use crate::side::Side;
-use crate::texts::YEAR_0;
+use crate::texts::{COUNTS, NAMES, UNITS, YEAR_0};
 
 /// A side with one mistake.
 pub struct Mistake {
@@ -103,6 +103,32 @@ pub const MISTAKES: &[Mistake] = &[
         ..RIGHT
     },
     Mistake { name: "an ISO hour that is too large is 11", read: hour_too_large, ..RIGHT },
+    Mistake { name: "by turns, `ago` counts only in front of an unknown unit", read: mark_only_in_front, ..RIGHT },
+    Mistake { name: "by turns, pairs after the 32nd are dropped", read: drops_pair_33, ..RIGHT },
+    Mistake { name: "by turns, the count of pairs wraps at 256", read: pairs_wrap, ..RIGHT },
+    Mistake { name: "by turns, a text of 4,097 bytes is read", read: |f, t, n| reads_length(f, t, n, 4097), ..RIGHT },
+    Mistake { name: "by turns, a text of 4,096 bytes is refused", read: longest_is_refused, ..RIGHT },
+    Mistake { name: "by turns, the length is counted after trimming", read: length_once_trimmed, ..RIGHT },
+    Mistake { name: "by turns, a long text with byte 128 is refused by 2", read: too_long_before_1, ..RIGHT },
+    Mistake { name: "by turns, a long text is 5 if it has too many pairs", read: pairs_before_length, ..RIGHT },
+    Mistake { name: "by turns, `now` is not read", read: named_not_read, ..RIGHT },
+    Mistake {
+        name: "by turns, a number in the unit's place is also the next count",
+        read: |f, t, n| unit_read_twice(f, t, n, is_count),
+        ..RIGHT
+    },
+    Mistake {
+        name: "by turns, `ago` in the unit's place sets the mark",
+        read: |f, t, n| unit_read_twice(f, t, n, is_ago),
+        ..RIGHT
+    },
+    Mistake { name: "by turns, pairs are applied from the last to the first", read: last_pair_first, ..RIGHT },
+    Mistake { name: "by turns, a count at the end is seconds", read: count_at_end, ..RIGHT },
+    Mistake { name: "by turns, the 33rd pair is 5 whatever follows", read: pair_33_ends_reading, ..RIGHT },
+    Mistake { name: "by turns, an unknown unit refuses only as the last unit", read: only_last_unit_known, ..RIGHT },
+    Mistake { name: "by turns, 6 comes before 5", read: |f, t, n| range_before(f, t, n, 5), ..RIGHT },
+    Mistake { name: "by turns, 6 comes before 2", read: |f, t, n| range_before(f, t, n, 2), ..RIGHT },
+    Mistake { name: "by turns, the first pair looks at the current time", read: current_time_at_pair, ..RIGHT },
     Mistake { name: "size is always 26", size: |_, _| 26, ..WRITERS },
     Mistake { name: "size miscounts 1000000000000000000", size: miscounts, ..WRITERS },
     Mistake { name: "the writer writes nothing", write: writes_nothing, ..WRITERS },
@@ -472,6 +498,147 @@ fn hour_too_large(form: Form, text: &[u8], now: &Now) -> Option<Answer> {
     let too_large = hour.parse::<u32>().is_err_and(|error| *error.kind() == IntErrorKind::PosOverflow);
     let at_0 = format!("{date}00:{rest}");
     (too_large && right(form, at_0.as_bytes(), now).number == 0).then_some(refused(11))
+}
+
+fn is_ago(word: &str) -> bool {
+    word.eq_ignore_ascii_case("ago")
+}
+
+/// Whether a word is a count (RULES 7.3).
+fn is_count(word: &str) -> bool {
+    word.parse::<i64>().is_ok() || COUNTS.iter().any(|count| word.eq_ignore_ascii_case(count))
+}
+
+/// Whether a word is a unit, with or without its final `s` (RULES 7.5).
+fn is_unit(word: &str) -> bool {
+    let word = word.strip_suffix(['s', 'S']).unwrap_or(word);
+    UNITS.iter().any(|unit| word.eq_ignore_ascii_case(unit))
+}
+
+/// A pair of a relative text.
+struct Pair {
+    count: String,
+    unit: String,
+    /// Whether the mark was set in front of it.
+    marked: bool,
+}
+
+/// What a relative text holds.
+struct Relative {
+    pairs: Vec<Pair>,
+    /// Whether the mark was set anywhere.
+    marked: bool,
+    /// The count at the end of the text, which has no unit.
+    last_count: Option<String>,
+}
+
+/// What the text holds, if the second reader of relative dates was asked and takes it.
+fn by_turns(form: Form, text: &[u8]) -> Option<Relative> {
+    if form != Form::Turns || text.len() > MAX_TURNS || !text.is_ascii() {
+        return None;
+    }
+    let mut held = Relative { pairs: Vec::new(), marked: false, last_count: None };
+    for word in words(text) {
+        match held.last_count.take() {
+            Some(count) => held.pairs.push(Pair { count, unit: word, marked: held.marked }),
+            None if is_ago(&word) => held.marked = true,
+            None => held.last_count = Some(word).filter(|word| is_count(word)),
+        }
+    }
+    Some(held)
+}
+
+/// The right answer to a text of these pairs, with the mark at its end if it is set.
+fn right_of<'a>(pairs: impl IntoIterator<Item = &'a Pair>, marked: bool, now: &Now) -> Answer {
+    let pairs: String = pairs.into_iter().map(|pair| format!("{} {} ", pair.count, pair.unit)).collect();
+    right(Form::Relative, (pairs + if marked { "ago" } else { "" }).as_bytes(), now)
+}
+
+fn mark_only_in_front(form: Form, text: &[u8], _: &Now) -> Option<Answer> {
+    let is_lost = |pair: &Pair| !pair.marked && !is_unit(&pair.unit);
+    by_turns(form, text)?.pairs.iter().any(is_lost).then_some(refused(2))
+}
+
+fn drops_pair_33(form: Form, text: &[u8], now: &Now) -> Option<Answer> {
+    let Relative { pairs, marked, .. } = by_turns(form, text)?;
+    (right(form, text, now).number == 5).then(|| right_of(&pairs[..MAX_PAIRS], marked, now))
+}
+
+fn pairs_wrap(form: Form, text: &[u8], now: &Now) -> Option<Answer> {
+    let count = by_turns(form, text)?.pairs.len() % 256;
+    no_bound_of_pairs(form, text, now).filter(|_| count <= MAX_PAIRS)
+}
+
+fn reads_length(form: Form, text: &[u8], now: &Now, len: usize) -> Option<Answer> {
+    (form == Form::Turns && text.len() == len).then(|| right(Form::Relative, text, now))
+}
+
+fn longest_is_refused(form: Form, text: &[u8], _: &Now) -> Option<Answer> {
+    by_turns(form, text).filter(|_| text.len() == MAX_TURNS).map(|_| refused(2))
+}
+
+fn length_once_trimmed(form: Form, text: &[u8], now: &Now) -> Option<Answer> {
+    (form == Form::Turns && text.trim_ascii().len() <= MAX_TURNS).then(|| right(Form::Relative, text, now))
+}
+
+fn too_long_before_1(form: Form, text: &[u8], _: &Now) -> Option<Answer> {
+    (form == Form::Turns && text.len() > MAX_TURNS).then_some(refused(2))
+}
+
+fn pairs_before_length(form: Form, text: &[u8], now: &Now) -> Option<Answer> {
+    (form == Form::Turns && right(Form::Relative, text, now).number == 5).then_some(refused(5))
+}
+
+fn named_not_read(form: Form, text: &[u8], _: &Now) -> Option<Answer> {
+    let is_named = NAMES.iter().any(|name| text.trim_ascii().eq_ignore_ascii_case(name.as_bytes()));
+    (form == Form::Turns && is_named).then_some(refused(2))
+}
+
+/// Units that are such words are read again, where a count is awaited.
+fn unit_read_twice(form: Form, text: &[u8], now: &Now, such: fn(&str) -> bool) -> Option<Answer> {
+    by_turns(form, text)?;
+    let (mut read, mut after_count, mut any_twice) = (Vec::new(), false, false);
+    for word in words(text) {
+        let twice = after_count && such(&word);
+        // a unit that is read again may be a count itself
+        after_count = is_count(&word) && (twice || !after_count);
+        any_twice |= twice;
+        read.extend(std::iter::repeat_n(word, 1 + usize::from(twice)));
+    }
+    any_twice.then(|| right(Form::Relative, read.join(" ").as_bytes(), now))
+}
+
+fn last_pair_first(form: Form, text: &[u8], now: &Now) -> Option<Answer> {
+    let Relative { pairs, marked, .. } = by_turns(form, text)?;
+    (pairs.len() > 1).then(|| right_of(pairs.iter().rev(), marked, now))
+}
+
+fn count_at_end(form: Form, text: &[u8], now: &Now) -> Option<Answer> {
+    let Relative { mut pairs, marked, last_count } = by_turns(form, text)?;
+    pairs.push(Pair { count: last_count?, unit: "seconds".to_string(), marked });
+    Some(right_of(&pairs, marked, now))
+}
+
+fn pair_33_ends_reading(form: Form, text: &[u8], now: &Now) -> Option<Answer> {
+    let count = by_turns(form, text)?.pairs.len();
+    (count > MAX_PAIRS && is_2(form, text, now)).then_some(refused(5))
+}
+
+fn only_last_unit_known(form: Form, text: &[u8], now: &Now) -> Option<Answer> {
+    let pairs = by_turns(form, text)?.pairs;
+    (is_unit(&pairs.last()?.unit) && is_2(form, text, now)).then(|| right_of(&pairs, true, now))
+}
+
+/// 6 in place of `number` if the first pair leaves the range.
+fn range_before(form: Form, text: &[u8], now: &Now, number: u8) -> Option<Answer> {
+    let first = right_of(by_turns(form, text)?.pairs.first(), true, now);
+    (first.number == 6 && right(form, text, now).number == number).then_some(first)
+}
+
+/// 3 or 4 for every text with a pair, before 2 and 5.
+fn current_time_at_pair(form: Form, text: &[u8], now: &Now) -> Option<Answer> {
+    let first = right_of(by_turns(form, text)?.pairs.first(), true, now);
+    matches!(first.number, 3 | 4).then_some(first)
 }
 
 fn miscounts(seconds: i64, offset: i32) -> usize {

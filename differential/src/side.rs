@@ -34,16 +34,20 @@ impl Ours {
             Form::RawBy(rule) => entries::raw_by(rule, text, seconds, offset),
             Form::Iso => entries::iso(text, seconds, offset),
             Form::Relative => entries::relative(text, has_now, now_seconds, now_offset, seconds, offset),
+            #[cfg(feature = "turns")]
+            Form::Turns => entries::relative_turns(text, has_now, now_seconds, now_offset, seconds, offset),
             Form::Any => entries::any(text, has_now, now_seconds, now_offset, seconds, offset),
             #[cfg(feature = "rules")]
             Form::AnyBy(rule) => entries::any_by(rule, text, has_now, now_seconds, now_offset, seconds, offset),
             #[cfg(not(feature = "rules"))]
             Form::RawBy(_) | Form::AnyBy(_) => panic!("built without the calls that take a rule"),
+            #[cfg(not(feature = "turns"))]
+            Form::Turns => panic!("built without the second reader of relative dates"),
         }
     }
 }
 
-#[cfg(feature = "rules")]
+#[cfg(all(feature = "rules", feature = "turns"))]
 impl Side for Ours {
     fn read(&self, form: Form, text: &[u8], now: &Now, seconds: &mut i64, offset: &mut i32) -> u8 {
         // Any value but 0 means that there is a current time. Without one, its numbers must not matter.

@@ -198,7 +198,8 @@ pub fn every_edge() -> impl Iterator<Item = i128> {
 }
 
 const SPACES: [&str; 12] = [" ", " ", " ", " ", "\t", "\n", "\x0b", "\x0c", "\r", "  ", " \t", "\x0b "];
-const SEPARATORS: [&str; 12] = [" ", " ", " ", ".", "-", "_", ",", ", ", "  ", "\t", "+", "/"];
+/// What stands between the words of a relative date.
+pub const SEPARATORS: [&str; 12] = [" ", " ", " ", ".", "-", "_", ",", ", ", "  ", "\t", "+", "/"];
 
 /// Appends `more` to the text.
 fn push(text: &mut Vec<u8>, more: &str) {

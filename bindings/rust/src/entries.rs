@@ -8,7 +8,8 @@
 // SAFETY, for every call in this file: each pointer comes from a reference or a slice that lives as long as the call, so
 // it is not null; a slice's pointer comes with its length; and what is written is borrowed mutably, so nothing overlaps
 // it. An entry reads at most the bytes of its text or its book, writes at most the bytes of its room and its outputs,
-// touches no other byte, keeps no pointer and always returns. All of that is proved.
+// touches no other byte, keeps no pointer and always returns. All of that is proved. Not proved is how much stack a call
+// takes. In `chowderbell_relative_turns` it grows with the words of the text; `include/chowderbell.h` says how far.
 mod c {
     extern "C" {
         pub fn chowderbell_header(text: *const u8, len: usize, seconds: *mut i64, offset: *mut i32) -> u8;
@@ -16,6 +17,15 @@ mod c {
         pub fn chowderbell_raw_by(rule: u32, text: *const u8, len: usize, seconds: *mut i64, offset: *mut i32) -> u8;
         pub fn chowderbell_iso(text: *const u8, len: usize, seconds: *mut i64, offset: *mut i32) -> u8;
         pub fn chowderbell_relative(
+            text: *const u8,
+            len: usize,
+            has_now: u8,
+            now_seconds: i64,
+            now_offset: i32,
+            seconds: *mut i64,
+            offset: *mut i32,
+        ) -> u8;
+        pub fn chowderbell_relative_turns(
             text: *const u8,
             len: usize,
             has_now: u8,
@@ -104,6 +114,25 @@ pub fn relative(
     offset: &mut i32,
 ) -> u8 {
     unsafe { c::chowderbell_relative(text.as_ptr(), text.len(), has_now, now_seconds, now_offset, seconds, offset) }
+}
+
+/// Reads a relative date by the second reader, which takes turns. Returns 0 to 6.
+///
+/// A text of at most [`TURNS_MAX`](crate::TURNS_MAX) bytes is answered as by [`relative`]. A longer one is refused: by 1 if
+/// it holds a byte of 128 or more, otherwise by 2. The current time is passed as to [`relative`].
+#[inline]
+#[must_use]
+pub fn relative_turns(
+    text: &[u8],
+    has_now: u8,
+    now_seconds: i64,
+    now_offset: i32,
+    seconds: &mut i64,
+    offset: &mut i32,
+) -> u8 {
+    unsafe {
+        c::chowderbell_relative_turns(text.as_ptr(), text.len(), has_now, now_seconds, now_offset, seconds, offset)
+    }
 }
 
 /// Reads a date of any form, with raw dates read by rule 1. Returns 0 to 6, or 11.

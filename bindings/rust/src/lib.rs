@@ -20,6 +20,9 @@ pub const RULE_1: u32 = 1;
 /// The number of rule 2 for the offset of a raw date: its hours are at most 23, its minutes at most 59.
 pub const RULE_2: u32 = 2;
 
+/// The length, in bytes, of the longest text that [`parse_relative_turns`] reads.
+pub const TURNS_MAX: usize = 4096;
+
 /// Reads the date of a commit header: `1745582210 +0200`.
 ///
 /// It is as lenient as gix-date: if the first word is not a number, its leading digits are read, and an offset that
@@ -118,6 +121,37 @@ pub fn parse_iso(text: impl AsRef<[u8]>) -> Result<Time, Refusal> {
 pub fn parse_relative(text: impl AsRef<[u8]>, now: Option<Time>) -> Result<Time, Refusal> {
     let (has_now, at) = current(now);
     read(|seconds, offset| entries::relative(text.as_ref(), has_now, at.seconds, at.offset, seconds, offset))
+}
+
+/// Reads a relative date by the second reader, which takes turns: one function waits for a count, the other for its unit,
+/// and each hands the rest of the text to the other. `docs/relative-dates.md` explains relative dates by this reader.
+///
+/// A text of at most [`TURNS_MAX`] bytes is answered as by [`parse_relative`], in every case. White space at its ends
+/// counts. If you only want the answer, call [`parse_relative`], which has no limit on the length.
+///
+/// It calls itself at most once for each word of the text, so at most 2049 calls deep. `include/chowderbell.h` says how
+/// much stack that takes.
+///
+/// # Errors
+/// Those of [`parse_relative`], in the same order. A text of more than [`TURNS_MAX`] bytes gives [`Refusal::NotAscii`] if it
+/// holds a byte of 128 or more, else [`Refusal::Form`].
+///
+/// ```
+/// use chowderbell::{parse_relative, parse_relative_turns, Refusal, Time, TURNS_MAX};
+///
+/// let now = Time::new(1622462400, 0); // 31 May 2021, noon
+/// assert_eq!(parse_relative_turns("1 month ago", Some(now)), Ok(Time::new(1619870400, 0)));
+/// assert_eq!(parse_relative_turns("2 ago", Some(now)), Err(Refusal::Form)); // `ago` is the unit here
+///
+/// let longest = format!("{:TURNS_MAX$}", "now"); // and 4093 spaces
+/// assert_eq!(parse_relative_turns(&longest, Some(now)), Ok(now));
+/// let longer = longest + " ";
+/// assert_eq!(parse_relative_turns(&longer, Some(now)), Err(Refusal::Form));
+/// assert_eq!(parse_relative(&longer, Some(now)), Ok(now));
+/// ```
+pub fn parse_relative_turns(text: impl AsRef<[u8]>, now: Option<Time>) -> Result<Time, Refusal> {
+    let (has_now, at) = current(now);
+    read(|seconds, offset| entries::relative_turns(text.as_ref(), has_now, at.seconds, at.offset, seconds, offset))
 }
 
 /// Reads a date of any form: `@` and then a raw date or seconds; plain seconds from 100000000 on; ISO; relative; raw.

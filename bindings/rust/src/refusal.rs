@@ -8,7 +8,8 @@ use core::fmt;
 pub enum Refusal {
     /// 1: the text holds a byte of 128 or more.
     NotAscii = 1,
-    /// 2: the text is not of the form asked for; or the number of a rule is not 1 or 2.
+    /// 2: the text is not of the form asked for; or the number of a rule is not 1 or 2; or the text has more than the 4096
+    /// bytes that [`parse_relative_turns`](crate::parse_relative_turns) takes.
     Form = 2,
     /// 3: the text is relative, and the current time is missing.
     Missing = 3,
@@ -71,7 +72,9 @@ impl fmt::Display for Refusal {
     fn fmt(&self, f: &mut fmt::Formatter<'_>) -> fmt::Result {
         f.write_str(match self {
             Refusal::NotAscii => "the text holds a byte of 128 or more",
-            Refusal::Form => "the text is not of the form asked for, or the number of a rule is not 1 or 2",
+            Refusal::Form => {
+                "the text is not of the form asked for or is too long for its reader, or the number of a rule is not 1 or 2"
+            }
             Refusal::Missing => "the text is relative, and the current time is missing",
             Refusal::Current => "the current time is out of range",
             Refusal::Pairs => "the text is relative and has too many pairs",

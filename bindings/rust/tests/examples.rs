@@ -1,7 +1,8 @@
 //! The examples of RULES 11 and each refusal, through the safe calls. One row is one case.
 
 use chowderbell::Refusal::{self, *};
-use chowderbell::{parse, parse_by, parse_header, parse_iso, parse_raw, parse_raw_by, parse_relative};
+use chowderbell::{parse, parse_by, parse_header, parse_iso, parse_raw, parse_raw_by};
+use chowderbell::{parse_relative, parse_relative_turns};
 use chowderbell::{Time, RULE_1, RULE_2};
 
 /// Noon of 31 May 2021 at offset 0.
@@ -22,6 +23,12 @@ fn hold(form: &str, rows: &[(&str, Answer)], read: impl Fn(&str) -> Result<Time,
         }
     }
     assert_eq!(differ, 0, "rows differ");
+}
+
+/// Reads every row by both readers of relative dates, which give the same answer to a text of at most 4096 bytes.
+fn hold_relative(rows: &[(&str, Answer)], now: Option<Time>) {
+    hold("relative", rows, |text| parse_relative(text, now));
+    hold("relative by turns", rows, |text| parse_relative_turns(text, now));
 }
 
 #[test]
@@ -233,7 +240,7 @@ fn too_large_beside_other_forms() {
     ];
     let relative = rows.map(|(text, relative, _)| (text, relative));
     let any = rows.map(|(text, _, any)| (text, any));
-    hold("relative", &relative, |text| parse_relative(text, now));
+    hold_relative(&relative, now);
     hold("any", &any, |text| parse(text, now));
     hold("any by rule 1", &any, |text| parse_by(RULE_1, text, now));
     hold("any by rule 2", &any, |text| parse_by(RULE_2, text, now));
@@ -269,6 +276,7 @@ fn iso() {
     hold("iso", &rows, |text| parse_iso(text));
 }
 
+/// RULES 11.7 and 11.8, and the named days.
 #[test]
 fn relative() {
     let rows = [
@@ -287,14 +295,15 @@ fn relative() {
         ("", Err(Form)),
         ("1 day \u{e9}", Err(NotAscii)),
     ];
-    hold("relative", &rows, |text| parse_relative(text, Some(NOW)));
+    hold_relative(&rows, Some(NOW));
     hold("any", &rows, |text| parse(text, Some(NOW)));
     hold("any by rule 1", &rows, |text| parse_by(RULE_1, text, Some(NOW)));
     hold("any by rule 2", &rows, |text| parse_by(RULE_2, text, Some(NOW)));
-    let leap = Some(Time::new(1582934400, 0));
-    hold("relative", &[("1 year", Ok((1551398400, 0)))], |text| parse_relative(text, leap));
+    // 29 February 2020: the 29th day of February 2019 is 1 March
+    hold_relative(&[("1 year", Ok((1551398400, 0)))], Some(Time::new(1582934400, 0)));
 }
 
+/// RULES 11.9, the range.
 #[test]
 fn relative_at_the_ends_of_the_range() {
     let first = Time::new(-377705023201, 93599);
@@ -304,9 +313,9 @@ fn relative_at_the_ends_of_the_range() {
         ("1 second", Err(Range)),
         ("yesterday", Err(Range)),
     ];
-    hold("relative", &rows, |text| parse_relative(text, Some(first)));
+    hold_relative(&rows, Some(first));
     let last = Time::new(253402207200, -93599);
-    hold("relative", &[("now", Ok((last.seconds, last.offset)))], |text| parse_relative(text, Some(last)));
+    hold_relative(&[("now", Ok((last.seconds, last.offset)))], Some(last));
     for now in [
         Time::new(first.seconds - 1, 0),
         Time::new(last.seconds + 1, 0),
@@ -315,24 +324,23 @@ fn relative_at_the_ends_of_the_range() {
         Time::new(i64::MIN, i32::MIN),
         Time::new(i64::MAX, i32::MAX),
     ] {
-        hold("relative", &[("now", Err(Current)), ("x", Err(Form))], |text| parse_relative(text, Some(now)));
+        hold_relative(&[("now", Err(Current)), ("x", Err(Form))], Some(now));
         hold("any", &[("now", Err(Current)), ("@5", Ok((5, 0)))], |text| parse(text, Some(now)));
     }
 }
 
+/// RULES 11.9, the bound of pairs.
 #[test]
 fn relative_with_many_pairs() {
     let (most, more) = ("1 day ".repeat(32), "1 day ".repeat(33));
     let out = Some(Time::new(i64::MIN, 0));
     let rows: [(&str, Answer); 2] = [(&most, Ok((NOW.seconds - 32 * 86400, 0))), (&more, Err(Pairs))];
-    hold("relative", &rows, |text| parse_relative(text, Some(NOW)));
-    hold("relative", &[(&most, Err(Missing)), (&more, Err(Pairs))], |text| parse_relative(text, None));
-    hold("relative", &[(&most, Err(Current)), (&more, Err(Pairs))], |text| parse_relative(text, out));
+    hold_relative(&rows, Some(NOW));
+    hold_relative(&[(&most, Err(Missing)), (&more, Err(Pairs))], None);
+    hold_relative(&[(&most, Err(Current)), (&more, Err(Pairs))], out);
     // 2 is tested before 5, so the whole text is read even if it has too many pairs
     let unknown = "1 x ".repeat(33);
-    hold("relative", &[(&unknown, Err(Form)), (&(unknown.clone() + "ago"), Err(Pairs))], |text| {
-        parse_relative(text, Some(NOW))
-    });
+    hold_relative(&[(&unknown, Err(Form)), (&(unknown.clone() + "ago"), Err(Pairs))], Some(NOW));
 }
 
 #[test]

@@ -1,7 +1,7 @@
 //! The writers: bytes written, bytes not written, rooms of every length.
 
 use chowderbell::Refusal::*;
-use chowderbell::{entries, Refusal, Time, TimeBuf, UnknownNumber, HEADER_MAX, ISO_LENGTH};
+use chowderbell::{entries, Refusal, Time, TimeBuf, UnknownNumber, HEADER_MAX, ISO_LENGTH, TURNS_MAX};
 
 #[test]
 fn header() {
@@ -84,6 +84,12 @@ fn a_refusal_leaves_zeros() {
     (seconds, offset) = (77, 77);
     assert_eq!(entries::header(b"99999999999999999999 +0100", &mut seconds, &mut offset), 11);
     assert_eq!((seconds, offset), (0, 0));
+    let longer = [b' '; TURNS_MAX + 1];
+    for (text, has_now, number) in [(&b"now"[..], 0, 3), (b"x", 1, 2), (&longer, 1, 2), (b"\x80", 1, 1)] {
+        (seconds, offset) = (77, 77);
+        let turns = entries::relative_turns(text, has_now, 1, 1, &mut seconds, &mut offset);
+        assert_eq!((turns, seconds, offset), (number, 0, 0), "relative by turns, {} bytes", text.len());
+    }
     for (rule, text, number) in
         [(2, "5 +2400", 2), (2, "99999999999999999999 +0100", 11), (3, "5 +0100", 2), (3, "\u{80}", 1)]
     {
@@ -99,6 +105,8 @@ fn a_refusal_leaves_zeros() {
     // any value but 0 means that there is a current time
     assert_eq!(entries::relative(b"now", 255, 1, 2, &mut seconds, &mut offset), 0);
     assert_eq!((seconds, offset), (1, 2));
+    assert_eq!(entries::relative_turns(b"now", 255, 5, 6, &mut seconds, &mut offset), 0);
+    assert_eq!((seconds, offset), (5, 6));
     assert_eq!(entries::any_by(2, b"now", 255, 3, 4, &mut seconds, &mut offset), 0);
     assert_eq!((seconds, offset), (3, 4));
 }

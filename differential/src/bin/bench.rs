@@ -98,7 +98,7 @@ fn reader<'a>(name: &str, form: Form, texts: Vec<String>) -> Row<'a> {
                     Form::RawBy(_) => drop(black_box(visible::raw_2(text))),
                     Form::Iso => drop(black_box(visible::iso(text))),
                     // the current time is taken by value
-                    Form::Relative => drop(black_box(visible::relative(text, Some(now.clone())))),
+                    Form::Relative | Form::Turns => drop(black_box(visible::relative(text, Some(now.clone())))),
                     Form::Any | Form::AnyBy(1) => drop(black_box(visible::any(text, Some(now.clone())))),
                     Form::AnyBy(_) => drop(black_box(visible::any_2(text, Some(now.clone())))),
                 }
@@ -131,6 +131,21 @@ fn readers<'a>() -> Vec<Row<'a>> {
     };
     let row =
         |name: &str, form: Form, text: &dyn Fn(i64) -> String| reader(name, form, (0..INPUTS).map(text).collect());
+    // the same texts for both readers of relative dates
+    let relative = |name: &str, form: Form| {
+        let row = |about: &str, text: &dyn Fn(i64) -> String| row(&format!("{name}, {about}"), form, text);
+        [
+            row("`now`", &|k| ["now", "today", "yesterday", "Now"][(k % 4) as usize].to_string()),
+            row("seconds only", &ago),
+            row("one month", &|k| format!("{} months ago", 1 + k % 30)),
+            row("one year", &|k| format!("{} years ago", 1 + k % 30)),
+            row("month and days", &|k| format!("{} months {} days ago", 1 + k % 12, 1 + k % 30)),
+            row("32 pairs of seconds", &of_seconds),
+            row("32 pairs with months", &with_months),
+            row("1,000 words passed over", &|k| format!("{} days{} ago", 1 + k % 30, " and".repeat(1000))),
+            row("refused", &|k| format!("{} things", 1 + k % 30)),
+        ]
+    };
     let mut rows = vec![
         row("header", Form::Header, &header),
         row("header, no offset", Form::Header, &|k| seconds(k).to_string()),
@@ -141,21 +156,19 @@ fn readers<'a>() -> Vec<Row<'a>> {
         row("ISO dotted", Form::Iso, &|k| format!("{} {} {}", date(k).replace('-', "."), clock(k), offset(k))),
         row("ISO compact", Form::Iso, &compact),
         row("ISO, refused", Form::Iso, &|k| format!("{} {} x", date(k), clock(k))),
-        row("relative, `now`", Form::Relative, &|k| ["now", "today", "yesterday", "Now"][(k % 4) as usize].to_string()),
-        row("relative, seconds only", Form::Relative, &ago),
-        row("relative, one month", Form::Relative, &|k| format!("{} months ago", 1 + k % 30)),
-        row("relative, one year", Form::Relative, &|k| format!("{} years ago", 1 + k % 30)),
-        row("relative, month and days", Form::Relative, &|k| format!("{} months {} days ago", 1 + k % 12, 1 + k % 30)),
-        row("relative, 32 pairs of seconds", Form::Relative, &of_seconds),
-        row("relative, 32 pairs with months", Form::Relative, &with_months),
-        row("relative, refused", Form::Relative, &|k| format!("{} things", 1 + k % 30)),
+    ];
+    rows.extend(relative("relative", Form::Relative));
+    if cfg!(feature = "turns") {
+        rows.extend(relative("relative by turns", Form::Turns));
+    }
+    rows.extend([
         row("any, `@` and seconds", Form::Any, &|k| format!("@{}", seconds(k))),
         row("any, seconds", Form::Any, &|k| seconds(k).to_string()),
         row("any, ISO", Form::Any, &flexible),
         row("any, relative", Form::Any, &ago),
         row("any, raw", Form::Any, &header),
         row("any, refused", Form::Any, &|k| format!("no date at all {k}x")),
-    ];
+    ]);
     if cfg!(feature = "rules") {
         let wider = |k: i64| format!("{} {}", seconds(k), ["+0520", "-2000", "+2359", "-0001"][(k % 4) as usize]);
         rows.extend([

@@ -73,7 +73,7 @@ fn text_for(form: Form, rng: &mut Rng) -> Vec<u8> {
     match form {
         Form::Header | Form::Raw | Form::RawBy(_) => texts::header(rng, &mut text),
         Form::Iso => texts::iso(rng, &mut text),
-        Form::Relative => texts::relative(rng, &mut text),
+        Form::Relative | Form::Turns => texts::relative(rng, &mut text),
         Form::Any | Form::AnyBy(_) => texts::good(rng, &mut text),
     }
     if rng.once_in(3) {

@@ -8,6 +8,7 @@ mod readers;
 mod relative;
 mod rules;
 mod too_large;
+mod turns;
 mod writers;
 
 use crate::ledger::Ledger;
@@ -40,6 +41,7 @@ pub const SUITES: &[Suite] = &[
     suite("rule-offsets", "every offset of two-byte fields, some seconds, by each rule", rules::offsets),
     suite("rule-numbers", "numbers of rules: 0 to 1000, around each power of two", rules::numbers_of_rules),
     suite("too-large", "numbers around 64 bits between fronts and tails, each reader", too_large::too_large),
+    suite("turns", "the second relative reader: long texts, many pairs, many words", turns::turns),
     suite("short", "every text of up to 4 bytes over 37 bytes, each reader", readers::short),
     suite("bytes", "every byte at every place of telling texts, each reader", readers::bytes),
     suite("offsets-5", "every offset of 5 bytes over sign, digits, space, letter", header::offsets_5),

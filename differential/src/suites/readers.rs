@@ -6,7 +6,7 @@ use crate::oracle::{MAX_OFFSET, MAX_SECONDS, MIN_SECONDS, Now};
 use crate::texts::{self, NOON, TELLING, every_edge};
 
 /// Current times of every kind.
-fn some_nows() -> Vec<Now> {
+pub(super) fn some_nows() -> Vec<Now> {
     let mut nows = vec![Now::missing()];
     for (seconds, offset) in [
         (NOON, 0),
