@@ -1,5 +1,4 @@
--- The cases of `byPairs` and `from`, by what the code has found: how many pairs there are, where the steps start, which pairs are
--- held.
+-- The cases of `byPairs` and `from`, by what the code has found: how many pairs there are, where the steps start.
 -- Assumes nothing.
 use mathlib.Core.Path.{_≡_, refl, sym, ap, _∙_}
 use mathlib.Core.Bool.{Bool, true, false, _&&_, _||_}
@@ -8,7 +7,7 @@ use Prim.Native.Nat.{ℕ, zero, suc, _≤_, _<_}
 use native.Mathlib.Omega.{arith}
 use borrow.Author.Tests.{lt-ltb, le-leb, lt-leb}
 use lib.Dec.{ltb, eqb·suc-zero}
-use lib.ListN.{length, take}
+use lib.ListN.{length}
 use Rattle.text.proofs.Lists.{by-test}
 use Rattle.time.specs.Range.{timeInRange, timeOf, movedOf}
 use Rattle.time.specs.declared.Time.{Time as Moment}
@@ -23,7 +22,7 @@ use Rattle.time.proofs.Ranges.{timeOf-instantOf}
 use Rattle.relative.specs.Pairs.{known, pairsOf, agoIn}
 use Rattle.relative.specs.Steps.{steps}
 use Rattle.relative.specs.Relative.{from, byPairs}
-use Rattle.relative.specs.Held.{places, countedOf, Holds, startOf}
+use Rattle.relative.specs.Held.{countedOf, startOf}
 use Rattle.relative.specs.declared.pair.Pair.{Pair}
 use Rattle.relative.specs.declared.pairs.Counted.{Counted}
 use Rattle.relative.specs.declared.pairs.Counted.the-variants.{Pairs, Nothing}
@@ -37,7 +36,7 @@ nothing-of-counted zero allowed e = refl
 nothing-of-counted (suc n) true e = let z : _≡_ {A = ℕ} 0 1 = cc (rw eqb·suc-zero at e) in absurd (omega arith)
 nothing-of-counted (suc n) false e = rw (lt-ltb 0 (suc n) (omega arith))
 
-pairs-of-counted : (n m : ℕ) (allowed : Bool) → countedOf n allowed ≡ Pairs m → ((ltb 0 n && allowed) ≡ true) × (n ≡ m)
+pub pairs-of-counted : (n m : ℕ) (allowed : Bool) → countedOf n allowed ≡ Pairs m → ((ltb 0 n && allowed) ≡ true) × (n ≡ m)
 unfolding countedOf
 pairs-of-counted zero m allowed e = let z : _≡_ {A = ℕ} 0 1 = cc in absurd (omega arith)
 pairs-of-counted (suc n) m true e = let k : Pairs (suc n) ≡ Pairs m = rw eqb·suc-zero at e in (rw (lt-ltb 0 (suc n) (omega arith)), cc)
@@ -82,11 +81,3 @@ startOf-movedOf x = by-test (timeInRange x) (λ e. rw e) (λ e. rw e)
 -- by the start that the code found
 pub from-of-start : (current : Now) (ps : List Pair) (s t : Start) → s ≡ startOf current → s ≡ t → from current ps ≡ byStart ps t
 from-of-start current ps s t e f = from-startOf current ps ∙ ap (byStart ps) (sym e ∙ f)
-
--- ---- the pairs that are held
-pub Holds-of-counted : (n : ℕ) (allowed : Bool) (held ps : List Pair) (t : Counted) → t ≡ countedOf n allowed → (n ≤ places → take n held ≡ ps) → Holds t held ps
-Holds-of-counted n allowed held ps (Pairs m) e h = rw (pairs-of-counted n m allowed (sym e) .1) at h
-Holds-of-counted n allowed held ps Nothing e h = tt
-
-pub take-of-Holds : (t : Counted) (n : ℕ) (held ps : List Pair) → t ≡ Pairs n → Holds t held ps → n ≤ places → take n held ≡ ps
-take-of-Holds t n held ps e h = rw e at h

@@ -28,8 +28,7 @@ use Rattle.relative.specs.Steps.{steps}
 use Rattle.relative.specs.Relative.{from, relativeOf}
 use Rattle.relative.specs.Joined.{Joinable, joinedBySpace, after}
 use Rattle.relative.specs.declared.pair.Pair.{Pair}
-use Rattle.relative.proofs.Holding.{steps-refused}
-use Rattle.relative.proofs.Texts.{pairsFrom-append, waitsFrom-append, known-append, steps-append, Good, steps-good}
+use Rattle.relative.proofs.Texts.{pairsFrom-append, waitsFrom-append, known-append, steps-append, steps-refused, Good, steps-good}
 use Rattle.relative.proofs.Named.{relativeOf-of-pairs}
 
 -- a whole text answers its pairs, applied from the current time

@@ -1,12 +1,11 @@
--- The laws of relative dates, each file over those before it. Counts, Landing, Scanning, Holding, Cases: the code computes what
--- the definitions say. Bounds: two bounds on the number of pairs. Texts, Named: two texts in a row; a text with a pair is not one
+-- The laws of relative dates, each file over those before it. Counts, Landing, Scanning, Cases: the code computes what the
+-- definitions say. Bounds: two bounds on the number of pairs. Texts, Named: two texts in a row; a text with a pair is not one
 -- of the names. Dates: months earlier, as dates. Joining, Earlier, Seconds, LetterCase: the theorems that callers may rely on.
 -- Examples: those of the rules, computed.
 -- Assumes nothing.
 pub mod Counts
 pub mod Landing
 pub mod Scanning
-pub mod Holding
 pub mod Cases
 pub mod Bounds
 pub mod Texts

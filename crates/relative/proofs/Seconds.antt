@@ -36,7 +36,7 @@ use Rattle.relative.specs.declared.pair.Unit.{Unit}
 use Rattle.relative.specs.declared.pair.Unit.the-variants.{Seconds, Months, Unknown}
 use Rattle.relative.specs.declared.pair.Pair.{Pair}
 use Rattle.relative.proofs.Landing.{landed-of-lt}
-use Rattle.relative.proofs.Holding.{steps-refused}
+use Rattle.relative.proofs.Texts.{steps-refused}
 use Rattle.relative.proofs.Named.{relativeOf-of-pairs}
 use Rattle.relative.proofs.Joining.{known-or, answer-of-whole, joined-pairs, joined-whole}
 

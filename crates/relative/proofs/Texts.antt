@@ -9,6 +9,7 @@ use Rattle.text.specs.declared.number.Number.{Number}
 use Rattle.text.specs.declared.number.Number.the-variants.{Value, Nothing}
 use Rattle.text.proofs.Lists.{by-test, both}
 use Rattle.time.specs.Range.{secondsInRange, offsetInRange, timeInRange}
+use Rattle.time.specs.declared.Refusal.{Refusal}
 use Rattle.time.specs.declared.Answer.{Answer}
 use Rattle.time.specs.declared.Answer.the-variants.{Time, Refused}
 use Rattle.relative.specs.Pairs.{next, pairsFrom, known, isKnown}
@@ -38,6 +39,12 @@ pub steps-append : (a b : List Pair) (x : Answer) → steps (a ++ b) x ≡ steps
 unfolding steps
 steps-append [] b x = refl
 steps-append (p ∷ a) b x = steps-append a b (step p x)
+
+-- a refusal stays
+pub steps-refused : (ps : List Pair) (r : Refusal) → steps ps (Refused r) ≡ Refused r
+unfolding steps step
+steps-refused [] r = refl
+steps-refused (p ∷ ps) r = steps-refused ps r
 
 -- ---- what steps keep: an answer in range
 abbrev pub Good : Answer → Type 0

@@ -3,7 +3,6 @@
 //
 // Every text has an answer: a time, or the first of the refusals 1, 2, 5, 3, 4 and 6 that applies.
 // `parse` needs no month table. `parse_with` borrows one; it is for callers that read many texts.
-mod held;
 mod pair;
 mod pairs;
 mod steps;
@@ -15,7 +14,6 @@ ghost use Rattle.calendar.specs.Table.{IsMonths};
 ghost use Rattle.relative.specs.Relative.{maxPairs, from, namedOf, byPairs, relativeOf};
 ghost use Rattle.relative.specs.declared.pair.Unit.the-variants.{Seconds};
 use calendar::SECONDS_PER_DAY;
-use held::PLACES;
 pub use pair::MAX_PAIRS;
 pub use pair::Pair;
 pub use pair::Unit;
@@ -89,36 +87,44 @@ fn seconds_before(current: Now, k: u64) -> Answer
 //   Missing (3)  if there is no current time,
 //   Current (4)  if the current time is out of range,
 //   Range (6)    if the pair lands out of range.
-// An unknown unit is a second here: whether it is allowed is for a reader to say.
+// An unknown unit is a second here: whether it is allowed is for a reader to say. For readers other
+// than the one above; `steps::subtract_pair` has one caller, so that the compiler inlines it there.
 pub fn pair_before(current: Now, pair: Pair) -> Answer
     ensures { λ r. ⌜ r ≡ from current (pair ∷ []) ⌝ }
 {
     let start = steps::start_of(current);
     match start {
-        Start::From(i) => steps::answer(steps::subtract_pair(&[], pair, i)),
+        Start::From(i) => {
+            let n = pair.count;
+            let unit = pair.unit;
+            match unit {
+                Unit::Seconds(k) => steps::answer(steps::seconds_back(i, n, k)),
+                Unit::Months(k) => steps::answer(steps::months_earlier(&[], i, n, k)),
+                Unit::Unknown => steps::answer(steps::seconds_back(i, n, 1)),
+            }
+        }
         Start::Refused(r) => Answer::Refused(r),
     }
 }
 
-// The answer of a text that is not one of those names (RULES 7.2 to 7.10). The current time is
-// looked at, and the calendar used, only if the text has a pair. The two arrays for the pairs are
-// made here and not in `parse_with`, because a name needs none.
+// The answer of a text that is not one of those names (RULES 7.2 to 7.10). Pairs are subtracted while
+// they are read; whether the text may be answered at all is asked once it is read.
 fn parse_pairs(months: &[u32], s: &[u8], current: Now) -> Answer
     requires { ⌜ IsMonths (now months) ⌝ }
     ensures { λ r. ⌜ r ≡ byPairs maxPairs (now (s .entry)) current ⌝ }
 {
-    let mut counts = [0u64; PLACES];
-    let mut units = [0u64; PLACES];
-    let counted = pairs::parse_ago(s, &mut counts, &mut units);
+    let start = steps::start_of(current);
+    let a = pairs::scan(months, s, steps::landing_of(start));
+    let counted = pairs::verdict(a.n, a.known | a.ago);
     let Counted::Pairs(n) = counted else {
         return Answer::Refused(Refusal::Form);
     };
     if n > MAX_PAIRS {
         return Answer::Refused(Refusal::Pairs);
     }
-    let start = steps::start_of(current);
+    let at = a.at;
     match start {
-        Start::From(i) => steps::answer(steps::subtract_pairs(months, &counts, &units, n, i)),
+        Start::From(_) => steps::answer(at),
         Start::Refused(r) => Answer::Refused(r),
     }
 }

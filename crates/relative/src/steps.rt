@@ -4,14 +4,11 @@ ghost use mathlib.Core.Path.{_≡_};
 ghost use Prim.Native.Nat.{_*_, _≤_};
 ghost use lib.Dec.{leb};
 ghost use lib.IntN.{pos, _-ℤ_};
-ghost use lib.ListN.{length, take};
 ghost use Rattle.calendar.specs.Table.{IsMonths};
 ghost use Rattle.time.specs.Range.{since1970, timeOf, InRange, MovedInRange};
 ghost use Rattle.time.specs.declared.Answer.the-variants.{Time as TimeAt};
-ghost use Rattle.relative.specs.Held.{places, zipped, startOf, StartInRange, answerOf};
-ghost use Rattle.relative.specs.Steps.{monthsEarlier, landed, step, steps};
-use crate::held;
-use crate::held::PLACES;
+ghost use Rattle.relative.specs.Held.{startOf, StartInRange, landingOf, answerOf};
+ghost use Rattle.relative.specs.Steps.{monthsEarlier, landed, step};
 use crate::pair::Pair;
 use crate::pair::Unit;
 use calendar::Found;
@@ -43,6 +40,18 @@ pub fn start_of(current: Now) -> Start
     Start::From(i)
 }
 
+// A start as the first landing; one that is refused is Nothing.
+pub fn landing_of(start: Start) -> Moved
+    requires { ⌜ StartInRange start ⌝ }
+    ensures is { λ r. ⌜ r ≡ landingOf start ⌝ }
+    ensures range { λ r. ⌜ MovedInRange r ⌝ }
+{
+    match start {
+        Start::From(i) => Moved::In(i),
+        Start::Refused(_) => Moved::Nothing,
+    }
+}
+
 // A landing as the answer: out of range is 6.
 pub fn answer(m: Moved) -> Answer
     requires { ⌜ MovedInRange m ⌝ }
@@ -54,39 +63,20 @@ pub fn answer(m: Moved) -> Answer
     }
 }
 
-// Subtracts the first n pairs, each from where the one before it landed.
-pub fn subtract_pairs(
-    months: &[u32],
-    counts: &[u64; PLACES],
-    units: &[u64; PLACES],
-    n: usize,
-    i: Instant,
-) -> Moved
-    requires { ⌜ IsMonths (now months) × (length (now counts) ≡ places) × (length (now units) ≡ places) ⌝ }
-    requires { ⌜ (n ≤ places) × InRange i ⌝ }
-    ensures is { λ r. ⌜ answerOf r ≡ steps (take n (zipped (now (counts .entry)) (now (units .entry)))) (TimeAt (timeOf i)) ⌝ }
+// Subtracts one pair from where the one before it landed. Out of range it stays.
+pub fn subtract_from(months: &[u32], p: Pair, at: Moved) -> Moved
+    requires { ⌜ IsMonths (now months) × MovedInRange at ⌝ }
+    ensures is { λ r. ⌜ answerOf r ≡ step p (answerOf at) ⌝ }
     ensures range { λ r. ⌜ MovedInRange r ⌝ }
 {
-    let mut at = i;
-    let mut k: usize = 0;
-    while k < n {
-        let unit = held::unit_at(units[k]);
-        let pair = Pair {
-            count: counts[k],
-            unit: unit,
-        };
-        let moved = subtract_pair(months, pair, at);
-        let Moved::In(landed) = moved else {
-            return Moved::Nothing;
-        };
-        at = landed;
-        k += 1;
+    match at {
+        Moved::In(i) => subtract_pair(months, p, i),
+        Moved::Nothing => Moved::Nothing,
     }
-    Moved::In(at)
 }
 
 // Subtracts one pair. An unknown unit is a second.
-pub fn subtract_pair(months: &[u32], p: Pair, i: Instant) -> Moved
+fn subtract_pair(months: &[u32], p: Pair, i: Instant) -> Moved
     requires { ⌜ IsMonths (now months) × InRange i ⌝ }
     ensures is { λ r. ⌜ answerOf r ≡ step p (TimeAt (timeOf i)) ⌝ }
     ensures range { λ r. ⌜ MovedInRange r ⌝ }
@@ -115,7 +105,7 @@ pub fn seconds_back(i: Instant, n: u64, k: u64) -> Moved
 
 // n * k months earlier, on the local clock. The landing is tested for range, not the first day of
 // its month: at offset 0, January of year -9999 begins out of range.
-fn months_earlier(months: &[u32], i: Instant, n: u64, k: u64) -> Moved
+pub fn months_earlier(months: &[u32], i: Instant, n: u64, k: u64) -> Moved
     requires { ⌜ IsMonths (now months) × InRange i ⌝ }
     ensures is { λ r. ⌜ answerOf r ≡ landed (monthsEarlier (timeOf i) (n * k)) (timeOf i .offset) ⌝ }
     ensures range { λ r. ⌜ MovedInRange r ⌝ }

@@ -21,8 +21,7 @@ use Rattle.relative.specs.Pairs.{known, isKnown}
 use Rattle.relative.specs.Steps.{step, steps}
 use Rattle.relative.specs.Relative.{from, verdict}
 use Rattle.relative.specs.declared.pair.Pair.{Pair}
-use Rattle.relative.proofs.Holding.{steps-refused}
-use Rattle.relative.proofs.Texts.{Good, steps-good}
+use Rattle.relative.proofs.Texts.{steps-refused, Good, steps-good}
 use Rattle.turns.specs.Reading.{subtracted, unmoved, readOn, AnswersBy}
 use Rattle.turns.specs.declared.reading.Reading.{Reading}
 

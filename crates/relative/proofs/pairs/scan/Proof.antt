@@ -1,6 +1,6 @@
--- `relative::pairs::scan` meets its contract. The invariant: what was stored, counted and marked so far, together with the words
--- that the reader has left, makes up the whole text (`Scanned`); and each pair took more than one byte. The measure is the length
--- of the text that is left.
+-- `relative::pairs::scan` meets its contract. The invariant: what was counted, marked and subtracted so far, together with the
+-- words that the reader has left, makes up the whole text (`Scanned`); and each pair took more than one byte. The measure is the
+-- length of the text that is left.
 -- Assumes nothing.
 use mathlib.Core.Path.{_≡_, ap, _∙_}
 use mathlib.Core.Bool.{false}
@@ -8,26 +8,27 @@ use mathlib.Core.List.{List, _∷_}
 use Prim.Native.Nat.{ℕ, _≤_, _<_, _-_}
 use native.Mathlib.Omega.{arith}
 use borrow.Author.Needs.{needs}
-use lib.ListN.{length, length-set}
+use lib.ListN.{length}
 use Rattle.text.specs.Places.{part}
 use Rattle.text.specs.declared.number.Number.the-variants.{Value}
+use Rattle.time.specs.Range.{MovedInRange}
 use Rattle.relative.specs.Words.{is, countOf, unitOf}
-use Rattle.relative.specs.Held.{places, zipped}
-use Rattle.relative.proofs.Holding.{Coded-unitOf, stored-two}
-use Rattle.relative.proofs.Scanning.{left, Scanned, scanned-start, all-number, all-known, all-mark, all-stored, marked, passed, dropped, counted, took-word, took-none, took-second, took-last, further}
+use Rattle.relative.specs.Relative.{maxPairs}
+use Rattle.relative.specs.Held.{answerOf}
+use Rattle.relative.proofs.Scanning.{left, Scanned, scanned-start, all-number, all-known, all-mark, all-gone, marked, passed, dropped, subtracted, beyond, took-word, took-none, took-second, took-last, further}
 use Rattle.relative.proofs.pairs.scan.Statement.{statement}
 use Rattle.relative.proofs.pairs.scan.Tie as tie
 
 abbrev Inv-loop : tie.InvT-loop
-Inv-loop s counts₀ units₀ n₀ known₀ ago₀ w₀ W counts units n known ago w =
-    (n ≤ w .at) × ((length counts ≡ places) × (length units ≡ places)) × Scanned places s (zipped counts units) n known ago (left s (w .at))
+Inv-loop months s n₀ known₀ ago₀ at₀ w₀ W n known ago at w =
+    (n ≤ w .at) × MovedInRange at × Scanned maxPairs s (answerOf at₀) n known ago (answerOf at) (left s (w .at))
 
 abbrev μ-loop : tie.MeasureT-loop
-μ-loop s counts₀ units₀ n₀ known₀ ago₀ w₀ W counts units n known ago w = length s - w .at
+μ-loop months s n₀ known₀ ago₀ at₀ w₀ W n known ago at w = length s - w .at
 
 -- what is behind, before the words of a list
 abbrev Behind : (c : tie.At-loop Inv-loop μ-loop) → List (List ℕ) → Type 0
-Behind c = Scanned places (c .before .before .before .args .s .now) (zipped (c .loop .counts) (c .loop .units)) (c .loop .n) (c .loop .known) (c .loop .ago)
+Behind c = let a = c .before .before .before .before .args in Scanned maxPairs (a .s .now) (answerOf (a .start)) (c .loop .n) (c .loop .known) (c .loop .ago) (answerOf (c .loop .at))
 
 -- ---- the first word that is left
 module _ (c : tie.After-known-told Inv-loop μ-loop) where
@@ -35,7 +36,7 @@ module _ (c : tie.After-known-told Inv-loop μ-loop) where
   at-loop = c .before .before .before .before
 
   abbrev text : List ℕ
-  text = at-loop .before .before .before .args .s .now
+  text = at-loop .before .before .before .before .args .s .now
 
   abbrev word : List ℕ
   word = part text (c .before .t .given .0 .0)
@@ -95,14 +96,14 @@ module _ (c : tie.After-is-known Inv-loop μ-loop) where
 
 -- no word is read yet
 loop-holds : tie.Need-loop-holds Inv-loop μ-loop
-loop-holds c = rw (c .new .ensures) (search needs, c .before .before .pre, scanned-start _ _ _)
+loop-holds c = rw (c .new .ensures) (search needs, c .before .before .before .pre .1, scanned-start _ _ _)
 
 -- no word is left
 returns : tie.Need-returns Inv-loop μ-loop
 returns c =
     let inv = c .before .before .before .loop .inv in
     let all = took-none _ _ (c .before .before .take .ensures) (inv .2) (c .enum-told .given .1) in
-    (all-number all, (all-known all, (all-mark all, (all-stored all, inv .1))))
+    (all-number all, (all-known all, (all-mark all, (all-gone all, inv .1))))
 
 loop-less : tie.Need-loop-less Inv-loop μ-loop
 loop-less c = omega (arith, moved (c .before .before .before .before))
@@ -135,11 +136,10 @@ returns-2 c =
     let other = at-other (c .before .before .before) in
     let at = at-word other in
     let all = dropped (took-last _ _ (c .before .before .take2 .ensures) (first at) (c .enum-told3 .given .1)) (not-ago other) in
-    (all-number all, (all-known all, (all-mark all, (all-stored all, at-loop at .loop .inv .1))))
+    (all-number all, (all-known all, (all-mark all, (all-gone all, at-loop at .loop .inv .1))))
 
--- a unit that a word says has a number
-code-of-requires : tie.Need-code-of-requires Inv-loop μ-loop
-code-of-requires c κs = rw (unit-is (c .before)) (Coded-unitOf _)
+subtract-from-requires : tie.Need-subtract-from-requires Inv-loop μ-loop
+subtract-from-requires c κs = let at = at-loop (at-first (at-second (c .before))) in (at .before .before .before .before .pre .0, at .loop .inv .1)
 
 add-n : tie.Need-add-n Inv-loop μ-loop
 add-n c = omega (arith, c .before .if2 .taken)
@@ -147,27 +147,26 @@ add-n c = omega (arith, c .before .if2 .taken)
 loop-less-3 : tie.Need-loop-less-3 Inv-loop μ-loop
 loop-less-3 c = let at = at-second (c .before .before) in omega (arith, moved (at-first at), moved2 at)
 
--- a pair that is held
+-- a pair that is subtracted
 loop-again-3 : tie.Need-loop-again-3 Inv-loop μ-loop
 loop-again-3 c =
     let at-unit = c .before .before in
-    let at = at-second at-unit in
-    let inv = at-loop (at-first at) .loop .inv in (
-      omega (arith, inv .0, moved (at-first at), moved2 at),
-      (simp length-set (inv .1 .0), simp length-set (inv .1 .1)),
-      stored-two _ _ (second at) (not-ago (at-other (at-count at))) (counts (at-count at)) (unit-is at-unit) (at-unit .is-known .ensures) (c .code-of .ensures) (inv .1 .0) (inv .1 .1) (omega (arith, c .before .if2 .taken)),
+    let at = at-second at-unit in (
+      omega (arith, at-loop (at-first at) .loop .inv .0, moved (at-first at), moved2 at),
+      c .subtract-from .ensures .1,
+      subtracted (second at) (not-ago (at-other (at-count at))) (counts (at-count at)) (unit-is at-unit) (at-unit .is-known .ensures) (c .subtract-from .ensures .0),
     )
 
 add-n-2 : tie.Need-add-n-2 Inv-loop μ-loop
 add-n-2 c =
-    let at-unit = c .before in
-    let at = at-second at-unit in
-    omega (arith, at-loop (at-first at) .before .before .before .good .0 .0, at-loop (at-first at) .loop .inv .0, moved (at-first at))
+    let at = at-second (c .before) in
+    let start = at-loop (at-first at) in
+    omega (arith, start .before .before .before .before .good .0 .1, start .loop .inv .0, moved (at-first at))
 
 loop-less-4 : tie.Need-loop-less-4 Inv-loop μ-loop
 loop-less-4 c = let at = at-second (c .before) in omega (arith, moved (at-first at), moved2 at)
 
--- one for which there is no place: counted, not held
+-- a pair beyond the bound: counted, not subtracted
 loop-again-4 : tie.Need-loop-again-4 Inv-loop μ-loop
 loop-again-4 c =
     let at-unit = c .before in
@@ -175,7 +174,7 @@ loop-again-4 c =
     let inv = at-loop (at-first at) .loop .inv in (
       omega (arith, inv .0, moved (at-first at), moved2 at),
       inv .1,
-      counted (second at) (not-ago (at-other (at-count at))) (counts (at-count at)) (unit-is at-unit) (at-unit .is-known .ensures) (c .if2 .left),
+      beyond (second at) (not-ago (at-other (at-count at))) (counts (at-count at)) (unit-is at-unit) (at-unit .is-known .ensures) (c .if2 .left),
     )
 
 pub scan-spec : {M : Type 1} → statement M
@@ -207,11 +206,7 @@ scan-spec =
     (λ c κs. search needs)
     (λ c κs. search needs)
     (λ c κs. search needs)
-    code-of-requires
-    (λ c. search needs)
-    (λ c. search needs)
-    (λ c. search needs)
-    (λ c. search needs)
+    subtract-from-requires
     add-n
     loop-less-3
     loop-again-3
