@@ -1,5 +1,5 @@
--- What a reading answers in the end, along its way: at the start, past a word that is no count, past a pair, and with nothing left. In order: pairs
--- subtracted one by one; the four laws.
+-- What a reading answers in the end, along its way: at the start, past a word that is no count, past a pair, and with nothing left.
+-- In order: pairs subtracted one by one; the laws of a reading.
 -- Assumes nothing.
 use mathlib.Core.Path.{_≡_, refl, sym, _∙_}
 use mathlib.Core.Bool.{Bool, true, false, _&&_, _||_, and-assoc, and-true, or-false, or-assoc}
