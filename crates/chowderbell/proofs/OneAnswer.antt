@@ -12,10 +12,10 @@ use Rattle.calendar.proofs.Walk.{IsMonths-unique}
 use Rattle.time.specs.declared.Answer.{Answer}
 use Rattle.time.specs.declared.Written.{Written}
 use Rattle.stamps.specs.declared.book.Checked.{Checked}
-use Rattle.stamps.specs.declared.book.Listed.{Listed}
+use Rattle.stamps.specs.declared.book.Copied.{Copied}
 use Rattle.dates.specs.Contracts.{OneAnswer, OneAnswerAnd}
 use Rattle.dates.proofs.Contracts.{one-answer}
-use Rattle.chowderbell.specs.Entries.{HandedOut, HandedLength, HandedCheck, HandedListing}
+use Rattle.chowderbell.specs.Entries.{HandedOut, HandedLength, HandedCheck, HandedCopy}
 use Rattle.time.proofs.Time.new.Reads as time-new
 use Rattle.time.proofs.Time.smallest.Reads as smallest
 use Rattle.time.proofs.Time.largest.Reads as largest
@@ -249,15 +249,15 @@ chowderbell-write-iso-unique κ a r s e f = written-unique
 HandedCheck-unique : {c : Checked} {n m k l : ℕ} → HandedCheck c n k → HandedCheck c m l → (n ≡ m) × (k ≡ l)
 HandedCheck-unique p q = (one-answer (p .number-is) (q .number-is), one-answer (p .line-is) (q .line-is))
 
-HandedListing-unique : {w : Listed} {n m k l i j : ℕ} {t u b : List ℕ} → HandedListing w n k i × (t ≡ b) → HandedListing w m l j × (u ≡ b) → (n ≡ m) × _≡_ {A = (ℕ × ℕ) × List ℕ} ((k, i), t) ((l, j), u)
-HandedListing-unique p q =
+HandedCopy-unique : {w : Copied} {n m k l i j : ℕ} {t u b : List ℕ} → HandedCopy w n k i × (t ≡ b) → HandedCopy w m l j × (u ≡ b) → (n ≡ m) × _≡_ {A = (ℕ × ℕ) × List ℕ} ((k, i), t) ((l, j), u)
+HandedCopy-unique p q =
     (one-answer (p .0 .number-is) (q .0 .number-is), λ i. ((one-answer (p .0 .length-is) (q .0 .length-is) i, one-answer (p .0 .line-is) (q .0 .line-is) i), one-answer (p .1) (q .1) i))
 
 pub chowderbell-book-check-unique : OneAnswerAnd chowderbell-book-check.Post ℕ (λ κ e. now (e .1 .0))
 chowderbell-book-check-unique κ a r s e f = HandedCheck-unique
 
 pub chowderbell-book-list-unique : OneAnswerAnd chowderbell-book-list.Post ((ℕ × ℕ) × List ℕ) (λ κ e. ((now (e .1 .1 .0), now (e .1 .1 .1 .0)), now (e .1 .0)))
-chowderbell-book-list-unique κ a r s e f = HandedListing-unique
+chowderbell-book-list-unique κ a r s e f = HandedCopy-unique
 
 -- ---- the calendar
 pub months-unique : OneAnswer months.Post

@@ -18,9 +18,9 @@ use Rattle.time.specs.declared.Written.{Written}
 use Rattle.header.specs.Raw.{Limits, limitsOf}
 use Rattle.header.specs.declared.raw.Rule.the-variants.{One, Two}
 use Rattle.stamps.specs.Book.{checkedNumber, checkedLine}
-use Rattle.stamps.specs.Listing.{listedNumber, listedLength, listedLine}
+use Rattle.stamps.specs.Copies.{copiedNumber, copiedLength, copiedLine}
 use Rattle.stamps.specs.declared.book.Checked.{Checked}
-use Rattle.stamps.specs.declared.book.Listed.{Listed}
+use Rattle.stamps.specs.declared.book.Copied.{Copied}
 use Rattle.chowderbell.specs.declared.times.Named.{Named}
 use Rattle.chowderbell.specs.declared.times.Named.the-variants.{By, Nothing}
 
@@ -58,7 +58,7 @@ pub record HandedCheck (c : Checked) (number line : ℕ) : Type 0 where
   pub line-is : line ≡ checkedLine c
 
 -- a listing of a book returns the number of its answer and stores its length, which is 0 for a refusal, and the line, as a check does
-pub record HandedListing (l : Listed) (number length line : ℕ) : Type 0 where
-  pub number-is : number ≡ listedNumber l
-  pub length-is : length ≡ listedLength l
-  pub line-is : line ≡ listedLine l
+pub record HandedCopy (l : Copied) (number length line : ℕ) : Type 0 where
+  pub number-is : number ≡ copiedNumber l
+  pub length-is : length ≡ copiedLength l
+  pub line-is : line ≡ copiedLine l

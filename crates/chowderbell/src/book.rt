@@ -6,12 +6,13 @@ ghost use mathlib.Core.Path.{_≡_};
 ghost use Rattle.text.specs.Room.{roomAfter};
 ghost use Rattle.relative.specs.Relative.{maxPairs};
 ghost use Rattle.stamps.specs.Book.{checkOf};
-ghost use Rattle.stamps.specs.Listing.{listing, listOf, isWritten};
-ghost use Rattle.chowderbell.specs.Entries.{HandedCheck, HandedListing};
+ghost use Rattle.stamps.specs.Copies.{isWritten};
+ghost use Rattle.stamps.specs.Listing.{listing, listOf};
+ghost use Rattle.chowderbell.specs.Entries.{HandedCheck, HandedCopy};
 use crate::times::SUCCESS;
 use stamps::book;
 use stamps::book::Checked;
-use stamps::book::Listed;
+use stamps::book::Copied;
 
 #[no_mangle]
 pub extern "C" fn chowderbell_book_check(book: &[u8], line: &mut usize) -> u8
@@ -27,10 +28,10 @@ pub extern "C" fn chowderbell_book_list(
     length: &mut usize,
     line: &mut usize,
 ) -> u8
-    ensures answer { λ r. ⌜ HandedListing (listOf maxPairs (now (book .entry)) (now (room .entry))) r (now (length .exit)) (now (line .exit)) ⌝ }
+    ensures answer { λ r. ⌜ HandedCopy (listOf maxPairs (now (book .entry)) (now (room .entry))) r (now (length .exit)) (now (line .exit)) ⌝ }
     ensures room { λ _. ⌜ now (room .exit) ≡ roomAfter (isWritten (listOf maxPairs (now (book .entry)) (now (room .entry)))) (listing maxPairs (now (book .entry))) (now (room .entry)) ⌝ }
 {
-    hand_listing(book::list(book, room), length, line)
+    hand_copy(book::list(book, room), length, line)
 }
 
 // Returns the number of a check and stores the number of the first bad line. It is 0 for a good book,
@@ -52,16 +53,16 @@ fn hand_check(c: Checked, line: &mut usize) -> u8
 
 // Returns the number of a listing and stores its length, which is 0 for a refusal, and the number of
 // the first bad line. That is 0 for a good book, and for one that is too long.
-fn hand_listing(l: Listed, length: &mut usize, line: &mut usize) -> u8
-    ensures { λ r. ⌜ HandedListing l r (now (length .exit)) (now (line .exit)) ⌝ }
+fn hand_copy(l: Copied, length: &mut usize, line: &mut usize) -> u8
+    ensures { λ r. ⌜ HandedCopy l r (now (length .exit)) (now (line .exit)) ⌝ }
 {
     match l {
-        Listed::Length(n) => {
+        Copied::Length(n) => {
             *length = n;
             *line = 0;
             SUCCESS
         }
-        Listed::Refused(r, at) => {
+        Copied::Refused(r, at) => {
             *length = 0;
             *line = at;
             time::number_of(r)

@@ -5,7 +5,7 @@ ghost use lib.ListN.{length};
 use crate::write_out;
 use libc::STDERR_FILENO;
 use stamps::book;
-use stamps::book::Listed;
+use stamps::book::Copied;
 use text::bytes;
 use text::places;
 
@@ -49,10 +49,10 @@ fn list(name: &[u8], book: &[u8]) {
     let mut out = io::large_buffer();
     let listed = book::list_with(&months, book, &mut out);
     match listed {
-        Listed::Length(n) => {
+        Copied::Length(n) => {
             write_out(places::up_to(&out, n));
         }
-        Listed::Refused(_, line) => refuse(name, line),
+        Copied::Refused(_, line) => refuse(name, line),
     }
 }
 

@@ -24,7 +24,8 @@ use Rattle.relative.specs.Relative.{maxPairs, from, namedOf, byPairs, relativeO
 use Rattle.stamps.specs.Stamps.{printed, isWholeMinutes, stampOf}
 use Rattle.stamps.specs.Lines.{every, isPathByte, isPath, isHexDigit, isKey, hullOf, sinceOf, lineOf}
 use Rattle.stamps.specs.Book.{judged, linesIn, firstBad, checkOf}
-use Rattle.stamps.specs.Listing.{listed, joined, listing}
+use Rattle.stamps.specs.Copies.{joined}
+use Rattle.stamps.specs.Listing.{listed, listing}
 use Rattle.stamps.specs.declared.book.Checked.{Checked}
 use Rattle.stamps.specs.declared.book.Checked.the-variants.{Good, Refused}
 

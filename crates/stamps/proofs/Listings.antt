@@ -27,7 +27,8 @@ use Rattle.text.proofs.Texts.{not-has-of-cons, Lacking}
 use Rattle.time.specs.declared.Refusal.the-variants.{Book}
 use Rattle.stamps.specs.Lines.{lineOf, isGood}
 use Rattle.stamps.specs.Book.{maxBook, judged, linesIn, firstBad, checkedAt, checkOf}
-use Rattle.stamps.specs.Listing.{isListed, cutOffIn, orAbove, cutOffBelow, listed, joined, listing}
+use Rattle.stamps.specs.Copies.{joined}
+use Rattle.stamps.specs.Listing.{isListed, cutOffIn, orAbove, cutOffBelow, listed, listing}
 use Rattle.stamps.specs.Theorems.{areGood, isHullLine, isSinceLine, hullsOf, hasSince, lastCutOff}
 use Rattle.stamps.specs.Held.{marksOf, picked}
 use Rattle.stamps.specs.declared.line.Line.{Line}

@@ -1,6 +1,6 @@
 -- Marks of lines. In order: the marks of lines pick those that are listed; a good line has at least 10 bytes, so that the marks
 -- of a good book have their places; marked lines that are copied one after the other, from the start, by one line more, and to
--- the end; what a call that lists a book returns.
+-- the end.
 -- Assumes nothing.
 use mathlib.Core.Path.{_≡_, refl, sym, ap, _∙_}
 use mathlib.Core.Bool.{Bool, true, cond, _&&_, false≢true}
@@ -18,23 +18,18 @@ use Rattle.text.specs.Quote.{bytes}
 use Rattle.text.specs.Number.{signedOf}
 use Rattle.text.specs.Places.{firstPlace, before, has}
 use Rattle.text.specs.Lines.{tab, newline, field, rest, endedLines, takenBy, left}
-use Rattle.text.specs.Room.{roomAfter}
 use Rattle.text.specs.declared.number.Integer.{Integer}
 use Rattle.text.specs.declared.number.Integer.the-variants.{Nothing}
 use Rattle.text.specs.declared.number.Number.the-variants.{Nothing as NoNumber}
 use Rattle.text.proofs.Lists.{by-test, both, drop-cons-add-one, getD-of-length-le}
 use Rattle.text.proofs.FirstPlaces.{getD-firstPlace}
-use Rattle.time.specs.declared.Refusal.{Refusal}
-use Rattle.time.specs.declared.Refusal.the-variants.{Room}
 use Rattle.stamps.specs.Stamps.{printed}
 use Rattle.stamps.specs.Lines.{every, isPath, isHexDigit, isKey, hullOf, sinceOf, lineOf, isGood}
 use Rattle.stamps.specs.Book.{maxBook, judged, linesIn, firstBad, checkOf}
 use Rattle.stamps.specs.Theorems.{areGood}
-use Rattle.stamps.specs.Listing.{isListed, cutOffBelow, listed, joined, listing, listOf, isWritten}
+use Rattle.stamps.specs.Copies.{joined}
+use Rattle.stamps.specs.Listing.{isListed, cutOffBelow, listed, listing}
 use Rattle.stamps.specs.Held.{marksOf, picked}
-use Rattle.stamps.specs.declared.book.Checked.the-variants.{Good, Refused as NotGood}
-use Rattle.stamps.specs.declared.book.Listed.{Listed}
-use Rattle.stamps.specs.declared.book.Listed.the-variants.{Length, Refused}
 use Rattle.stamps.proofs.Printed.{eq-of-same}
 use Rattle.stamps.proofs.SinceLines.{sinceWith-no-offset}
 use Rattle.stamps.proofs.Books.{takenBy-le, good-book, behind, firstPlace-lt, endedLines-first, left-first, endedLines-open, left-open, endedLines-nil}
@@ -213,21 +208,3 @@ module _ {book marks was room : List ℕ} {at n w : ℕ} (k : Copying book marks
       let none : endedLines (drop at book) ≡ [] = ap endedLines (drop-of-length-le book h) ∙ endedLines-nil in
       sym (k .result ∙ ap (λ (ls : List (List ℕ)). sets room w (joined (picked (drop n marks) ls))) none ∙ ap (λ (ls : List (List ℕ)). sets room w (joined ls)) (picked-nil (drop n marks)))
       ∙ sets-eq all was 0 (omega arith) ∙ ap (λ (m : ℕ). all ++ drop m was) (zero-add (length all))
-
--- ---- what a call that lists a book returns, and its room afterwards
-abbrev After : ℕ → List ℕ → List ℕ → List ℕ → Listed → Type 0
-After bound book room room′ r = (r ≡ listOf bound book room) × (room′ ≡ roomAfter (isWritten (listOf bound book room)) (listing bound book) room)
-
-module _ (bound : ℕ) (book room : List ℕ) where
-  pub list-refused : (why : Refusal) (n : ℕ) → NotGood why n ≡ checkOf bound book → After bound book room room (Refused why n)
-  unfolding listOf
-  list-refused why n e = rw (← e) (refl, refl)
-
-  module _ (e : Good ≡ checkOf bound book) (n : ℕ) (size : n ≡ length (listing bound book)) where
-    pub list-full : length room < n → After bound book room room (Refused Room 0)
-    unfolding listOf
-    list-full h = rw (← e, lt-leb (length (listing bound book)) (length room) (omega arith)) (refl, refl)
-
-    pub list-written : (room′ : List ℕ) → n ≤ length room → room′ ≡ listing bound book ++ drop (length (listing bound book)) room → After bound book room room′ (Length n)
-    unfolding listOf
-    list-written room′ h put = rw (← e, le-leb (length (listing bound book)) (length room) (omega arith)) (ap Length size, put)

@@ -37,7 +37,7 @@ use Rattle.relative.specs.Relative.{relativeOf}
 use Rattle.stamps.specs.Lines.{every, isPathByte, isHexDigit, spanAt, hullAt, hullOf, sinceAt, sinceWith, sinceOf, lineOf, isGood}
 use Rattle.stamps.specs.Writing.{hullLine, sinceLine, ended, isHull, isRead, isSince, lineWritten, hullWritten, sinceWritten}
 use Rattle.stamps.specs.Book.{judged, linesIn, lastPiece}
-use Rattle.stamps.specs.Listing.{joined}
+use Rattle.stamps.specs.Copies.{joined}
 use Rattle.stamps.specs.Theorems.{areGood}
 use Rattle.stamps.specs.Held.{isTextByte}
 use Rattle.stamps.specs.declared.line.Line.{Line}

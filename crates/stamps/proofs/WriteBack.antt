@@ -38,7 +38,7 @@ use Rattle.stamps.specs.Stamps.{printed, isWholeMinutes, stampOf}
 use Rattle.stamps.specs.Lines.{isPath, isKey, spanAt, hullAt, hullOf, sinceAt, sinceWith, sinceOf, lineOf, isGood}
 use Rattle.stamps.specs.Writing.{hullLine, sinceLine, isHull, isSince}
 use Rattle.stamps.specs.Book.{judged, checkOf}
-use Rattle.stamps.specs.Listing.{joined}
+use Rattle.stamps.specs.Copies.{joined}
 use Rattle.stamps.specs.Theorems.{areGood, isHullLine, isSinceLine, rewritten, rewrittenLines}
 use Rattle.stamps.specs.Held.{hullLeft, sinceLeft}
 use Rattle.stamps.specs.declared.stamp.Stamp.{Stamp}

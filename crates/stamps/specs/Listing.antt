@@ -3,24 +3,18 @@
 -- Assumes nothing.
 use Prim.Native.Nat.{ℕ}
 use mathlib.Core.Bool.{Bool, true, false, cond}
-use mathlib.Core.List.{List, [], _∷_, _++_}
+use mathlib.Core.List.{List, [], _∷_}
 use lib.IntN.{ℤ}
-use lib.ListN.{length}
 use lib.Signed.{leZ}
-use Rattle.text.specs.Lines.{newline, endedLines}
-use Rattle.text.specs.Room.{fits}
+use Rattle.text.specs.Lines.{endedLines}
 use Rattle.text.specs.declared.number.Integer.{Integer}
 use Rattle.text.specs.declared.number.Integer.the-variants.{Is, Nothing}
-use Rattle.time.specs.Answers.{numberOf}
-use Rattle.time.specs.declared.Refusal.the-variants.{Room}
 use Rattle.stamps.specs.Lines.{lineOf}
 use Rattle.stamps.specs.Book.{checkOf}
+use Rattle.stamps.specs.Copies.{joined, copiedAt}
 use Rattle.stamps.specs.declared.line.Line.{Line}
 use Rattle.stamps.specs.declared.line.Line.the-variants.{Hull, Since, Bad}
-use Rattle.stamps.specs.declared.book.Checked.{Checked}
-use Rattle.stamps.specs.declared.book.Checked.the-variants.{Good, Refused as NotGood}
-use Rattle.stamps.specs.declared.book.Listed.{Listed}
-use Rattle.stamps.specs.declared.book.Listed.the-variants.{Length, Refused}
+use Rattle.stamps.specs.declared.book.Copied.{Copied}
 
 -- whether seconds are at or after a cut-off; where there is none, all are
 abbrev pub isAtOrAfter : Integer → ℤ → Bool
@@ -55,36 +49,9 @@ listed bound c (l ∷ ls) =
     let below = listed bound (cutOffBelow c (lineOf bound l)) ls in
     cond (isListed c (lineOf bound l)) (l ∷ below) below
 
--- lines as bytes, each with its newline
-unfoldable pub joined : List (List ℕ) → List ℕ
-joined [] = []
-joined (l ∷ ls) = l ++ newline ∷ joined ls
-
 unfoldable pub listing : ℕ → List ℕ → List ℕ
 listing bound book = joined (listed bound Nothing (endedLines book))
 
--- what a call that lists a book returns: refused as a check of the book is, then by 8 if the room is shorter than the listing
-abbrev pub listedAt : Checked → List ℕ → List ℕ → Listed
-listedAt Good bytes room = cond (fits bytes room) (Length (length bytes)) (Refused Room 0)
-listedAt (NotGood r n) bytes room = Refused r n
-
-unfoldable pub listOf : ℕ → List ℕ → List ℕ → Listed
-listOf bound book room = listedAt (checkOf bound book) (listing bound book) room
-
--- whether the call wrote the listing
-abbrev pub isWritten : Listed → Bool
-isWritten (Length n) = true
-isWritten (Refused r n) = false
-
--- the number that it returns, the length of the listing, and the line: 0 where there is none
-abbrev pub listedNumber : Listed → ℕ
-listedNumber (Length n) = 0
-listedNumber (Refused r n) = numberOf r
-
-abbrev pub listedLength : Listed → ℕ
-listedLength (Length n) = n
-listedLength (Refused r n) = 0
-
-abbrev pub listedLine : Listed → ℕ
-listedLine (Length n) = 0
-listedLine (Refused r n) = n
+-- what a call that lists a book returns
+abbrev pub listOf : ℕ → List ℕ → List ℕ → Copied
+listOf bound book room = copiedAt (checkOf bound book) (listing bound book) room

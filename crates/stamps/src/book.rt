@@ -15,7 +15,8 @@ ghost use Rattle.text.specs.Lines.{endedLines, left};
 ghost use Rattle.text.specs.Room.{roomAfter};
 ghost use Rattle.text.specs.declared.number.Integer.the-variants.{Nothing};
 ghost use Rattle.stamps.specs.Book.{maxBook, linesIn, firstBad, checkOf};
-ghost use Rattle.stamps.specs.Listing.{isAtOrAfter, orAbove, joined, listing, listOf, isWritten};
+ghost use Rattle.stamps.specs.Copies.{joined, isWritten};
+ghost use Rattle.stamps.specs.Listing.{isAtOrAfter, orAbove, listing, listOf};
 ghost use Rattle.stamps.specs.Held.{NextLine, markOf, marksOf, picked, badNumber};
 use crate::line;
 use crate::line::Line;
@@ -43,9 +44,9 @@ pub enum Checked {
     Refused(Refusal, usize),
 }
 
-// What a call that lists a book returns: how many bytes it wrote, or why it wrote none and at which
-// line. The line is 0 if the book is too long or if the room is too short.
-pub enum Listed {
+// What a call returns that copies lines of a book to a room: how many bytes it wrote, or why it wrote
+// none and at which line. The line is 0 if the book is too long or if the room is too short.
+pub enum Copied {
     Length(usize),
     Refused(Refusal, usize),
 }
@@ -76,7 +77,7 @@ pub fn check_with(months: &[u32], book: &[u8]) -> Checked
 // Writes the listing of a book to the front of `room` and returns its length. The bytes beyond it stay
 // as they were. A book that is not good is refused by 10, then a room that is shorter than the listing
 // by 8. A refusal changes nothing in the room.
-pub fn list(book: &[u8], room: &mut [u8]) -> Listed
+pub fn list(book: &[u8], room: &mut [u8]) -> Copied
     ensures { λ r. ⌜ r ≡ listOf maxPairs (now (book .entry)) (now (room .entry)) ⌝ }
     ensures { λ _. ⌜ now (room .exit) ≡ roomAfter (isWritten (listOf maxPairs (now (book .entry)) (now (room .entry)))) (listing maxPairs (now (book .entry))) (now (room .entry)) ⌝ }
 {
@@ -84,26 +85,26 @@ pub fn list(book: &[u8], room: &mut [u8]) -> Listed
 }
 
 // The same with a table of months, for many calls: the whole table, or any leading part of it.
-pub fn list_with(months: &[u32], book: &[u8], room: &mut [u8]) -> Listed
+pub fn list_with(months: &[u32], book: &[u8], room: &mut [u8]) -> Copied
     requires { ⌜ IsMonths (now months) ⌝ }
     ensures { λ r. ⌜ r ≡ listOf maxPairs (now (book .entry)) (now (room .entry)) ⌝ }
     ensures { λ _. ⌜ now (room .exit) ≡ roomAfter (isWritten (listOf maxPairs (now (book .entry)) (now (room .entry)))) (listing maxPairs (now (book .entry))) (now (room .entry)) ⌝ }
 {
     if MAX_BOOK < book.len() {
-        return Listed::Refused(Refusal::Book, 0);
+        return Copied::Refused(Refusal::Book, 0);
     }
     let mut marks = no_marks();
     let found = judge_lines(months, book, &mut marks);
     let bad = found.bad;
     let length = found.length;
     if bad != 0 {
-        return Listed::Refused(Refusal::Book, bad);
+        return Copied::Refused(Refusal::Book, bad);
     }
     if room.len() < length {
-        return Listed::Refused(Refusal::Room, 0);
+        return Copied::Refused(Refusal::Room, 0);
     }
     copy_marked(book, &marks, room);
-    Listed::Length(length)
+    Copied::Length(length)
 }
 
 // A buffer for marks.
