@@ -56,6 +56,8 @@ use Rattle.stamps.proofs.book.check.Reads as book-check
 use Rattle.stamps.proofs.book.check_with.Reads as book-check-with
 use Rattle.stamps.proofs.book.list.Reads as book-list
 use Rattle.stamps.proofs.book.list_with.Reads as book-list-with
+use Rattle.compact.proofs.compact.Reads as book-compact
+use Rattle.compact.proofs.compact_with.Reads as book-compact-with
 use Rattle.chowderbell.proofs.times.chowderbell_header.Reads as chowderbell-header
 use Rattle.chowderbell.proofs.times.chowderbell_raw.Reads as chowderbell-raw
 use Rattle.chowderbell.proofs.times.chowderbell_raw_by.Reads as chowderbell-raw-by
@@ -69,6 +71,7 @@ use Rattle.chowderbell.proofs.times.chowderbell_write_header.Reads as c
 use Rattle.chowderbell.proofs.times.chowderbell_write_iso.Reads as chowderbell-write-iso
 use Rattle.chowderbell.proofs.book.chowderbell_book_check.Reads as chowderbell-book-check
 use Rattle.chowderbell.proofs.book.chowderbell_book_list.Reads as chowderbell-book-list
+use Rattle.chowderbell.proofs.book.chowderbell_book_compact.Reads as chowderbell-book-compact
 use Rattle.calendar.proofs.months.Reads as months
 use Rattle.calendar.proofs.first_day.Reads as first-day
 use Rattle.calendar.proofs.month_length.Reads as month-length
@@ -202,6 +205,12 @@ book-list-unique κ a r s e f p q = (one-answer (p .0) (q .0), one-answer (p .1)
 pub book-list-with-unique : OneAnswerAnd book-list-with.Post (List ℕ) (λ κ e. now (e .1 .1 .0))
 book-list-with-unique κ a r s e f p q = (one-answer (p .0) (q .0), one-answer (p .1) (q .1))
 
+pub book-compact-unique : OneAnswerAnd book-compact.Post (List ℕ) (λ κ e. now (e .1 .0))
+book-compact-unique κ a r s e f p q = (one-answer (p .0) (q .0), one-answer (p .1) (q .1))
+
+pub book-compact-with-unique : OneAnswerAnd book-compact-with.Post (List ℕ) (λ κ e. now (e .1 .1 .0))
+book-compact-with-unique κ a r s e f p q = (one-answer (p .0) (q .0), one-answer (p .1) (q .1))
+
 -- ---- the readers for C: the number returned, and the seconds and the offset stored
 HandedOut-unique : {a : Answer} {n m : ℕ} {s t o u : ℤ} → HandedOut a n s o → HandedOut a m t u → (n ≡ m) × _≡_ {A = ℤ × ℤ} (s, o) (t, u)
 HandedOut-unique p q =
@@ -258,6 +267,9 @@ chowderbell-book-check-unique κ a r s e f = HandedCheck-unique
 
 pub chowderbell-book-list-unique : OneAnswerAnd chowderbell-book-list.Post ((ℕ × ℕ) × List ℕ) (λ κ e. ((now (e .1 .1 .0), now (e .1 .1 .1 .0)), now (e .1 .0)))
 chowderbell-book-list-unique κ a r s e f = HandedCopy-unique
+
+pub chowderbell-book-compact-unique : OneAnswerAnd chowderbell-book-compact.Post ((ℕ × ℕ) × List ℕ) (λ κ e. ((now (e .1 .1 .0), now (e .1 .1 .1 .0)), now (e .1 .0)))
+chowderbell-book-compact-unique κ a r s e f = HandedCopy-unique
 
 -- ---- the calendar
 pub months-unique : OneAnswer months.Post

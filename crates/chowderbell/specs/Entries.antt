@@ -57,7 +57,8 @@ pub record HandedCheck (c : Checked) (number line : ℕ) : Type 0 where
   pub number-is : number ≡ checkedNumber c
   pub line-is : line ≡ checkedLine c
 
--- a listing of a book returns the number of its answer and stores its length, which is 0 for a refusal, and the line, as a check does
+-- a call that copies lines of a book returns the number of its answer and stores how many bytes it wrote, which is 0 for a refusal, and the
+-- line, as a check does
 pub record HandedCopy (l : Copied) (number length line : ℕ) : Type 0 where
   pub number-is : number ≡ copiedNumber l
   pub length-is : length ≡ copiedLength l

@@ -1,5 +1,5 @@
-// The entries for a book of stamps (RULES 13): one checks a book, the other lists the hulls that its
-// cut-offs keep. C passes a slice as a pointer and a length, and a result as a pointer to where it is
+// The entries for a book of stamps (RULES 13): one checks a book, one lists the hulls that its cut-offs
+// keep, and one compacts it. C passes a slice as a pointer and a length, and a result as a pointer to where it is
 // to be stored. Each entry returns 0, 8 or 10 (RULES 2). They keep no pointer and no state.
 // `include/chowderbell.h` is the manual for callers.
 ghost use mathlib.Core.Path.{_≡_};
@@ -8,6 +8,7 @@ ghost use Rattle.relative.specs.Relative.{maxPairs};
 ghost use Rattle.stamps.specs.Book.{checkOf};
 ghost use Rattle.stamps.specs.Copies.{isWritten};
 ghost use Rattle.stamps.specs.Listing.{listing, listOf};
+ghost use Rattle.compact.specs.Compact.{compacted, compactOf};
 ghost use Rattle.chowderbell.specs.Entries.{HandedCheck, HandedCopy};
 use crate::times::SUCCESS;
 use stamps::book;
@@ -34,6 +35,19 @@ pub extern "C" fn chowderbell_book_list(
     hand_copy(book::list(book, room), length, line)
 }
 
+#[no_mangle]
+pub extern "C" fn chowderbell_book_compact(
+    book: &[u8],
+    room: &mut [u8],
+    length: &mut usize,
+    line: &mut usize,
+) -> u8
+    ensures answer { λ r. ⌜ HandedCopy (compactOf maxPairs (now (book .entry)) (now (room .entry))) r (now (length .exit)) (now (line .exit)) ⌝ }
+    ensures room { λ _. ⌜ now (room .exit) ≡ roomAfter (isWritten (compactOf maxPairs (now (book .entry)) (now (room .entry)))) (compacted maxPairs (now (book .entry))) (now (room .entry)) ⌝ }
+{
+    hand_copy(compact::compact(book, room), length, line)
+}
+
 // Returns the number of a check and stores the number of the first bad line. It is 0 for a good book,
 // and for one that is too long.
 fn hand_check(c: Checked, line: &mut usize) -> u8
@@ -51,8 +65,8 @@ fn hand_check(c: Checked, line: &mut usize) -> u8
     }
 }
 
-// Returns the number of a listing and stores its length, which is 0 for a refusal, and the number of
-// the first bad line. That is 0 for a good book, and for one that is too long.
+// Returns the number of a copy and stores its length, which is 0 for a refusal, and the number of the
+// first bad line. That is 0 for a good book, and for one that is too long.
 fn hand_copy(l: Copied, length: &mut usize, line: &mut usize) -> u8
     ensures { λ r. ⌜ HandedCopy l r (now (length .exit)) (now (line .exit)) ⌝ }
 {

@@ -88,7 +88,7 @@ joined-ontoFirst b s (l ∷ ls) e =
     let n : suc (length l + 1 + takenBy ls) ≡ suc (length l) + 1 + takenBy ls = omega arith in
     ap (λ (t : List ℕ). b ∷ t) e ∙ ap (λ (k : ℕ). take k (b ∷ s)) n
 
-joined-take : (s : List ℕ) → joined (endedLines s) ≡ take (takenBy (endedLines s)) s
+pub joined-take : (s : List ℕ) → joined (endedLines s) ≡ take (takenBy (endedLines s)) s
 unfolding endedLines joined takenBy
 joined-take [] = refl
 joined-take (b ∷ s) =

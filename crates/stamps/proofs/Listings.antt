@@ -40,7 +40,7 @@ use Rattle.stamps.proofs.Books.{length-joined, takenBy-le, firstBad-goo
 use Rattle.stamps.proofs.Marks.{picked-marksOf}
 
 -- ---- a line is listed exactly if it is a `hull` line whose seconds are at or after the last cut-off above it
-orAbove-assoc : (a b c : Integer) → orAbove (orAbove a b) c ≡ orAbove a (orAbove b c)
+pub orAbove-assoc : (a b c : Integer) → orAbove (orAbove a b) c ≡ orAbove a (orAbove b c)
 orAbove-assoc (Is z) b c = refl
 orAbove-assoc Nothing b c = refl
 
@@ -49,7 +49,7 @@ orAbove-nothing (Is z) = refl
 orAbove-nothing Nothing = refl
 
 module _ (bound : ℕ) where
-  listed-append : (c : Integer) (above below : List (List ℕ)) → listed bound c (above ++ below) ≡ listed bound c above ++ listed bound (orAbove (lastCutOff bound above) c) below
+  pub listed-append : (c : Integer) (above below : List (List ℕ)) → listed bound c (above ++ below) ≡ listed bound c above ++ listed bound (orAbove (lastCutOff bound above) c) below
   unfolding listed lastCutOff
   listed-append c [] below = refl
   listed-append c (l ∷ above) below =
@@ -179,7 +179,7 @@ refused-too-long-iff bound book = (
 )
 
 -- ---- lines joined to a book
-endedLines-line : (l t : List ℕ) → has newline l ≡ false → endedLines (l ++ newline ∷ t) ≡ l ∷ endedLines t
+pub endedLines-line : (l t : List ℕ) → has newline l ≡ false → endedLines (l ++ newline ∷ t) ≡ l ∷ endedLines t
 unfolding endedLines
 endedLines-line [] t h = refl
 endedLines-line (b ∷ l) t h = let p = not-has-of-cons newline b l h in rw (p .0, endedLines-line l t (p .1))
@@ -195,28 +195,28 @@ left-joined ls h =
     ap (λ (t : List (List ℕ)). drop (takenBy t) (joined ls)) (endedLines-joined ls h) ∙ ap (λ (n : ℕ). drop n (joined ls)) (sym (length-joined ls)) ∙ drop-length (joined ls)
 
 -- a line that is good holds no newline
-not-has-newline-of-good : (bound : ℕ) (l : List ℕ) → isGood (lineOf bound l) ≡ true → has newline l ≡ false
+pub not-has-newline-of-good : (bound : ℕ) (l : List ℕ) → isGood (lineOf bound l) ≡ true → has newline l ≡ false
 unfolding lineOf
 not-has-newline-of-good bound l g = by-test (has newline l) (λ y. absurd (false≢true (rw y at g))) (λ n. n)
 
-lacking-of-good : (bound : ℕ) (ls : List (List ℕ)) → areGood (judged bound ls) ≡ true → Lacking newline ls
+pub lacking-of-good : (bound : ℕ) (ls : List (List ℕ)) → areGood (judged bound ls) ≡ true → Lacking newline ls
 unfolding areGood judged
 lacking-of-good bound [] g = tt
 lacking-of-good bound (l ∷ ls) g =
     let p = both (isGood (lineOf bound l)) (areGood (judged bound ls)) g in
     (not-has-newline-of-good bound l (p .0), lacking-of-good bound ls (p .1))
 
-lacking-append : (a b : List (List ℕ)) → Lacking newline a → Lacking newline b → Lacking newline (a ++ b)
+pub lacking-append : (a b : List (List ℕ)) → Lacking newline a → Lacking newline b → Lacking newline (a ++ b)
 lacking-append [] b h k = k
 lacking-append (l ∷ a) b h k = (h .0, lacking-append a b (h .1) k)
 
-judged-append : (bound : ℕ) (a b : List (List ℕ)) → judged bound (a ++ b) ≡ judged bound a ++ judged bound b
+pub judged-append : (bound : ℕ) (a b : List (List ℕ)) → judged bound (a ++ b) ≡ judged bound a ++ judged bound b
 unfolding judged
 judged-append bound [] b = refl
 judged-append bound (l ∷ a) b = ap (λ (t : List Line). lineOf bound l ∷ t) (judged-append bound a b)
 
 -- lines without a newline, joined, are a good book exactly if each of them is good
-joined-good-iff : (bound : ℕ) (ls : List (List ℕ)) → Lacking newline ls → length (joined ls) ≤ maxBook → (checkOf bound (joined ls) ≡ Good) ↔ (areGood (judged bound ls) ≡ true)
+pub joined-good-iff : (bound : ℕ) (ls : List (List ℕ)) → Lacking newline ls → length (joined ls) ≤ maxBook → (checkOf bound (joined ls) ≡ Good) ↔ (areGood (judged bound ls) ≡ true)
 joined-good-iff bound ls h k =
     let both-ways = good-book-iff bound (joined ls) in
     let e = ap (λ (t : List (List ℕ)). areGood (judged bound t)) (endedLines-joined ls h) in (

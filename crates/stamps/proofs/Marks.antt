@@ -9,7 +9,7 @@ use Prim.Native.Nat.{ℕ, suc, _+_, _*_, _≤_, _<_}
 use native.Mathlib.Nat.{zero-add}
 use native.Mathlib.Omega.{arith}
 use native.Mathlib.Numerals.{add-one}
-use borrow.Author.Tests.{le-leb, lt-leb, ltb-true, ltb-false, eqb-true}
+use borrow.Author.Tests.{ltb-true, ltb-false, eqb-true}
 use lib.Dec.{ltb, eqb}
 use lib.ListN.{length, take, drop, getD, set, length-take, length-drop, length-append, drop-of-length-le}
 use lib.Seq.{drop-drop, take-suc, sets, sets-eq, length-sets}
@@ -25,7 +25,7 @@ use Rattle.text.proofs.Lists.{by-test, both, drop-cons-add-one, getD-of-length-
 use Rattle.text.proofs.FirstPlaces.{getD-firstPlace}
 use Rattle.stamps.specs.Stamps.{printed}
 use Rattle.stamps.specs.Lines.{every, isPath, isHexDigit, isKey, hullOf, sinceOf, lineOf, isGood}
-use Rattle.stamps.specs.Book.{maxBook, judged, linesIn, firstBad, checkOf}
+use Rattle.stamps.specs.Book.{maxBook, judged, linesIn, firstBad}
 use Rattle.stamps.specs.Theorems.{areGood}
 use Rattle.stamps.specs.Copies.{joined}
 use Rattle.stamps.specs.Listing.{isListed, cutOffBelow, listed, listing}
@@ -96,7 +96,7 @@ length-good bound l g =
     (λ k. absurd (false≢true (rw (e, h, k) at g)))))
 
 -- so each takes at least 11 bytes of a book
-lines-fit : (bound : ℕ) (ls : List (List ℕ)) → areGood (judged bound ls) ≡ true → 11 * length ls ≤ takenBy ls
+pub lines-fit : (bound : ℕ) (ls : List (List ℕ)) → areGood (judged bound ls) ≡ true → 11 * length ls ≤ takenBy ls
 unfolding areGood judged takenBy
 lines-fit bound [] g = omega arith
 lines-fit bound (l ∷ ls) g = let p = both (isGood (lineOf bound l)) (areGood (judged bound ls)) g in omega (arith, length-good bound l (p .0), lines-fit bound ls (p .1))
@@ -150,7 +150,7 @@ joined-picked ms n s part h p =
     (λ e. rw (e, p, e))
 
 -- ---- bytes put one part behind the other
-sets-append : (room : List ℕ) (i : ℕ) (a b : List ℕ) → sets room i (a ++ b) ≡ sets (sets room i a) (i + length a) b
+pub sets-append : (room : List ℕ) (i : ℕ) (a b : List ℕ) → sets room i (a ++ b) ≡ sets (sets room i a) (i + length a) b
 sets-append room i [] b = let e : i ≡ i + 0 = omega arith in ap (λ (k : ℕ). sets room k b) e
 sets-append room i (x ∷ a) b =
     let e : suc i + length a ≡ i + suc (length a) = omega arith in

@@ -56,7 +56,7 @@ use Rattle.stamps.proofs.Writing.{every-isTextByte, goodHull, length-en
 abbrev Text : List ℕ → Type 0
 Text s = every isTextByte s ≡ true
 
-Text-of-every : (p : ℕ → Bool) → ((b : ℕ) → p b ≡ true → isTextByte b ≡ true) → (s : List ℕ) → every p s ≡ true → Text s
+pub Text-of-every : (p : ℕ → Bool) → ((b : ℕ) → p b ≡ true → isTextByte b ≡ true) → (s : List ℕ) → every p s ≡ true → Text s
 unfolding every
 Text-of-every p h [] e = refl
 Text-of-every p h (b ∷ s) e = let k = both (p b) (every p s) e in rw (h b (k .0)) (Text-of-every p h s (k .1))
@@ -74,7 +74,7 @@ Free-of-Text c out (b ∷ s) e =
     let k = both (isTextByte b) (every isTextByte s) e in
     (ne-eqb b c (λ q. false≢true (sym out ∙ ap isTextByte (sym q) ∙ k .0)), Free-of-Text c out s (k .1))
 
-no-tab : (s : List ℕ) → Text s → Free tab s
+pub no-tab : (s : List ℕ) → Text s → Free tab s
 unfolding isTextByte
 no-tab s e = Free-of-Text tab refl s e
 
@@ -86,7 +86,7 @@ Free-append : (c : ℕ) (s t : List ℕ) → Free c s → Free c t → Free c (s
 Free-append c [] t f g = g
 Free-append c (b ∷ s) t f g = (f .0, Free-append c s t (f .1) g)
 
-has-of-Free : (c : ℕ) (s : List ℕ) → Free c s → has c s ≡ false
+pub has-of-Free : (c : ℕ) (s : List ℕ) → Free c s → has c s ≡ false
 unfolding has
 has-of-Free c s f = rw (firstPlace-of-Free c s f) (le-ltb (length s) (length s) (omega arith))
 

@@ -25,7 +25,7 @@ pub fn put_part(part: &[u8], at: usize, room: &mut [u8]) -> usize
 }
 
 // Puts the header of a time from place `at` on.
-pub fn put_time(t: Time, at: usize, room: &mut [u8]) -> usize
+pub(crate) fn put_time(t: Time, at: usize, room: &mut [u8]) -> usize
     requires { ⌜ (natAbs (t .offset) < 360000) × (at + length (headerBytes t) ≤ length (now room)) ⌝ }
     ensures { λ r. ⌜ r ≡ at + length (headerBytes t) ⌝ }
     ensures { λ _. ⌜ now (room .exit) ≡ putAt (headerBytes t) at (now (room .entry)) ⌝ }
@@ -35,7 +35,7 @@ pub fn put_time(t: Time, at: usize, room: &mut [u8]) -> usize
 }
 
 // Puts a number in plain decimal from place `at` on.
-pub fn put_number(z: i64, at: usize, room: &mut [u8]) -> usize
+pub(crate) fn put_number(z: i64, at: usize, room: &mut [u8]) -> usize
     requires { ⌜ at + length (signed z) ≤ length (now room) ⌝ }
     ensures { λ r. ⌜ r ≡ at + length (signed z) ⌝ }
     ensures { λ _. ⌜ now (room .exit) ≡ putAt (signed z) at (now (room .entry)) ⌝ }

@@ -1,0 +1,133 @@
+// The paths of the lines that are kept, in buckets. A bucket holds the number of the last line that was
+// entered in it, and each line the number of the one before it in the same bucket: a chain, which goes
+// down, from one number to a smaller one, until 0. Numbers count from 1. Bytes of paths are compared only
+// within a bucket. The proof asks of a bucket only that equal paths have the same one.
+ghost use mathlib.Core.Path.{_≡_};
+ghost use Prim.Native.Nat.{ℕ, _+_, _≤_, _<_};
+ghost use lib.ListN.{length, getD, set};
+ghost use Rattle.compact.specs.Held.{opensHull, pathAt, bucketOf, mixed, inChain, isOvertaken};
+use text::bytes;
+use text::places as cut;
+
+// How many buckets there are: a power of two, and one for lines without a path.
+const BUCKETS: usize = 2048;
+
+const NO_PATH: usize = BUCKETS;
+
+const HEADS: usize = BUCKETS + 1;
+
+// The most lines of a good book: 65,536 / 11, since a good line takes at least 10 bytes and its newline.
+const LINES: usize = 5957;
+
+// Where the path of a `hull` line begins.
+const PATH_START: usize = 5;
+
+// 2 to the power of 32, divided by the golden ratio.
+const GOLDEN: u64 = 2654435761;
+
+const BITS_32: u64 = 4294967296;
+
+// What turns a number of 32 bits into a bucket: the upper 11 bits.
+const BUCKET_SIZE: u64 = 2097152;
+
+pub fn no_heads() -> [u16; HEADS]
+    ensures { λ r. ⌜ (2049 ≡ length r) × ((b : ℕ) → getD r b 0 ≡ 0) ⌝ }
+{
+    [0; HEADS]
+}
+
+pub fn no_numbers() -> [u16; LINES]
+    ensures { λ r. ⌜ 5957 ≡ length r ⌝ }
+{
+    [0; LINES]
+}
+
+// The path of the good line at the front of `s`. That of a `since` line is empty.
+pub fn path_at(s: &[u8]) -> &[u8]
+    ensures { λ r. ⌜ now r ≡ pathAt (now (s .entry)) ⌝ }
+{
+    if opens_hull(s) {
+        return cut::before(cut::from(s, PATH_START), b'\t');
+    }
+    cut::up_to(s, 0)
+}
+
+// Whether a good line is one of `hull`: its first byte tells.
+fn opens_hull(s: &[u8]) -> bool
+    ensures { λ r. ⌜ r ≡ opensHull (now (s .entry)) ⌝ }
+{
+    if s.len() == 0 {
+        return false;
+    }
+    s[0] == b'h'
+}
+
+// The bucket of a path.
+pub fn bucket_of(path: &[u8]) -> usize
+    ensures { λ r. ⌜ (r ≡ bucketOf (now (path .entry))) × (r < 2049) ⌝ }
+{
+    if path.len() == 0 {
+        return NO_PATH;
+    }
+    (mix(path) / BUCKET_SIZE) as usize
+}
+
+// The bytes of a path, mixed into a number of 32 bits.
+fn mix(path: &[u8]) -> u64
+    ensures { λ r. ⌜ (r ≡ mixed 0 (now (path .entry))) × (r < 4294967296) ⌝ }
+{
+    let mut h: u64 = 0;
+    let mut i = 0;
+    while i < path.len() {
+        h = (h + (path[i] as u64)) * GOLDEN % BITS_32;
+        i += 1;
+    }
+    h
+}
+
+// Whether a line with this path is overtaken by one in the chain that begins with number `first`. A line
+// without a path never is.
+pub fn is_overtaken(book: &[u8], path: &[u8], first: u16, links: &[u16], places: &[u16]) -> bool
+    requires { ⌜ (first ≤ length (now links)) × (length (now links) ≡ length (now places)) × ((k : ℕ) → k < first → getD (now links) k 0 ≤ k) ⌝ }
+    ensures { λ r. ⌜ r ≡ isOvertaken (now (book .entry)) (now (links .entry)) (now (places .entry)) (now (path .entry)) first ⌝ }
+{
+    if path.len() == 0 {
+        return false;
+    }
+    is_in_chain(book, path, first, links, places)
+}
+
+// Whether the path is that of a line in the chain that begins with the line of this number.
+fn is_in_chain(book: &[u8], path: &[u8], first: u16, links: &[u16], places: &[u16]) -> bool
+    requires { ⌜ (first ≤ length (now links)) × (length (now links) ≡ length (now places)) × ((k : ℕ) → k < first → getD (now links) k 0 ≤ k) ⌝ }
+    ensures { λ r. ⌜ r ≡ inChain (now (book .entry)) (now (links .entry)) (now (places .entry)) (now (path .entry)) first first ⌝ }
+{
+    let mut k = first as usize;
+    while 0 < k {
+        let other = path_at(cut::from(book, places[k - 1] as usize));
+        if bytes::same(other, path) {
+            return true;
+        }
+        k = links[k - 1] as usize;
+    }
+    false
+}
+
+// Enters a line that begins at `start` in a bucket. `count` lines were kept before it.
+pub fn enter(
+    start: usize,
+    bucket: usize,
+    count: usize,
+    heads: &mut [u16],
+    links: &mut [u16],
+    places: &mut [u16],
+)
+    requires { ⌜ (start < 65536) × (bucket < length (now heads)) × (count < 65535) × (count < length (now links)) × (count < length (now places)) ⌝ }
+    ensures { λ _. ⌜ now (heads .exit) ≡ set (now (heads .entry)) bucket (count + 1) ⌝ }
+    ensures { λ _. ⌜ now (links .exit) ≡ set (now (links .entry)) count (getD (now (heads .entry)) bucket 0) ⌝ }
+    ensures { λ _. ⌜ now (places .exit) ≡ set (now (places .entry)) count start ⌝ }
+{
+    links[count] = heads[bucket];
+    heads[bucket] = (count + 1) as u16;
+    places[count] = start as u16;
+}
