@@ -27,6 +27,7 @@ use Rattle.compact.specs.Compact.{holdsPath, isKept, kept, compacted}
 use Rattle.compact.specs.Held.{pathAt, bucketOf, lineAt, linesDown, inChain, isOvertaken}
 use Rattle.compact.proofs.LastLines.{endedLines-append, LineBack}
 use Rattle.compact.proofs.Paths.{holdsPath-cons, isKept-no-path, isKept-path}
+use Rattle.compact.proofs.Kept.{kept-dropped, kept-taken}
 use Rattle.compact.proofs.Chains.{Down, linesDown-enter, isFound, isFound-enter, heads-enter, down-enter}
 
 -- ---- the lines of a good book
@@ -89,15 +90,6 @@ keeping-start bound book heads links places good none h l p =
       link-places = l;
       place-places = p;
     }
-
--- a line, and the lines below it
-kept-dropped : (bound : ℕ) (l : List ℕ) (ls : List (List ℕ)) → isKept bound l (lineOf bound l) ls ≡ false → kept bound (l ∷ ls) ≡ kept bound ls
-unfolding kept
-kept-dropped bound l ls e = rw e
-
-kept-taken : (bound : ℕ) (l : List ℕ) (ls : List (List ℕ)) → isKept bound l (lineOf bound l) ls ≡ true → kept bound (l ∷ ls) ≡ l ∷ kept bound ls
-unfolding kept
-kept-taken bound l ls e = rw e
 
 -- a path that is overtaken is not empty, and it is found
 found-of-overtaken : (book links places p : List ℕ) (first : ℕ) → isOvertaken book links places p first ≡ true → (0 < length p) × (inChain book links places p first first ≡ true)

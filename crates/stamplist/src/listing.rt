@@ -3,7 +3,6 @@
 ghost use mathlib.Core.Path.{_≡_};
 ghost use lib.ListN.{length};
 use crate::write_out;
-use libc::STDERR_FILENO;
 use stamps::book;
 use stamps::book::Copied;
 use text::bytes;
@@ -52,16 +51,6 @@ fn list(name: &[u8], book: &[u8]) {
         Copied::Length(n) => {
             write_out(places::up_to(&out, n));
         }
-        Copied::Refused(_, line) => refuse(name, line),
+        Copied::Refused(_, line) => streams::bad_book(name, line),
     }
-}
-
-// Says where a book is bad: at line 0 if it is too long.
-fn refuse(name: &[u8], line: usize) {
-    if line == 0 {
-        io::write_all(STDERR_FILENO, name);
-        io::write_all(STDERR_FILENO, b": too long: more than 65,536 bytes\n");
-        return;
-    }
-    streams::bad_line(name, line);
 }

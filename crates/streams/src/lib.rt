@@ -5,6 +5,8 @@
 // and ends. A read or a write that a signal interrupts is made again, and so is one on a descriptor
 // that does not block and is not ready. The exit status of a Rattle program is always 0, so every
 // failure is reported by a message.
+pub mod files;
+
 ghost use Prim.Native.Nat.{_≤_};
 ghost use mathlib.Core.Path.{_≡_};
 ghost use lib.ListN.{length};
@@ -90,18 +92,22 @@ fn read_whole(program: &[u8], name: &[u8], fd: i32, room: &mut [u8]) -> Reading
 }
 
 // Writes all of `s` to standard output and returns true. If a write fails, the reason goes to
-// standard error and the answer is false; some of `s` may have been written by then. The kit's
-// `io::write_all` gives up at the first interrupted write and does not say how much it wrote, so the
-// loop is here. A proved loop has to end: it counts its writes down from a number that no run uses
-// up.
+// standard error and the answer is false; some of `s` may have been written by then.
 pub fn write_out(program: &[u8], s: &[u8]) -> bool {
+    write_whole(program, b"standard output", STDOUT_FILENO, s)
+}
+
+// Writes all of `s` in the same way to what `name` names, by its descriptor. The kit's `io::write_all`
+// gives up at the first interrupted write and does not say how much it wrote, so the loop is here. A
+// proved loop has to end: it counts its writes down from a number that no run uses up.
+fn write_whole(program: &[u8], name: &[u8], fd: i32, s: &[u8]) -> bool {
     let mut done: usize = 0;
     let mut turns = u64::MAX;
     while turns > 0 {
         if s.len() <= done {
             return true;
         }
-        let wrote = write_once(program, &s[done..]);
+        let wrote = write_once(program, name, fd, &s[done..]);
         if wrote.failed {
             return false;
         }
@@ -119,20 +125,19 @@ struct Wrote {
 
 // Makes one write of `s`, which is not empty. It may take only a part of `s`, or nothing if it has to
 // be made again.
-fn write_once(program: &[u8], s: &[u8]) -> Wrote
+fn write_once(program: &[u8], name: &[u8], fd: i32, s: &[u8]) -> Wrote
     ensures { λ r. ⌜ r .taken ≤ length (now (s .entry)) ⌝ }
 {
-    let got = libc::write(STDOUT_FILENO, s);
+    let got = libc::write(fd, s);
     if has_failed(got) {
-        fail(program, b"standard output");
+        fail(program, name);
         return Wrote {
             taken: 0,
             failed: true,
         };
     }
     if got == 0 {
-        io::write_all(STDERR_FILENO, program);
-        io::write_all(STDERR_FILENO, b": standard output: no byte was taken\n");
+        refuse(program, name, b"no byte was taken");
         return Wrote {
             taken: 0,
             failed: true,
@@ -189,6 +194,16 @@ pub fn fail(program: &[u8], name: &[u8]) {
     os::fail(places::up_to(&room, end));
 }
 
+// Writes `PROGRAM: NAME: why` to standard error, where no call has failed and the program itself says why.
+fn refuse(program: &[u8], name: &[u8], why: &[u8]) {
+    io::write_all(STDERR_FILENO, program);
+    io::write_all(STDERR_FILENO, b": ");
+    io::write_all(STDERR_FILENO, name);
+    io::write_all(STDERR_FILENO, b": ");
+    io::write_all(STDERR_FILENO, why);
+    io::write_all(STDERR_FILENO, b"\n");
+}
+
 fn names() -> [u8; 8192]
     ensures { λ r. ⌜ 8192 ≡ length r ⌝ }
 {
@@ -210,9 +225,14 @@ fn put(part: &[u8], at: usize, room: &mut [u8]) -> usize {
     end
 }
 
-// Writes `NAME:LINE: bad line` to standard error, the message of every program that reads a book.
-pub fn bad_line(name: &[u8], line: usize) {
+// Says on standard error where a book is bad: `NAME:LINE: bad line`, or that it is too long if the line
+// is 0. It is the message of every program that reads a book.
+pub fn bad_book(name: &[u8], line: usize) {
     io::write_all(STDERR_FILENO, name);
+    if line == 0 {
+        io::write_all(STDERR_FILENO, b": too long: more than 65,536 bytes\n");
+        return;
+    }
     io::write_all(STDERR_FILENO, b":");
     io::print_decimal(STDERR_FILENO, line as u64);
     io::write_all(STDERR_FILENO, b": bad line\n");

@@ -1,21 +1,21 @@
--- `streams::write_out` is safe and ends. The invariant: no more bytes are written than there are. The measure is the number
+-- `streams::write_whole` is safe and ends. The invariant: no more bytes are written than there are. The measure is the number
 -- of writes that are left.
 -- Assumes nothing.
 use Prim.Native.Nat.{_≤_}
 use native.Mathlib.Omega.{arith}
 use borrow.Author.Needs.{needs}
 use lib.ListN.{length}
-use Rattle.streams.proofs.write_out.Statement.{statement}
-use Rattle.streams.proofs.write_out.Tie as tie
+use Rattle.streams.proofs.write_whole.Statement.{statement}
+use Rattle.streams.proofs.write_whole.Tie as tie
 
 abbrev Inv-loop : tie.InvT-loop
-Inv-loop program s done₀ turns₀ done turns = done ≤ length s
+Inv-loop program name fd s done₀ turns₀ done turns = done ≤ length s
 
 abbrev μ-loop : tie.MeasureT-loop
-μ-loop program s done₀ turns₀ done turns = turns
+μ-loop program name fd s done₀ turns₀ done turns = turns
 
-pub write-out-spec : {M : Type 1} → statement M
-write-out-spec =
+pub write-whole-spec : {M : Type 1} → statement M
+write-whole-spec =
     tie.close
     (tie.spec
     Inv-loop
