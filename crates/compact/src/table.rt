@@ -91,10 +91,10 @@ pub fn is_overtaken(book: &[u8], path: &[u8], first: u16, links: &[u16], places:
     requires { ⌜ (first ≤ length (now links)) × (length (now links) ≡ length (now places)) × ((k : ℕ) → k < first → getD (now links) k 0 ≤ k) ⌝ }
     ensures { λ r. ⌜ r ≡ isOvertaken (now (book .entry)) (now (links .entry)) (now (places .entry)) (now (path .entry)) first ⌝ }
 {
-    if path.len() == 0 {
-        return false;
+    if 0 < path.len() {
+        return is_in_chain(book, path, first, links, places);
     }
-    is_in_chain(book, path, first, links, places)
+    false
 }
 
 // Whether the path is that of a line in the chain that begins with the line of this number.

@@ -3,7 +3,7 @@
 use mathlib.Core.Path.{_≡_, refl, _∙_}
 use mathlib.Core.Bool.{false}
 use mathlib.Core.List.{List, [], _∷_}
-use Prim.Native.Nat.{ℕ}
+use Prim.Native.Nat.{ℕ, _≤_, _<_}
 use native.Mathlib.Omega.{arith}
 use borrow.Author.Needs.{needs}
 use lib.ListN.{length}
@@ -12,17 +12,17 @@ use Rattle.compact.proofs.table.is_overtaken.Statement.{statement}
 use Rattle.compact.proofs.table.is_overtaken.Tie as tie
 
 module _ (book links places : List ℕ) where
-  no-path : (p : List ℕ) (first : ℕ) → length p ≡ 0 → false ≡ isOvertaken book links places p first
+  no-path : (p : List ℕ) (first : ℕ) → length p ≤ 0 → false ≡ isOvertaken book links places p first
   unfolding isOvertaken
-  no-path [] first e = refl
-  no-path (b ∷ p) first e = absurd (omega arith)
+  no-path [] first h = refl
+  no-path (b ∷ p) first h = absurd (omega arith)
 
-  some-path : (p : List ℕ) (first : ℕ) → (length p ≡ 0 → ⊥) → inChain book links places p first first ≡ isOvertaken book links places p first
+  some-path : (p : List ℕ) (first : ℕ) → 0 < length p → inChain book links places p first first ≡ isOvertaken book links places p first
   unfolding isOvertaken
-  some-path [] first ne = absurd (ne refl)
-  some-path (b ∷ p) first ne = refl
+  some-path [] first h = absurd (omega arith)
+  some-path (b ∷ p) first h = refl
 
 pub is-overtaken-spec : {M : Type 1} → statement M
 is-overtaken-spec =
     tie.close
-    (tie.spec (λ c. no-path _ _ _ _ _ (c .if1 .taken)) (λ c κs. search needs) (λ c. c .is-in-chain .ensures ∙ some-path _ _ _ _ _ (c .before .if1 .left)))
+    (tie.spec (λ c κs. search needs) (λ c. c .is-in-chain .ensures ∙ some-path _ _ _ _ _ (c .before .if1 .taken)) (λ c. no-path _ _ _ _ _ (c .if1 .left)))
