@@ -1,4 +1,4 @@
-/* Chowderbell: reads and writes the dates that Git writes and people type, and lists the hulls in a book of stamps.
+/* Chowderbell: reads and writes the dates that Git writes and people type, and lists and compacts books of stamps.
  *
  * A time is signed 64-bit seconds since 1970 and a signed 32-bit offset from UTC in seconds. The library uses no heap, keeps no
  * state and no pointer, and never looks at the clock, the time zone or the locale of the machine: the current time is an argument.
@@ -164,7 +164,10 @@ uint8_t chowderbell_write_iso(int64_t seconds, int32_t offset, uint8_t *room, si
    them, in the order of the book. Each is listed with its newline, byte for byte. A path may be in several lines; each line is
    listed or not by itself.
 
-   Both functions read book[0] to book[len - 1] and no other byte. */
+   A book grows by lines that are appended to it. Compacting makes it short again: of the `hull` lines with one path the last stays
+   and the earlier ones go.
+
+   The three functions read book[0] to book[len - 1] and no other byte. */
 
 /* Checks a book.
      0   The book is good. *line is set to 0.
@@ -181,6 +184,22 @@ uint8_t chowderbell_book_check(const uint8_t *book, size_t len, size_t *line);
    If it returns 8 or 10, *length is set to 0, and every byte of the room is as it was. It uses some 6 KB of stack more than a
    check, for a mark of each line. */
 uint8_t chowderbell_book_list(const uint8_t *book, size_t len, uint8_t *room, size_t room_len, size_t *length, size_t *line);
+
+/* Writes the compacted book to the front of a room of room_len bytes: the book without each `hull` line whose path a later `hull`
+   line has. Every `since` line stays, also one that is there twice. The lines that stay keep their order and their bytes. Two paths
+   are the same if all their bytes are. Keys, times and cut-offs do not matter: the last line stays, even if an earlier one has a
+   later time. A room of len bytes is always long enough, and one as long as the compacted book is enough. The room must not
+   overlap the book, so a book is not compacted in place.
+     0   room[0] to room[*length - 1] are the compacted book, without a terminating zero. The bytes beyond them are as they were.
+         *line is set to 0.
+     10  The book is not good. *line is set as by chowderbell_book_check.
+     8   The book is good, and the compacted book is longer than the room. *line is set to 0.
+   If it returns 8 or 10, *length is set to 0, and every byte of the room is as it was.
+   The compacted book is good, and compacted again it stays the same. Good lines may be appended to it, up to 65536 bytes in all. Its
+   listing is the listing of the book without the lines that went. So compacting can take a hull off the listing: if its last line is
+   before the cut-off, an older line of it may have been listed, and that line is gone.
+   It uses some 28 KB of stack more than a check, for the paths that it has met and the places of the lines that stay. */
+uint8_t chowderbell_book_compact(const uint8_t *book, size_t len, uint8_t *room, size_t room_len, size_t *length, size_t *line);
 
 #ifdef __cplusplus
 }

@@ -1,11 +1,15 @@
-/* Measures how long the library takes to check and to list a book, and prints a table.
+/* Measures how long the library takes to check, to list and to compact a book, and prints two tables.
  *
- * Usage: bench [WORD...]   only the books that have one of these words in their name
+ * Usage: bench [WORD...]   only the books that have one of these words in their name, or in that of their table, list or compact
  *
- * A hull line has a path of 40 bytes and a ten-digit time. Of the hulls below a since line about half are listed, in no regular
- * order. Each number is the best of ROUNDS rounds of about ROUND_NS, in time of this program on the processor, so that other
- * programs disturb it little. The answer to every book is known from the way it is made and is tested first, so that no refusal
- * is measured by mistake.
+ * In the first table, of check and list, a hull line has a path of 40 bytes and a ten-digit time. Of the hulls below a since line
+ * about half are listed, in no regular order. In the second, of check and compact, a hull line has a time of one digit and, where
+ * nothing else is said, the shortest path there is: 95 paths have one byte, the others two. So books of many lines fit: 2,048 of one
+ * path, and 1,988 of different ones. A row that asks for more lines than fit has as many as fit.
+ *
+ * Each number is the best of ROUNDS rounds of about ROUND_NS, in time of this program on the processor, so that other programs
+ * disturb it little. The answer to every book is known from the way it is made and is tested first, so that no refusal is measured
+ * by mistake.
  */
 #define _DEFAULT_SOURCE
 #include <stdint.h>
@@ -19,8 +23,10 @@
 /* The declarations that callers are written against; the compiler refuses a header that declares them otherwise. */
 uint8_t chowderbell_book_check(const uint8_t *book, size_t len, size_t *line);
 uint8_t chowderbell_book_list(const uint8_t *book, size_t len, uint8_t *room, size_t room_len, size_t *length, size_t *line);
+uint8_t chowderbell_book_compact(const uint8_t *book, size_t len, uint8_t *room, size_t room_len, size_t *length, size_t *line);
 
 enum { LONGEST = 65536, ROUNDS = 60, ROUND_NS = 2000000, FULL = 0 };
+enum { CHECK, LIST, COMPACT };
 
 /* The current time of every since line, noon of 31 May 2021, and the cut-offs from there: 17 May and 1 May, at noon. */
 #define NOW "1622462400\t7200"
@@ -29,6 +35,7 @@ enum { CUT_OFF_WEEKS = 1621252800, CUT_OFF_MONTH = 1619870400 };
 typedef struct {
     uint8_t bytes[LONGEST + 1000];
     size_t length, lines, listed;
+    size_t stay, compacted; /* the lines that stay when the book is compacted, and their bytes */
     uint32_t random;
     long cut_off;
 } book;
@@ -138,11 +145,146 @@ static void one_since(book *b, size_t i, size_t n)
     add(b, line);
 }
 
-static const struct kind {
+/* --- the lines of books to compact --- */
+
+/* A hull with this path; `stays` if no line below has the path. */
+static void add_path(book *b, const char *path, int stays)
+{
+    char line[320];
+    snprintf(line, sizeof line, "hull\t%s\t%08x%08x\t%u +0000\n", path, some(b), some(b), some(b) % 10);
+    add(b, line);
+    if (stays) {
+        b->stay++;
+        b->compacted += strlen(line);
+    }
+}
+
+/* The path with this number, the shortest ones first: 95 of one byte, then 9,025 of two. */
+static const char *short_path(size_t number)
+{
+    static char path[3];
+    path[0] = (char)(' ' + (number < 95 ? number : (number - 95) / 95));
+    path[1] = number < 95 ? 0 : (char)(' ' + (number - 95) % 95);
+    return path;
+}
+
+static void same(book *b, size_t i, size_t n)
+{
+    add_path(b, "a", i + 1 == n);
+}
+
+static void different(book *b, size_t i, size_t n)
+{
+    (void)n;
+    add_path(b, short_path(i), 1);
+}
+
+/* Every second line has one path, the others have one each. */
+static void half_same(book *b, size_t i, size_t n)
+{
+    add_path(b, short_path(i % 2 == 0 ? i / 2 + 1 : 0), i % 2 == 0 || i + 1 == n || (i + 2 == n && n % 2 == 1));
+}
+
+/* All paths, and then all of them again. */
+static void each_twice(book *b, size_t i, size_t n)
+{
+    size_t half = (n + 1) / 2;
+    add_path(b, short_path(i % half), i >= half || i + half >= n);
+}
+
+static void common_front(book *b, const char *path, int stays)
+{
+    char text[256];
+    memset(text, 'x', 200);
+    snprintf(text + 200, sizeof text - 200, "%s", path);
+    add_path(b, text, stays);
+}
+
+static void common(book *b, size_t i, size_t n)
+{
+    (void)n;
+    common_front(b, short_path(i + 95), 1);
+}
+
+static void common_twice(book *b, size_t i, size_t n)
+{
+    size_t half = (n + 1) / 2;
+    common_front(b, short_path(i % half + 95), i >= half || i + half >= n);
+}
+
+/* The hash that the library puts paths into buckets by. */
+static uint32_t hash(const char *path)
+{
+    uint32_t h = 0;
+    for (; *path != 0; path++)
+        h = (h + (uint8_t)*path) * 2654435761u;
+    return h;
+}
+
+/* Different paths of four bytes, behind `front`, that are all in one bucket: the worst case. They are looked for in order. */
+static const char *in_bucket(size_t i, const char *front)
+{
+    static char path[256];
+    static uint32_t next;
+    if (i == 0)
+        next = 0;
+    for (;; next++) {
+        snprintf(path, sizeof path, "%s%c%c%c%c", front, (int)(' ' + next / 857375 % 95), (int)(' ' + next / 9025 % 95),
+                 (int)(' ' + next / 95 % 95), (int)(' ' + next % 95));
+        if (hash(path) >> 21 == 7) {
+            next++;
+            return path + strlen(front);
+        }
+    }
+}
+
+static void one_bucket(book *b, size_t i, size_t n)
+{
+    (void)n;
+    add_path(b, in_bucket(i, ""), 1);
+}
+
+static void common_bucket(book *b, size_t i, size_t n)
+{
+    static char front[201];
+    (void)n;
+    memset(front, 'x', 200);
+    common_front(b, in_bucket(i, front), 1);
+}
+
+/* Hulls as in the first table; their paths are numbers at random, and are all different. */
+static void usual(book *b, size_t i, size_t n)
+{
+    (void)i, (void)n;
+    add_hull(b);
+    b->stay = b->lines;
+    b->compacted = b->length;
+}
+
+/* Hulls as usual, each four times: a book to which a build has appended four times. */
+static void four_times(book *b, size_t i, size_t n)
+{
+    size_t quarter = (n + 3) / 4;
+    char path[80];
+    snprintf(path, sizeof path, "ships/harbours-%04zu/hull-%04zu/cooked.obj", i % quarter, i % quarter * 7919 % 10000);
+    add_path(b, path, i + quarter >= n);
+}
+
+static void cut_offs(book *b, size_t i, size_t n)
+{
+    (void)i, (void)n;
+    add_since(b, "now", 1622462400);
+    b->stay = b->lines;
+    b->compacted = b->length;
+}
+
+typedef struct {
     const char *name;
     void (*line)(book *b, size_t i, size_t n);
-    size_t lines; /* FULL: as many as fit */
-} KINDS[] = {
+    size_t lines; /* the most; FULL: as many as fit */
+} kind;
+
+static const kind TO_LIST[] = {
     {"hulls", hulls, 1},
     {"hulls", hulls, 10},
     {"hulls", hulls, 100},
@@ -164,25 +306,66 @@ static const struct kind {
     {"one since of 65,536 bytes", one_since, 1},
 };
 
-static void make(const struct kind *kind)
+static const kind TO_COMPACT[] = {
+    {"one path", same, 16},
+    {"one path", same, 64},
+    {"one path", same, 256},
+    {"one path", same, 1024},
+    {"one path", same, 2048},
+    {"all different", different, 16},
+    {"all different", different, 64},
+    {"all different", different, 256},
+    {"all different", different, 1024},
+    {"all different", different, 2048},
+    {"half one path, half different", half_same, 16},
+    {"half one path, half different", half_same, 64},
+    {"half one path, half different", half_same, 256},
+    {"half one path, half different", half_same, 1024},
+    {"half one path, half different", half_same, 2048},
+    {"each path twice", each_twice, 16},
+    {"each path twice", each_twice, 64},
+    {"each path twice", each_twice, 256},
+    {"each path twice", each_twice, 1024},
+    {"each path twice", each_twice, 2048},
+    {"200 bytes in common", common, 16},
+    {"200 bytes in common", common, 64},
+    {"200 bytes in common", common, 256},
+    {"200 bytes in common", common, FULL},
+    {"200 bytes in common, each twice", common_twice, 16},
+    {"200 bytes in common, each twice", common_twice, 64},
+    {"200 bytes in common, each twice", common_twice, 256},
+    {"200 bytes in common, each twice", common_twice, FULL},
+    {"all in one bucket", one_bucket, 16},
+    {"all in one bucket", one_bucket, 64},
+    {"all in one bucket", one_bucket, 256},
+    {"all in one bucket", one_bucket, 1024},
+    {"all in one bucket", one_bucket, FULL},
+    {"all in one bucket, 200 bytes in common", common_bucket, 16},
+    {"all in one bucket, 200 bytes in common", common_bucket, 64},
+    {"all in one bucket, 200 bytes in common", common_bucket, FULL},
+    {"paths of 40 bytes, all different", usual, 1},
+    {"paths of 40 bytes, all different", usual, 100},
+    {"paths of 40 bytes, all different", usual, FULL},
+    {"paths of 40 bytes, each four times", four_times, 100},
+    {"paths of 40 bytes, each four times", four_times, FULL},
+    {"since `now`", cut_offs, FULL},
+};
+
+/* Makes a book of as many lines as the kind says, or of fewer if these do not fit. */
+static void make(const kind *k)
 {
-    size_t n = kind->lines;
-    made = (book){.random = 1};
-    if (n == FULL) { /* count the lines that fit, then make them again: `mixed` asks for their number */
-        for (n = 0; made.length <= LONGEST; n++)
-            kind->line(&made, n, LONGEST);
-        n--;
+    for (size_t n = k->lines == FULL ? 5000 : k->lines;;) {
+        size_t i;
         made = (book){.random = 1};
-    }
-    for (size_t i = 0; i < n; i++)
-        kind->line(&made, i, n);
-    if (made.length > LONGEST) { /* a since line is shorter than a hull, so this is not expected */
-        fprintf(stderr, "bench: a book is too long\n");
-        exit(2);
+        for (i = 0; i < n && made.length <= LONGEST; i++)
+            k->line(&made, i, n);
+        if (made.length <= LONGEST)
+            return;
+        n = i - 1; /* made again with that number, which some kinds ask for */
     }
 }
 
-static void test(const char *name)
+static void test_list(const char *name)
 {
     size_t length = 1, line = 1, check_line = 1;
     unsigned check = chowderbell_book_check(made.bytes, made.length, &check_line);
@@ -190,6 +373,20 @@ static void test(const char *name)
     if (check != 0 || check_line != 0 || list != 0 || line != 0 || length != made.listed) {
         fprintf(stderr, "bench: %s, %zu lines: check %u at line %zu, list %u at line %zu, %zu bytes; wanted 0, 0 and %zu bytes\n", name,
                 made.lines, check, check_line, list, line, length, made.listed);
+        exit(1);
+    }
+}
+
+static void test_compact(const char *name)
+{
+    size_t length = 1, line = 1, check_line = 1, lines = 0;
+    unsigned check = chowderbell_book_check(made.bytes, made.length, &check_line);
+    unsigned compact = chowderbell_book_compact(made.bytes, made.length, room, sizeof room, &length, &line);
+    for (size_t i = 0; i < length && i < sizeof room; i++)
+        lines += room[i] == '\n';
+    if (check != 0 || check_line != 0 || compact != 0 || line != 0 || length != made.compacted || lines != made.stay) {
+        fprintf(stderr, "bench: %s, %zu lines: check %u at line %zu, compact %u at line %zu, %zu lines, %zu bytes; wanted 0, 0 and %zu lines,"
+                " %zu bytes\n", name, made.lines, check, check_line, compact, line, lines, length, made.stay, made.compacted);
         exit(1);
     }
 }
@@ -203,59 +400,86 @@ static double clock_ns(void)
 
 static size_t sink;
 
-static void call(int listing)
+static void call(int entry)
 {
     size_t length = 0, line = 0;
-    if (listing)
+    if (entry == LIST)
         sink += chowderbell_book_list(made.bytes, made.length, room, sizeof room, &length, &line);
+    else if (entry == COMPACT)
+        sink += chowderbell_book_compact(made.bytes, made.length, room, sizeof room, &length, &line);
     else
         sink += chowderbell_book_check(made.bytes, made.length, &line);
     sink += length + line;
 }
 
-static double round_ns(int listing, size_t calls)
+static double round_ns(int entry, size_t calls)
 {
     double start = clock_ns();
     for (size_t i = 0; i < calls; i++)
-        call(listing);
+        call(entry);
     return clock_ns() - start;
 }
 
 /* The nanoseconds of one call. */
-static double measure(int listing)
+static double measure(int entry)
 {
     size_t calls = 1;
-    while (round_ns(listing, calls) < ROUND_NS)
+    while (round_ns(entry, calls) < ROUND_NS)
         calls *= 2;
     double best = 1e18;
     for (int round = 0; round < ROUNDS; round++) {
-        double each = round_ns(listing, calls) / (double)calls;
+        double each = round_ns(entry, calls) / (double)calls;
         if (each < best)
             best = each;
     }
     return best;
 }
 
-static int chosen(const char *name, int count, char **words)
+static int chosen(const char *table, const char *name, int count, char **words)
 {
     for (int i = 1; i < count; i++)
-        if (strstr(name, words[i]) != NULL)
+        if (strstr(name, words[i]) != NULL || strcmp(table, words[i]) == 0)
             return 1;
     return count < 2;
 }
 
+/* A heading above the first row of a table. */
+static void head(int *rows, const char *columns, const char *below)
+{
+    if ((*rows)++ == 0)
+        printf("%s\n%s\n", columns, below);
+}
+
 int main(int count, char **words)
 {
-    puts("| book | lines | bytes | listed | check, ns | a line | a byte | list, ns | a line | a byte |");
-    puts("|---|---:|---:|---:|---:|---:|---:|---:|---:|---:|");
-    for (size_t i = 0; i < sizeof KINDS / sizeof KINDS[0]; i++) {
-        if (!chosen(KINDS[i].name, count, words))
+    int rows = 0;
+    for (size_t i = 0; i < sizeof TO_LIST / sizeof TO_LIST[0]; i++) {
+        const kind *k = &TO_LIST[i];
+        if (!chosen("list", k->name, count, words))
             continue;
-        make(&KINDS[i]);
-        test(KINDS[i].name);
-        double check = measure(0), list = measure(1), lines = (double)made.lines, bytes = (double)made.length;
-        printf("| %s | %zu | %zu | %zu | %.0f | %.1f | %.2f | %.0f | %.1f | %.2f |\n", KINDS[i].name, made.lines, made.length,
+        head(&rows, "| book | lines | bytes | listed | check, ns | a line | a byte | list, ns | a line | a byte |",
+             "|---|---:|---:|---:|---:|---:|---:|---:|---:|---:|");
+        make(k);
+        test_list(k->name);
+        double check = measure(CHECK), list = measure(LIST), lines = (double)made.lines, bytes = (double)made.length;
+        printf("| %s | %zu | %zu | %zu | %.0f | %.1f | %.2f | %.0f | %.1f | %.2f |\n", k->name, made.lines, made.length,
                made.listed, check, check / lines, check / bytes, list, list / lines, list / bytes);
+        fflush(stdout);
+    }
+    if (rows > 0)
+        puts("");
+    rows = 0;
+    for (size_t i = 0; i < sizeof TO_COMPACT / sizeof TO_COMPACT[0]; i++) {
+        const kind *k = &TO_COMPACT[i];
+        if (!chosen("compact", k->name, count, words))
+            continue;
+        head(&rows, "| book | lines | bytes | stay | check, ns | a line | compact, ns | a line | compact / check |",
+             "|---|---:|---:|---:|---:|---:|---:|---:|---:|");
+        make(k);
+        test_compact(k->name);
+        double check = measure(CHECK), compact = measure(COMPACT), lines = (double)made.lines;
+        printf("| %s | %zu | %zu | %zu | %.0f | %.1f | %.0f | %.1f | %.2f |\n", k->name, made.lines, made.length, made.stay, check,
+               check / lines, compact, compact / lines, compact / check);
         fflush(stdout);
     }
     return sink == 1; /* so that no call is left out by the compiler */

@@ -1,20 +1,24 @@
 #!/usr/bin/env python3
-"""Judges, checks and lists a book of stamps: a reference that shares no code with the library.
+"""Judges, checks, lists and compacts a book of stamps: a reference that shares no code with the library.
 
-It was written from the words of docs/RULES.md (2.4, 3, 4.1, 7, 9.1), and for the book from those that section 13 was made from.
+It was written from the words of docs/RULES.md (2.4, 3, 4.1, 7, 9.1; 13.15 and 13.16 for compacting), and for the rest of the
+book from those that section 13 was made from.
 Every number is a Python integer, so nothing here can overflow.
 
 Usage: book.py list < BOOK      the number, the line and the length, then the listing
+       book.py compact < BOOK   the number, the line and the length, then the compacted book
        book.py judge < BOOK     each line of the book judged alone: `hull` and its seconds, `since` and its cut-off, or `bad`
        book.py selftest [FOLDER]
-                                the cases at the end of this file, the calendar, the example beside this file, and the
-                                relative dates among the vectors in FOLDER; exit status 1 if anything differs
+                                the cases at the end of this file, the laws of compacting for all small books, the
+                                calendar, the example beside this file, and the relative dates among the vectors in FOLDER;
+                                exit status 1 if anything differs
 
 The book is read from standard input. In the output of `judge` the last line is marked if it has no newline.
 """
 
 import re
 import sys
+from itertools import product
 from pathlib import Path
 
 # ---------------------------------------------------------------------------------------------------------------------------
@@ -131,6 +135,42 @@ class Rules:
 
     def room_needed(self, book, listing):
         return len(listing)
+
+    # --- a compacted book: RULES 13.15 and 13.16 -----------------------------------------------------------------------------
+
+    def compact(self, book):
+        """The number, the line, the compacted book, and the room that it needs. A book that is not good is refused as ever."""
+        number, line, _, _ = self.answer(book)
+        if number != 0:
+            return number, line, b"", 0
+        lines = book.split(b"\n")[:-1]
+        compacted = self.listing([lines[place] for place in self.places_that_stay(lines)])
+        return 0, 0, compacted, self.room_to_compact(book, compacted)
+
+    def places_that_stay(self, lines):
+        """Each `hull` line whose path a later `hull` line has is dropped. All other lines stay, in their order."""
+        paths_below = set()
+        stay = []
+        for place in reversed(range(len(lines))):
+            fields = lines[place].split(b"\t")
+            if fields[0] == b"hull":
+                if fields[1] in paths_below:
+                    continue
+                paths_below.add(fields[1])
+            stay.append(place)
+        return stay[::-1]
+
+    def room_to_compact(self, book, compacted):
+        return len(compacted)
+
+    def compact_into(self, book, room):
+        """What a call leaves behind: the number, the length, the line, and the bytes of the room."""
+        number, line, compacted, need = self.compact(book)
+        if number != 0:
+            return number, 0, line, room
+        if len(room) < need:
+            return 8, 0, 0, room
+        return 0, len(compacted), 0, compacted + room[len(compacted):]
 
     # --- a line, without its newline ---------------------------------------------------------------------------------------
 
@@ -429,6 +469,101 @@ CASES = [
 ]
 
 # ---------------------------------------------------------------------------------------------------------------------------
+# Compacting: cases worked out by hand. The keys and times are made different where the answer would otherwise not show which of
+# two lines stayed.
+
+
+def stays(what, *lines, stay):
+    """A good book, and the numbers (from 1) of the lines that stay when it is compacted."""
+    return what, book(*lines), 0, 0, book(*(lines[place - 1] for place in stay))
+
+
+def with_path(path, seconds=5):
+    """A hull line whose time and key tell it from other lines with its path."""
+    return H(b"%d +0000" % seconds, path, b"%016x" % (seconds & 0xFFFF))
+
+
+A1, A2, A3 = (with_path(b"a", seconds) for seconds in (1, 2, 3))
+B1, B2 = (with_path(b"b", seconds) for seconds in (1, 2))
+C1 = with_path(b"c", 1)
+NOW5, NOW9 = S(b"now", b"5"), S(b"now", b"9")
+
+COMPACT_CASES = [
+    # which lines stay
+    stays("the empty book", stay=[]),
+    stays("one hull", A1, stay=[1]),
+    stays("the same path twice: the last line", A1, A2, stay=[2]),
+    stays("the same path three times", A1, A2, A3, stay=[3]),
+    stays("the last line, and not the latest time", A3, A1, A2, stay=[3]),
+    stays("the same line three times", A1, A1, A1, stay=[3]),
+    stays("a, b, a' gives b, a'", A1, B1, A2, stay=[2, 3]),
+    stays("a, a', b gives a', b", A1, A2, B1, stay=[2, 3]),
+    stays("a, b, b' gives a, b'", A1, B1, B2, stay=[1, 3]),
+    stays("a, b, a', b' gives a', b'", A1, B1, A2, B2, stay=[3, 4]),
+    stays("a, b, b', a' gives b', a'", A1, B1, B2, A2, stay=[3, 4]),
+    stays("different paths all stay, in their order", C1, B1, A1, stay=[1, 2, 3]),
+    stays("and also where the order is by path", A1, B1, C1, stay=[1, 2, 3]),
+    stays("a, b, c, a', b', a'' gives c, b', a''", A1, B1, C1, A2, B2, A3, stay=[3, 5, 6]),
+    # keys and times do not count
+    stays("the same path with another key", H(b"5 +0000", b"a", b"0" * 16), H(b"5 +0000", b"a", b"f" * 16), stay=[2]),
+    stays("the same path with another time", H(b"5 +0000"), H(b"5 +0130"), stay=[2]),
+    stays("other paths with the same key and time", H(b"5 +0000", b"a"), H(b"5 +0000", b"b"), stay=[1, 2]),
+    stays("the path is as the key", H(b"5 +0000", K), H(b"5 +0000", b"a"), H(b"5 +0000", K), stay=[2, 3]),
+    stays("the path is as the time", H(b"5 +0000", b"5 +0000"), H(b"5 +0000", b"5 +0001"), stay=[1, 2]),
+    # since lines
+    stays("only since lines", NOW5, NOW9, stay=[1, 2]),
+    stays("the same since line three times", NOW5, NOW5, NOW5, stay=[1, 2, 3]),
+    stays("since lines between", A1, NOW5, A2, NOW5, A3, NOW9, stay=[2, 4, 5, 6]),
+    stays("a since line between does not keep the first", A1, NOW9, A2, stay=[2, 3]),
+    stays("since lines without a hull between them", NOW9, A1, NOW5, NOW9, NOW5, A2, stay=[1, 3, 4, 5, 6]),
+    stays("a since line at the end", A1, A2, NOW9, stay=[2, 3]),
+    # cut-offs do not count: line 2 would be listed, line 4 is not, and line 4 stays
+    stays("before the cut-off", NOW5, with_path(b"a", 5), NOW9, with_path(b"a", 8), stay=[1, 3, 4]),
+    stays("a path that is the text of a since line below", H(b"5 +0000", b"now"), NOW5, stay=[1, 2]),
+    stays("and of one above", NOW5, H(b"5 +0000", b"now"), stay=[1, 2]),
+    stays("and of one between", H(b"5 +0000", b"now"), NOW5, H(b"6 +0000", b"now"), stay=[2, 3]),
+    stays("the path `since`, the path `hull`", H(b"5 +0000", b"since"), NOW5, H(b"5 +0000", b"hull"), stay=[1, 2, 3]),
+    # paths are the same if all their bytes are
+    stays("prefixes of one another", with_path(b"a"), with_path(b"aa"), with_path(b"aaa"), stay=[1, 2, 3]),
+    stays("prefixes, the longest first", with_path(b"aaa"), with_path(b"aa"), with_path(b"a"), stay=[1, 2, 3]),
+    stays("ends of one another", with_path(b"ba"), with_path(b"a"), with_path(b"cba"), stay=[1, 2, 3]),
+    stays("the same bytes in another order", with_path(b"ab"), with_path(b"ba"), stay=[1, 2]),
+    stays("a small and a capital letter", with_path(b"a"), with_path(b"A"), stay=[1, 2]),
+    stays("spaces count", with_path(b"a"), with_path(b"a "), with_path(b" a"), with_path(b" "), stay=[1, 2, 3, 4]),
+    stays("slashes and dots are bytes", with_path(b"a/b"), with_path(b"a//b"), with_path(b"./a/b"), with_path(b"a\\b"), stay=[1, 2, 3, 4]),
+    stays("255 bytes, the last differs", with_path(b"x" * 254 + b"y"), with_path(b"x" * 255), stay=[1, 2]),
+    stays("255 bytes, the first differs", with_path(b"y" + b"x" * 254), with_path(b"x" * 255), stay=[1, 2]),
+    stays("255 bytes, none differs", with_path(b"x" * 255, 1), with_path(b"x" * 254), with_path(b"x" * 255, 2), stay=[2, 3]),
+    # full books
+    stays("2,048 lines of one path, 65,536 bytes", *[H(b"5 +0000")] * 2047, H(b"6 +0000"), stay=[2048]),
+    stays("4,681 since lines, all the same", *[S(b"now")] * 4681, stay=range(1, 4682)),
+    # books that are not good
+    ("a bad line between", book(A1, b"", A2), 10, 2, b""),
+    ("a bad line that would go", book(H(b"5 -0000", b"a"), A2), 10, 1, b""),
+    ("a bad last line", book(A1, A2, b"x"), 10, 3, b""),
+    ("the last line lacks its newline", book(A1) + A2, 10, 2, b""),
+    ("two bad lines: the first", book(A1, b"x", A2, b"y"), 10, 2, b""),
+    ("too long, though the compacted book would not be", book(*[H(b"5 +0000")] * 2049), 10, 0, b""),
+    ("too long is tested first", b"\n" * 65537, 10, 0, b""),
+]
+
+# With a room: number, length, line, and the room afterwards. A line of A1 to B2 has 32 bytes with its newline.
+ROOM_CASES = [
+    ("exact room", book(A1, A2), b"." * 32, 0, 32, 0, book(A2)),
+    ("one byte less", book(A1, A2), b"." * 31, 8, 0, 0, b"." * 31),
+    ("one byte more", book(A1, A2), b"." * 33, 0, 32, 0, book(A2) + b"."),
+    ("room of the book", book(A1, A2), b"." * 64, 0, 32, 0, book(A2) + b"." * 32),
+    ("exact room for two", book(A1, B1, A2), b"." * 64, 0, 64, 0, book(B1, A2)),
+    ("room for one of two", book(A1, B1, A2), b"." * 63, 8, 0, 0, b"." * 63),
+    ("no room", book(A1), b"", 8, 0, 0, b""),
+    ("no room, and no book", b"", b"", 0, 0, 0, b""),
+    ("no book", b"", b"...", 0, 0, 0, b"..."),
+    ("a bad book is refused before the room", book(A1, b"x"), b"", 10, 0, 2, b""),
+    ("a bad book and a room", book(A1, b"x"), b"." * 99, 10, 0, 2, b"." * 99),
+    ("a long book is refused before the room", b"\n" * 65537, b"", 10, 0, 0, b""),
+]
+
+# ---------------------------------------------------------------------------------------------------------------------------
 
 
 def differing_cases(rules):
@@ -436,6 +571,67 @@ def differing_cases(rules):
         got = rules.answer(text)[:3]
         if got != (number, line, listing):
             yield f"{what}: {text[:200]!r}: wanted {(number, line, listing)}, got {got}"
+    for what, text, number, line, compacted in COMPACT_CASES:
+        got = rules.compact(text)
+        if got != (number, line, compacted, len(compacted)):
+            yield f"compact, {what}: {text[:200]!r}: wanted {(number, line, compacted)}, got {got}"
+    for what, text, room, *wanted in ROOM_CASES:
+        got = rules.compact_into(text, room)
+        if got != tuple(wanted):
+            yield f"compact, {what}: {text[:200]!r}: wanted {wanted}, got {got}"
+
+
+def broken_laws(rules, text, more):
+    """The sentences of RULES 13.15 and 13.17 that do not hold for a good book and one more good line, each as a text.
+
+    The lines listed and the lines that stay are compared by their places in the book, since equal lines may differ in this.
+    """
+    def places_listed(lines):
+        return [place for place, line in enumerate(lines) if line.startswith(b"hull") and rules.answer(
+            book(*(line for line in lines[:place] if line.startswith(b"since")), line))[2]]
+
+    def paths(lines):
+        return [line.split(b"\t")[1] for line in lines if line.startswith(b"hull")]
+
+    lines = text.split(b"\n")[:-1]
+    compacted = rules.compact(text)[2]
+    left = compacted.split(b"\n")[:-1]
+    stay = rules.places_that_stay(lines)
+    listed = set(places_listed(lines))
+    both = [line for place, line in enumerate(lines) if place in listed and place in stay]
+    if rules.answer(text)[2] != book(*(lines[place] for place in sorted(listed))):
+        yield "each line is listed or not by itself"
+    if set(paths(left)) != set(paths(lines)) or len(paths(left)) != len(set(paths(left))):
+        yield "a path is in the compacted book exactly if it was in the book, and once"
+    if [line for line in left if line.startswith(b"since")] != [line for line in lines if line.startswith(b"since")]:
+        yield "every since line stays"
+    if rules.answer(compacted)[:2] != (0, 0) or len(compacted) > len(text):
+        yield "the compacted book is good and no longer than the book"
+    if rules.compact(compacted) != (0, 0, compacted, len(compacted)):
+        yield "the compacted book compacts to itself"
+    if rules.answer(compacted)[2] != book(*both):
+        yield "the listing of the compacted book is the listing of the book without the lines that went"
+    longer = compacted + book(more)
+    if len(longer) > rules.LONGEST_BOOK:
+        return
+    if rules.answer(longer)[:2] != (0, 0):
+        yield "with any good line behind it the compacted book is good"
+    overtaken = paths([more])
+    again = book(*(line for line in left if paths([line]) != overtaken or not overtaken), more)
+    if rules.compact(longer)[2] != again or (again == longer) != (not overtaken or overtaken[0] not in paths(left)):
+        yield "with a good line behind it only the line with its path goes"
+    if rules.compact(text + book(more))[:3] != (0, 0, again) and len(text + book(more)) <= rules.LONGEST_BOOK:
+        yield "a line behind the book, and behind the compacted book, compact to the same"
+
+
+def differing_laws(rules):
+    """The laws for all books of up to four lines over seven, with each of the seven behind them."""
+    lines = [A1, A3, with_path(b"ab", 2), with_path(b"now", 9), S(b"now", b"2"), S(b"now", b"9"), B1]
+    for count in range(5):
+        for chosen in product(lines, repeat=count):
+            for more in lines:
+                for law in broken_laws(rules, book(*chosen), more):
+                    yield f"{law}: {book(*chosen)!r}, {more!r}"
 
 
 def differing_days():
@@ -477,22 +673,24 @@ def differing_vectors(rules, folder):
 
 def differing_example(rules):
     here = Path(__file__).resolve().parent
-    got = rules.answer((here / "example.book").read_bytes())
-    wanted = (here / "example.listing").read_bytes()
-    if got[:3] != (0, 0, wanted):
-        yield f"example.book: wanted {wanted!r}, got {got}"
+    text = (here / "example.book").read_bytes()
+    for got, name in (rules.answer(text), "example.listing"), (rules.compact(text), "example.compacted"):
+        wanted = (here / name).read_bytes()
+        if got[:3] != (0, 0, wanted):
+            yield f"{name}: wanted {wanted!r}, got {got}"
 
 
 def selftest(folder):
     rules = Rules()
-    differences = [*differing_cases(rules), *differing_days(), *differing_example(rules)]
+    differences = [*differing_cases(rules), *differing_laws(rules), *differing_days(), *differing_example(rules)]
     vectors = ""
     if folder is not None:
         differences += differing_vectors(rules, folder)
         vectors = f", {rules.vectors} vectors"
     for difference in differences:
         print(difference)
-    print(f"book: {len(CASES)} cases{vectors}, the example, the calendar: {len(differences)} differ")
+    cases = f"{len(CASES)} cases, {len(COMPACT_CASES) + len(ROOM_CASES)} of compacting"
+    print(f"book: {cases}{vectors}, the laws of compacting, the example, the calendar: {len(differences)} differ")
     return 1 if differences else 0
 
 
@@ -501,6 +699,9 @@ def main(arguments):
         case ["list"]:
             number, line, listing, _ = Rules().answer(sys.stdin.buffer.read())
             sys.stdout.buffer.write(b"%d %d %d\n" % (number, line, len(listing)) + listing)
+        case ["compact"]:
+            number, line, compacted, _ = Rules().compact(sys.stdin.buffer.read())
+            sys.stdout.buffer.write(b"%d %d %d\n" % (number, line, len(compacted)) + compacted)
         case ["judge"]:
             *lines, last = sys.stdin.buffer.read().split(b"\n")
             for line in lines:

@@ -1,15 +1,18 @@
 """Books to compare: whole sets, and random ones from a seed.
 
-A suite is a function of a random number generator and a number of books, which only `random` looks at. It yields books, good and
-bad ones, and does not say which they are: that is for book.py. Here book.py is asked for cut-offs, so that hulls can be put
-next to them, and by `random` for good lines, so that enough books are good.
+A suite is a function of a random number generator and a number of books, which only `random`, `paths` and `laws` look at. It
+yields books, good and bad ones, and does not say which they are: that is for book.py. Here book.py is asked for cut-offs, so that
+hulls can be put next to them; by `random` and `paths` for good lines, so that enough books are good; and by `laws` for compacted
+books, which it holds to the laws of compacting and yields as books again.
 """
 
-from itertools import product
+from functools import lru_cache
+from itertools import count as count_from
+from itertools import islice, product
 from pathlib import Path
 
 import book as reference
-from book import CASES, H, K, S, book
+from book import CASES, COMPACT_CASES, ROOM_CASES, H, K, S, book
 
 RULES = reference.Rules()
 
@@ -123,7 +126,7 @@ def lines():
 
 def telling(rng, number):
     """The cases of book.py, the example, and each of its lines taken out, doubled or moved to the front."""
-    for _, text, _, _, _ in CASES:
+    for _, text, *_ in CASES + COMPACT_CASES + ROOM_CASES:
         yield text
     example = (Path(__file__).resolve().parent / "example.book").read_bytes().splitlines(keepends=True)
     yield b"".join(example)
@@ -249,6 +252,240 @@ def long_books(rng, number):
 
 
 # ---------------------------------------------------------------------------------------------------------------------------
+# Books to compact. The key of a hull is the number of its line where it matters which of several lines with a path stays.
+
+PATH_BYTES = bytes(range(32, 127))
+LONGEST = RULES.LONGEST_BOOK
+
+
+def keyed(items):
+    """A book of since lines, as they are, and of hulls, given as paths; keys and times go with the place."""
+    return book(*(item if item.startswith(b"since\t") else H(b"%d +0000" % (4 + place % 3), item, b"%016x" % place)
+                  for place, item in enumerate(items)))
+
+
+def that_fit(items, times=1):
+    """As many of the items, from the first on, as a book has room for if each is in it so many times, as `keyed` writes them."""
+    chosen, length = [], 0
+    for item in items:
+        length += times * (len(item) + (1 if item.startswith(b"since\t") else 31))
+        if length > LONGEST:
+            break
+        chosen.append(item)
+    return chosen
+
+
+def shortest_paths():
+    """All paths, the short ones first: 95 of one byte, 9,025 of two, and so on."""
+    for length in count_from(1):
+        for path in product(PATH_BYTES, repeat=length):
+            yield bytes(path)
+
+
+def shuffled(rng, items):
+    items = list(items)
+    rng.shuffle(items)
+    return items
+
+
+def arrangements(rng, paths):
+    """Books in which the paths, which must fit twice, are once, twice, in several orders, with since lines between."""
+    paths = list(paths)
+    since = S(b"now", b"5")
+    yield keyed(paths)
+    yield keyed(paths[::-1])
+    yield keyed(shuffled(rng, paths))
+    yield keyed(paths + paths)
+    yield keyed(paths + paths[::-1])
+    yield keyed(path for path in paths for _ in range(2))
+    yield keyed(shuffled(rng, paths + paths))
+    yield keyed(paths + paths[:len(paths) // 2])
+    yield keyed(paths[len(paths) // 2:] + paths)
+    yield keyed(that_fit(item for path in paths for item in (path, since)))
+    yield keyed(that_fit(shuffled(rng, paths + paths[::2] + [since] * (len(paths) // 3))))
+
+
+def repeats(rng, number):
+    """Every book of up to six lines over three paths and a since line; of up to five over four paths and two since lines."""
+    # the first ones with keys that differ, and with equal lines; of the others, the texts of the since lines are paths too
+    since, later = S(b"now", b"5"), S(b"1 day ago", b"86406")
+    for count in range(7):
+        for chosen in product((b"a", b"ab", b"b", since), repeat=count):
+            yield keyed(chosen)
+            yield book(*(item if item == since else H(b"5 +0000", item) for item in chosen))
+    for count in range(6):
+        for chosen in product((b"now", b"1 day ago", b"no", b"a", since, later), repeat=count):
+            yield keyed(chosen)
+
+
+def prefixes(rng, number):
+    """Every two paths of one byte; paths of 255 bytes that differ at one place; paths that are the front or the end of another."""
+    for one, other in product(PATH_BYTES, repeat=2):
+        yield keyed([bytes([one]), bytes([other])])
+    long = bytes(rng.choices(PATH_BYTES, k=255))
+    for place in range(255):
+        for bit in (1, 2, 4, 8, 16):
+            other = long[:place] + bytes([long[place] ^ bit]) + long[place + 1:]
+            yield keyed([long, other, long])
+            yield keyed([long[:place + 1], other[:place + 1]])
+            yield keyed([other[place:], long[place:], long[place:]])
+        yield keyed([long[:place + 1], long])
+        yield keyed([long, long[:place + 1]])
+        yield keyed([long[place:], long, long[place:]])
+    for place in (0, 1, 2, 3, 4, 7, 8, 15, 16, 31, 63, 127, 191, 247, 251, 252, 253, 254):
+        yield from arrangements(rng, (long[:place] + bytes([byte]) + long[place + 1:] for byte in PATH_BYTES))
+    for same in (b"a" * 255, long):
+        yield from arrangements(rng, (same[:length] for length in range(1, 170)))
+        yield from arrangements(rng, (same[-length:] for length in range(1, 170)))
+        yield keyed(same[:length] for length in range(1, 256))
+        yield keyed(same[:length] for length in range(255, 0, -1))
+
+
+# A table of paths by a hash may take two paths for the same if their hashes are, or lose one in a bucket of many. Here the hash is
+# the one that the library uses: for each byte `h = (h + byte) * 2654435761`, modulo 2^32, and the bucket is the first 11 bits.
+HASH_FACTOR = 2654435761
+
+
+@lru_cache(1 << 16)
+def hash_of(path):
+    h = 0
+    for byte in path:
+        h = (h + byte) * HASH_FACTOR & 0xFFFFFFFF
+    return h
+
+
+def bucket_of(path):
+    return hash_of(path) >> 21
+
+
+def in_bucket(bucket, fronts):
+    """Paths in this bucket that begin with one of the fronts, by search: two more bytes are tried out."""
+    for front in fronts:
+        h = hash_of(bytes(front))
+        for byte in PATH_BYTES:
+            before_last = (h + byte) * HASH_FACTOR & 0xFFFFFFFF
+            for last in PATH_BYTES:
+                if ((before_last + last) * HASH_FACTOR & 0xFFFFFFFF) >> 21 == bucket:
+                    yield bytes(front) + bytes([byte, last])
+
+
+def of_length(length):
+    """What `in_bucket` makes paths of this length of."""
+    return product(PATH_BYTES, repeat=length - 2)
+
+
+def grown(rng, bucket, step):
+    """Paths in this bucket, each the front of the next one, which is longer by `step` bytes."""
+    path = b""
+    while len(path) + step <= 255:
+        fronts = (path + bytes(rng.choices(PATH_BYTES, k=step - 2)) for _ in range(1000))
+        path = next(in_bucket(bucket, fronts))
+        yield path
+
+
+def grown_in_front(rng, bucket, number):
+    """Paths in this bucket, each the end of the next one, which is longer by three bytes."""
+    path = b""
+    for _ in range(number):
+        path = next(longer for longer in (bytes(rng.choices(PATH_BYTES, k=3)) + path for _ in range(1000000)) if bucket_of(longer) == bucket)
+        yield path
+
+
+def differing_at(path, place):
+    """Paths that differ from this one at one place alone, by the bucket that they are in."""
+    by_bucket = {}
+    for byte in PATH_BYTES:
+        other = path[:place] + bytes([byte]) + path[place + 1:]
+        by_bucket.setdefault(bucket_of(other), []).append(other)
+    return by_bucket.values()
+
+
+def same_hash(rng):
+    """Two paths of six bytes whose hashes are the same in all 32 bits: of some 100,000 random ones a pair is likely to be found."""
+    known = {}
+    while True:
+        path = bytes(rng.choices(PATH_BYTES, k=6))
+        other = known.setdefault(hash_of(path), path)
+        if other != path:
+            return other, path
+
+
+def buckets(rng, number):
+    """Paths that a hash does not tell apart: many in one bucket, and many whose hashes are the same in all bits."""
+    for bucket in (0, 1, 1023, 1024, 2047, rng.randrange(2048)):
+        for few in (2, 3, 10, 300):
+            yield from arrangements(rng, islice(in_bucket(bucket, of_length(3)), few))
+        # a library that compares paths within a bucket shows a mistake in comparing them only there
+        for step in (2, 3, 8, 50):
+            yield from arrangements(rng, that_fit(grown(rng, bucket, step), times=2))
+        yield from arrangements(rng, grown_in_front(rng, bucket, 8))
+    for length in (2, 3, 4, 8, 20, 255):
+        path = bytes(rng.choices(PATH_BYTES, k=length))
+        for place in range(length):
+            for paths in differing_at(path, place):
+                if len(paths) > 1:
+                    yield keyed(paths)
+                    yield keyed(paths + paths[:1])
+                    yield keyed(paths[:1] + paths[::-1])
+    yield from arrangements(rng, that_fit(in_bucket(7, of_length(4)), times=2))
+    yield keyed(that_fit(in_bucket(7, of_length(4))))
+    # joined in any way, the two paths of a pair give paths with the same hash again: 2^k of them from k pairs
+    for pair in (same_hash(rng) for _ in range(3)):
+        yield from arrangements(rng, pair)
+        for count in (2, 3, 5, 8):
+            paths = [b"".join(pieces) for pieces in product(pair, repeat=count)]
+            yield from arrangements(rng, that_fit(shuffled(rng, paths), times=2))
+        long = [b"x" * 190 + b"".join(pieces) for pieces in product(pair, repeat=10)]
+        yield from arrangements(rng, that_fit(shuffled(rng, long), times=2))
+    # all buckets used, and each of them twice
+    first = {}
+    for path in shortest_paths():
+        first.setdefault(bucket_of(path), path)
+        if len(first) == 2048:
+            break
+    yield keyed(that_fit(first.values()))
+    yield from arrangements(rng, that_fit(first.values(), times=2))
+
+
+def full_books(rng, number):
+    """Full books: one path 2,048 times, as many different paths as fit, each some times, since lines between; also with a fault."""
+    since = S(b"now", b"5")
+    most = that_fit(shortest_paths())
+    books = [book(*[H(b"5 +0000")] * 2048), keyed([b"a"] * 2048), keyed([b"a"] * 2047 + [b"b"]), keyed([b"b"] + [b"a"] * 2047)]
+    books += [keyed(most), keyed(most[::-1]), keyed(shuffled(rng, most)), keyed(most[1:] + most[-1:]), keyed(most[:-1] + most[:1])]
+    # paths that come again below many others, and paths that many others come below
+    for count in (1, 40, 400, 900):
+        for paths in (most, shuffled(rng, most)):
+            books.append(keyed(that_fit(paths[:count] + paths)))
+            books.append(keyed(that_fit(paths[:count][::-1] + paths)))
+            books.append(keyed(that_fit(paths[:count] + paths)[::-1]))
+    for count in (2, 3, 95):
+        books.append(keyed(most[place % count] for place in range(2048)))
+        books.append(keyed(most[place * count // 2048] for place in range(2048)))
+        books.append(keyed(that_fit(shuffled(rng, most[:count] * (2048 // count + 1)))))
+    for times in (2, 3, 10):
+        books.append(keyed(that_fit(shortest_paths(), times) * times))
+        books.append(keyed(shuffled(rng, that_fit(shortest_paths(), times) * times)))
+    books.extend(arrangements(rng, that_fit(shortest_paths(), times=2)))
+    # the shortest since line has 14 bytes, so 4,681 lines are the most that a book has
+    shortest = S(b"now")
+    books += [book(*[shortest] * 4681), keyed([b"a"] + [shortest] * 4678 + [b"a"]), keyed([shortest] * 2340 + [b"a"] * 1000)]
+    books += [keyed(that_fit(item for path in shortest_paths() for item in (path, shortest)))]
+    books += [keyed(that_fit(item for path in shortest_paths() for item in (path, shortest, b"a", since)))]
+    for _ in range(40):
+        paths = [some_good_path(rng) for _ in range(rng.choice((5, 50, 500, 3000)))]
+        books.append(keyed(that_fit(rng.choice(paths) if rng.random() < 0.9 else since for _ in range(5000))))
+        books.append(keyed(that_fit(shuffled(rng, paths))))
+    for text in books:
+        yield text
+        # one line more, too long or not; the last newline gone; one bad byte
+        yield text + book(H(b"5 +0000"))
+        yield text[:-1]
+        place = rng.randrange(len(text))
+        yield text[:place] + bytes([rng.choice((0, 9, 10, 127))]) + text[place + 1:]
+
+
+# ---------------------------------------------------------------------------------------------------------------------------
 # Random ones. A pool of lines is made, then many books of lines from it, some of them damaged.
 
 def some_time(rng):
@@ -371,7 +608,68 @@ def random_books(rng, number):
             yield text
 
 
+def some_good_path(rng):
+    return bytes(rng.choices(PATH_BYTES, k=rng.choice((1, 2, 3, 8, 20, 40, rng.randint(1, 255)))))
+
+
+def like(rng, path):
+    """A path that is nearly the same: a byte changed, added or taken, or some bytes moved."""
+    place = rng.randrange(len(path))
+    byte = bytes([rng.choice(PATH_BYTES)])
+    changed = rng.choice((
+        path[:place] + byte + path[place + 1:], path + byte, byte + path, path[:-1], path[1:], path[:place], path[place:] + path[:place],
+        path[::-1], path.swapcase(), path * 2,
+    ))
+    return changed if RULES.is_path(changed) else path
+
+
+def few_paths(rng):
+    """Lines with few paths, which are like one another or like other fields, and since lines, some of them with a path as their text."""
+    paths = [rng.choice((some_good_path(rng), b"hull", b"since", K, b"now", b"5 +0000", b"2 weeks ago"))]
+    while len(paths) < rng.choice((1, 2, 3, 4, 6, 10)):
+        paths.append(like(rng, rng.choice(paths)) if rng.random() < 0.8 else some_good_path(rng))
+    lines = []
+    for path in paths:
+        for _ in range(rng.choice((1, 1, 2, 3))):
+            lines.append(H(b"%d +%02d00" % (rng.randint(-3, 3), rng.randrange(100)), path, rng.choice((K, some_key(rng)))))
+    for text in (b"now", b"0 days", b"2 weeks ago", *paths):
+        since = S(text, b"%d" % rng.randint(-3, 3))
+        if rng.random() < 0.5 and RULES.judge_alone(since) is not None:
+            lines.append(since)
+    return lines
+
+
+def paths_at_random(rng, number):
+    """From the seed: few paths in many lines, keys and times that differ or not, since lines between; a tenth damaged."""
+    made = 0
+    while made < number // 3:
+        lines = few_paths(rng)
+        for _ in range(min(20, number // 3 - made)):
+            made += 1
+            text = book(*rng.choices(lines, k=rng.choice((1, 2, 3, 4, 5, 6, 8, 12, 20, 60))))
+            yield damaged(rng, text) if rng.random() < 0.1 else text
+
+
+def laws(rng, number):
+    """From the seed: good books, what the reference compacts them to, and both with a good line behind; held to RULES 13.15 and 13.17."""
+    made = 0
+    while made < number // 30:
+        lines = few_paths(rng) + pool(rng)[0]
+        for _ in range(10):
+            made += 1
+            text = book(*rng.choices(lines, k=rng.choice((0, 1, 2, 3, 5, 8, 12, 30))))
+            more = rng.choice(lines)
+            for law in reference.broken_laws(RULES, text, more):
+                raise SystemExit(f"books: the reference breaks a law: {law}: {text!r}, {more!r}")
+            compacted = RULES.compact(text)[2]
+            yield text
+            yield compacted
+            yield text + book(more)
+            yield compacted + book(more)
+
+
 SUITES = {
-    "telling": telling, "settings": settings, "bytes": changed_bytes, "orders": orders, "offsets": offsets, "months": month_ends,
-    "range": ends_of_range, "long": long_books, "random": random_books,
+    "telling": telling, "repeats": repeats, "prefixes": prefixes, "buckets": buckets, "full": full_books, "settings": settings,
+    "bytes": changed_bytes, "orders": orders, "offsets": offsets, "months": month_ends, "range": ends_of_range, "long": long_books,
+    "paths": paths_at_random, "laws": laws, "random": random_books,
 }

@@ -4,7 +4,7 @@
 Usage: compare.py --program FILE [--seed N] [--books N] [--save FILE] [--list] [--planted] [SUITE...]
   --program FILE   the program that compare.c was built to
   --seed N         seed of the random books, otherwise 1
-  --books N        how many random books, otherwise 300000
+  --books N        how many random books, otherwise 300000; a third as many of few paths, and laws for a thirtieth
   --save FILE      where the smallest differing book is written to
   --list           names the suites
   --planted        would it notice? Rules with one mistake each, and programs with one mistake each: every one must be found
@@ -24,7 +24,7 @@ from itertools import chain
 from pathlib import Path
 
 from book import DAY, Rules, date_of_day, first_day_of_month, fits
-from books import SUITES
+from books import SUITES, bucket_of, hash_of
 
 BATCH = 1 << 20  # bytes
 MOST_TRIED = 20 << 20  # bytes of smaller books that are tried
@@ -34,8 +34,8 @@ MOST_REMEMBERED = 200000
 class Library:
     """The program that calls the library. If a call ends it, it is started again."""
 
-    def __init__(self, program, mistake=0):
-        self.command = [program, str(mistake)]
+    def __init__(self, program, entry="none", mistake=0):
+        self.command = [program, entry, str(mistake)]
         self.process = None
 
     def start(self):
@@ -60,8 +60,9 @@ class Library:
         if self.process is None:
             self.start()
         records = []
-        for text, (number, line, listing, need) in wanted:
-            records += struct.pack("=5I", len(text), number, line, len(listing), need), text, listing
+        for text, *both in wanted:
+            numbers = [value for number, line, written, need in both for value in (number, line, len(written), need)]
+            records += struct.pack("=9I", len(text), *numbers), text, *(written for _, _, written, _ in both)
         records = b"".join(records)
         try:
             self.process.stdin.write(struct.pack("=2I", len(wanted), len(records)) + records)
@@ -110,9 +111,10 @@ def batches(books):
 
 
 def answers(rules, batch):
+    """Each book with the answers wanted of a listing and of compacting."""
     if len(rules.known) > MOST_REMEMBERED:
         rules.known.clear()
-    return [(text, rules.answer(text)) for text in batch]
+    return [(text, rules.answer(text), rules.compact(text)) for text in batch]
 
 
 def difference(library, rules, text):
@@ -152,10 +154,10 @@ def shown(text, most=600):
 
 def report(library, rules, text, seed, save):
     text = smallest(library, rules, text)
-    number, line, listing, _ = rules.answer(text)
     print(f"The smallest differing book, of {len(text)} bytes (seed {seed}):")
     print(f"  {shown(text)}")
-    print(f"  wanted: number {number}, line {line}, listing of {len(listing)} bytes {shown(listing)}")
+    for what, (number, line, written, _) in ("listing", rules.answer(text)), ("compacted book", rules.compact(text)):
+        print(f"  wanted: number {number}, line {line}, {what} of {len(written)} bytes {shown(written)}")
     print(f"  {difference(library, rules, text)}")
     if save is not None:
         Path(save).write_bytes(text)
@@ -165,17 +167,18 @@ def report(library, rules, text, seed, save):
 def compare(chosen, options):
     library, rules = Library(options.program), Rules()
     differing, shortest, total = 0, None, 0
-    print(f"{'suite':10} {'books':>8} {'bytes':>11} {'good':>8} {'listed':>8} {'differ':>8} {'seconds':>8}")
+    print(f"{'suite':10} {'books':>8} {'bytes':>11} {'good':>8} {'listed':>8} {'shorter':>8} {'differ':>8} {'seconds':>8}")
     for name in chosen:
         started = time.monotonic()
-        books = length = good = listed = differ = 0
+        books = length = good = listed = shorter = differ = 0
         for batch in batches(SUITES[name](random.Random(options.seed), options.books)):
             wanted = answers(rules, batch)
             count, found = library.differences(wanted)
             books += len(batch)
             length += sum(map(len, batch))
-            good += sum(1 for _, answer in wanted if answer[0] == 0)
-            listed += sum(1 for _, answer in wanted if answer[2])
+            good += sum(1 for _, answer, _ in wanted if answer[0] == 0)
+            listed += sum(1 for _, answer, _ in wanted if answer[2])
+            shorter += sum(1 for text, _, answer in wanted if answer[0] == 0 and len(answer[2]) < len(text))
             differ += count
             for place, what in found:
                 if differing < 3:
@@ -184,7 +187,8 @@ def compare(chosen, options):
                 if shortest is None or len(batch[place]) < len(shortest):
                     shortest = batch[place]
         total += books
-        print(f"{name:10} {books:8} {length:11} {good:8} {listed:8} {differ:8} {time.monotonic() - started:8.1f}", flush=True)
+        seconds = time.monotonic() - started
+        print(f"{name:10} {books:8} {length:11} {good:8} {listed:8} {shorter:8} {differ:8} {seconds:8.1f}", flush=True)
     if shortest is None:
         library.stop()
         print(f"book: {total} books, seed {options.seed}: nothing differs")
@@ -534,22 +538,385 @@ class RoomBeyond(Rules):
         return len(listing) + 1
 
 
-# The mistakes with memory that compare.c can make, from 1.
+# --- mistakes of compacting ------------------------------------------------------------------------------------------------
+
+def path_of(line):
+    """The path of a hull line; nothing for a since line."""
+    fields = line.split(b"\t")
+    return fields[1] if fields[0] == b"hull" else None
+
+
+def last_of_each(lines, name):
+    """The places of the since lines, and of each hull of which `name` says what no hull below it has."""
+    stay, below = [], set()
+    for place in reversed(range(len(lines))):
+        if path_of(lines[place]) is not None:
+            if name(lines[place]) in below:
+                continue
+            below.add(name(lines[place]))
+        stay.append(place)
+    return stay[::-1]
+
+
+class FirstStays(Rules):
+    """compact: the first hull with a path stays, not the last"""
+    def places_that_stay(self, lines):
+        return [len(lines) - 1 - place for place in super().places_that_stay(lines[::-1])][::-1]
+
+
+class LatestStays(Rules):
+    """compact: the hull with the latest time stays, not the last line"""
+    def places_that_stay(self, lines):
+        latest = {}
+        for place, line in enumerate(lines):
+            if (path := path_of(line)) is not None:
+                latest[path] = max(latest.get(path, (self.judge(line)[1], place)), (self.judge(line)[1], place))
+        return [place for place, line in enumerate(lines) if path_of(line) is None or latest[path_of(line)][1] == place]
+
+
+class AllStay(Rules):
+    """compact: nothing goes"""
+    def places_that_stay(self, lines):
+        return list(range(len(lines)))
+
+
+class OnlyNext(Rules):
+    """compact: a hull goes only if the next line has its path"""
+    def places_that_stay(self, lines):
+        return [place for place, line in enumerate(lines)
+                if path_of(line) is None or place + 1 == len(lines) or path_of(lines[place + 1]) != path_of(line)]
+
+
+class OnlyOneGoes(Rules):
+    """compact: of three hulls with a path the second stays too"""
+    def places_that_stay(self, lines):
+        return [place for place, line in enumerate(lines)
+                if path_of(line) is None or path_of(line) in map(path_of, lines[:place]) or path_of(line) not in map(path_of, lines[place + 1:])]
+
+
+class BetweenSince(Rules):
+    """compact: a since line keeps the hulls above it"""
+    def places_that_stay(self, lines):
+        stay, below = [], set()
+        for place in reversed(range(len(lines))):
+            path = path_of(lines[place])
+            if path is None:
+                below.clear()
+            elif path in below:
+                continue
+            below.add(path)
+            stay.append(place)
+        return stay[::-1]
+
+
+class SinceGoes(Rules):
+    """compact: since lines go"""
+    def places_that_stay(self, lines):
+        return [place for place in super().places_that_stay(lines) if path_of(lines[place]) is not None]
+
+
+class IdleSinceGoes(Rules):
+    """compact: a since line goes if no hull is left between it and the next"""
+    def places_that_stay(self, lines):
+        stay = super().places_that_stay(lines)
+        return [place for place, following in zip(stay, stay[1:] + [None])
+                if path_of(lines[place]) is not None or following is None or path_of(lines[following]) is not None]
+
+
+class LastSinceGoes(Rules):
+    """compact: since lines at the end of the book go"""
+    def places_that_stay(self, lines):
+        stay = super().places_that_stay(lines)
+        while stay and path_of(lines[stay[-1]]) is None:
+            stay.pop()
+        return stay
+
+
+class EqualSinceGoes(Rules):
+    """compact: of equal since lines only the last stays"""
+    def places_that_stay(self, lines):
+        return [place for place in super().places_that_stay(lines)
+                if path_of(lines[place]) is not None or lines[place] not in lines[place + 1:]]
+
+
+class SinceTextIsPath(Rules):
+    """compact: the text of a since line is taken for a path"""
+    def places_that_stay(self, lines):
+        texts = [line.split(b"\t")[1] for line in lines]
+        return [place for place in super().places_that_stay(lines)
+                if path_of(lines[place]) is None or texts[place] not in texts[place + 1:]]
+
+
+class SinceFirst(Rules):
+    """compact: since lines are moved in front of the hulls"""
+    def places_that_stay(self, lines):
+        return sorted(super().places_that_stay(lines), key=lambda place: path_of(lines[place]) is not None)
+
+
+class SortedByPath(Rules):
+    """compact: where there is no since line the hulls are sorted by path"""
+    def places_that_stay(self, lines):
+        stay = super().places_that_stay(lines)
+        return stay if None in map(path_of, lines) else sorted(stay, key=lambda place: path_of(lines[place]))
+
+
+class FromTheLast(Rules):
+    """compact: the lines are written from the last to the first"""
+    def places_that_stay(self, lines):
+        return super().places_that_stay(lines)[::-1]
+
+
+class InFirstPlace(Rules):
+    """compact: the last hull with a path is moved to the place of the first"""
+    def places_that_stay(self, lines):
+        paths = [path_of(line) for line in lines]
+        first = {path: place for place, path in reversed(list(enumerate(paths)))}
+        return sorted(super().places_that_stay(lines), key=lambda place: place if paths[place] is None else first[paths[place]])
+
+
+class PrefixIsSame(Rules):
+    """compact: a hull goes if its path is the front of a path below"""
+    def places_that_stay(self, lines):
+        paths = [path_of(line) for line in lines]
+        return [place for place, path in enumerate(paths)
+                if path is None or not any(below is not None and below.startswith(path) for below in paths[place + 1:])]
+
+
+class LongerIsSame(Rules):
+    """compact: a hull goes if a path below is the front of its own"""
+    def places_that_stay(self, lines):
+        paths = [path_of(line) for line in lines]
+        return [place for place, path in enumerate(paths)
+                if path is None or not any(below is not None and path.startswith(below) for below in paths[place + 1:])]
+
+
+class NoLastByte(Rules):
+    """compact: the last of 255 bytes of a path is not compared"""
+    def places_that_stay(self, lines):
+        return last_of_each(lines, lambda hull: (len(path_of(hull)), path_of(hull)[:254]))
+
+
+class NoFirstByte(Rules):
+    """compact: the first byte of a path is not compared where there are more"""
+    def places_that_stay(self, lines):
+        return last_of_each(lines, lambda hull: (len(path_of(hull)), path_of(hull)[1:] or path_of(hull)))
+
+
+class AnyCase(Rules):
+    """compact: small letters and capitals are the same in a path"""
+    def places_that_stay(self, lines):
+        return last_of_each(lines, lambda hull: path_of(hull).lower())
+
+
+class SpacesTrimmed(Rules):
+    """compact: spaces around a path do not count"""
+    def places_that_stay(self, lines):
+        return last_of_each(lines, lambda hull: path_of(hull).strip())
+
+
+class KeyCompared(Rules):
+    """compact: keys are compared and not paths"""
+    def places_that_stay(self, lines):
+        return last_of_each(lines, lambda hull: hull.split(b"\t")[2])
+
+
+class PathAndKey(Rules):
+    """compact: a hull stays if its key is another one"""
+    def places_that_stay(self, lines):
+        return last_of_each(lines, lambda hull: tuple(hull.split(b"\t")[1:3]))
+
+
+class WholeLine(Rules):
+    """compact: only equal lines go"""
+    def places_that_stay(self, lines):
+        return last_of_each(lines, lambda hull: hull)
+
+
+class BucketIsPath(Rules):
+    """compact: two paths in one bucket are the same"""
+    def places_that_stay(self, lines):
+        return last_of_each(lines, lambda hull: bucket_of(path_of(hull)))
+
+
+class HashIsPath(Rules):
+    """compact: two paths with one hash are the same"""
+    def places_that_stay(self, lines):
+        return last_of_each(lines, lambda hull: hash_of(path_of(hull)))
+
+
+class HeadOfBucket(Rules):
+    """compact: of a bucket only the first path is looked at"""
+    def places_that_stay(self, lines):
+        stay, heads = [], {}
+        for place in reversed(range(len(lines))):
+            path = path_of(lines[place])
+            if path is not None:
+                if heads.get(bucket_of(path)) == path:
+                    continue
+                heads[bucket_of(path)] = path
+            stay.append(place)
+        return stay[::-1]
+
+
+class FewPaths(Rules):
+    """compact: paths from the 1,025th on are not remembered"""
+    def places_that_stay(self, lines):
+        stay, below = [], set()
+        for place in reversed(range(len(lines))):
+            path = path_of(lines[place])
+            if path in below:
+                continue
+            if path is not None and len(below) < 1024:
+                below.add(path)
+            stay.append(place)
+        return stay[::-1]
+
+
+class FewLines(Rules):
+    """compact: lines in front of the last 4,680 go"""
+    def places_that_stay(self, lines):
+        return [place for place in super().places_that_stay(lines) if place >= len(lines) - 4680]
+
+
+class CutOffsCount(Rules):
+    """compact: hulls before their cut-off go"""
+    def places_that_stay(self, lines):
+        cut_off, listed = None, set()
+        for place, line in enumerate(lines):
+            kind, seconds = self.judge(line)
+            if kind == "since":
+                cut_off = seconds
+            elif cut_off is None or seconds >= cut_off:
+                listed.add(place)
+        return [place for place in super().places_that_stay(lines) if path_of(lines[place]) is None or place in listed]
+
+
+class LastListedStays(Rules):
+    """compact: the last listed hull with a path stays too"""
+    def places_that_stay(self, lines):
+        cut_off, last = None, {}
+        for place, line in enumerate(lines):
+            kind, seconds = self.judge(line)
+            if kind == "since":
+                cut_off = seconds
+            elif cut_off is None or seconds >= cut_off:
+                last[path_of(line)] = place
+        return sorted({*super().places_that_stay(lines), *last.values()})
+
+
+class FirstKeyStays(Rules):
+    """compact: the hull that stays has the key of the first"""
+    def compact(self, book):
+        number, line, compacted, need = super().compact(book)
+        keys = {}
+        for text in book.split(b"\n") if number == 0 else []:
+            if path_of(text) is not None:
+                keys.setdefault(path_of(text), text.split(b"\t")[2])
+        for path, key in keys.items():
+            compacted = re.sub(rb"(^|\n)(hull\t" + re.escape(path) + rb"\t)[0-9a-f]{16}", rb"\g<1>\g<2>" + key, compacted)
+        return number, line, compacted, need
+
+
+class NoLastNewline(Rules):
+    """compact: the last line loses its newline"""
+    def compact(self, book):
+        number, line, compacted, need = super().compact(book)
+        return number, line, compacted[:-1], max(need - 1, 0)
+
+
+class GoodFront(Rules):
+    """compact: a bad book is compacted up to its bad line"""
+    def compact(self, book):
+        number, line, compacted, need = super().compact(book)
+        if number != 0 and line > 0:
+            return super().compact(b"".join(text + b"\n" for text in book.split(b"\n")[:line - 1]))
+        return number, line, compacted, need
+
+
+class BadLineGoes(Rules):
+    """compact: a bad hull is passed over if a later line has its path"""
+    def compact(self, book):
+        number, line, compacted, need = super().compact(book)
+        lines = book.split(b"\n")
+        if number != 0 and 0 < line < len(lines):
+            bad = lines.pop(line - 1).split(b"\t")
+            if bad[0] == b"hull" and any(text.split(b"\t")[:2] == bad[:2] for text in lines[line - 1:]):
+                return super().compact(b"\n".join(lines))
+        return number, line, compacted, need
+
+
+class NoLineTold(Rules):
+    """compact: a bad line is not told"""
+    def compact(self, book):
+        number, _, compacted, need = super().compact(book)
+        return number, 0, compacted, need
+
+
+class LineFromTheEnd(Rules):
+    """compact: the bad line is counted from the end"""
+    def compact(self, book):
+        number, line, compacted, need = super().compact(book)
+        lines = book.count(b"\n") + (not book.endswith(b"\n"))
+        return number, lines + 1 - line if line > 0 else 0, compacted, need
+
+
+class LineOfLong(Rules):
+    """compact: a book that is too long is refused at its last line"""
+    def compact(self, book):
+        number, line, compacted, need = super().compact(book)
+        return number, book.count(b"\n") if number != 0 and line == 0 else line, compacted, need
+
+
+class LongIfCompacted(Rules):
+    """compact: a book is too long only if the compacted book is"""
+    def compact(self, book):
+        if 65536 < len(book) < 66000:
+            self.LONGEST_BOOK = 66000
+            number, line, compacted, need = super().compact(book)
+            self.LONGEST_BOOK = 65536
+            if number == 0 and need <= 65536:
+                return number, line, compacted, need
+        return super().compact(book)
+
+
+class RoomOfBookToCompact(Rules):
+    """compact: the room must hold the book"""
+    def room_to_compact(self, book, compacted):
+        return len(book)
+
+
+class RoomBeyondToCompact(Rules):
+    """compact: the room must be longer than the compacted book"""
+    def room_to_compact(self, book, compacted):
+        return len(compacted) + 1
+
+
+class RoomForLess(Rules):
+    """compact: a room that is a byte too short is enough"""
+    def room_to_compact(self, book, compacted):
+        return max(len(compacted) - 1, 0)
+
+
+# The mistakes with memory that compare.c can make, from 1. The first ones are also made by a check, which has no room.
 OF_MEMORY = [
-    "a byte behind the listing is changed", "a refusal changes the room", "a byte in front of the room is changed", "the book is changed",
-    "a refusal leaves what was in length", "line is left as it was where it is not found", "check leaves line as it was",
-    "a byte behind the book is read", "a byte in front of the book is read", "a byte behind the room is written",
+    "line is left as it was where it is not found", "a byte behind the book is read", "a byte in front of the book is read",
+    "the book is changed", "a byte behind what is written is changed", "a refusal changes the last byte of the room",
+    "a refusal by 10 writes the first byte", "a byte in front of the room is changed", "a refusal by 8 writes what there is room for",
+    "a byte behind the room is written", "a refusal leaves what was in length", "a refusal by 8 tells the length needed",
+    "a refusal by 8 tells a line", "the line behind the first bad one is told",
 ]
+OF_CHECK = OF_MEMORY[:4]
 
 
 def planted(chosen, options):
     """Every mistake must be found. Prints how many books that took, and the smallest."""
     missed = 0
     right = Library(options.program)
-    mistakes = [(mistake.__doc__, mistake(), 0) for mistake in Rules.__subclasses__()]
-    mistakes += [(name, Rules(), number) for number, name in enumerate(OF_MEMORY, 1)]
-    for name, rules, number in mistakes:
-        library = Library(options.program, number)
+    mistakes = [(mistake.__doc__, mistake(), "none", 0) for mistake in Rules.__subclasses__()]
+    for entry, names in ("check", OF_CHECK), ("list", OF_MEMORY), ("compact", OF_MEMORY):
+        mistakes += [(f"{entry}: {name}", Rules(), entry, number) for number, name in enumerate(names, 1)]
+    for name, rules, entry, number in mistakes:
+        library = Library(options.program, entry, number)
         books = chain.from_iterable(SUITES[suite](random.Random(options.seed), min(options.books, 20000)) for suite in chosen)
         looked_at = 0
         for batch in batches(books):

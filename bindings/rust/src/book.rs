@@ -1,4 +1,5 @@
-//! A book of stamps: a text with lines for cooked hulls, and the listing of the hulls that its cut-offs keep.
+//! A book of stamps: a text with lines for cooked hulls, the listing of the hulls that its cut-offs keep, and the compacted
+//! book, which has one line for each hull.
 //!
 //! A book has at most [`MAX`] bytes. The empty book is good. Every line ends in a newline, the last one too, and has four
 //! fields with tabs between:
@@ -20,8 +21,11 @@
 //! The time that a `since` line's text means is the cut-off for the `hull` lines below it, up to the next `since` line.
 //! The listing has the `hull` lines whose seconds are at or after their cut-off, and all those that have no `since` line
 //! above them, in the order of the book. Each is listed with its newline, byte for byte. A path may be in several lines; each
-//! line is listed or not by itself. The listing of a good book is a
-//! good book too, and has no more bytes.
+//! line is listed or not by itself. The listing of a good book is a good book too, and has no more bytes.
+//!
+//! A book grows by lines that are appended to it. The compacted book is the book without each `hull` line whose path a later
+//! `hull` line has: for each path the last line stays, and every `since` line stays. The lines that stay keep their order and
+//! their bytes. The compacted book is a good book too, has no more bytes, and compacts to itself.
 
 use crate::{entries, refusal, Refusal};
 use core::fmt;
@@ -92,7 +96,65 @@ pub fn listing(book: impl AsRef<[u8]>, room: &mut [u8]) -> Result<&str, BookErro
     Ok(core::str::from_utf8(&room[..length]).expect("a listing is ASCII"))
 }
 
-/// Why a book is not good, or was not listed.
+/// Writes the compacted book at the start of `room` and returns its length. The bytes after it are not changed. A room of
+/// as many bytes as the book is always long enough, and one as long as the compacted book is enough.
+///
+/// Paths are the same if all their bytes are. Keys, times and cut-offs do not matter: the last line of a path stays, even if
+/// an earlier one has a later time.
+///
+/// The listing of the compacted book is the listing of the book without the lines that went. So compacting can take a hull
+/// off the listing: if its last line is before the cut-off, an older line of it may have been listed, and that line is gone.
+///
+/// A call uses some 28 KB of stack more than [`check`].
+///
+/// # Errors
+/// Those of [`check`], then [`BookError::Room`]. `room` is not changed then.
+///
+/// ```
+/// use chowderbell::book;
+///
+/// let text = "hull\tcog\t00112233445566ff\t5 +0000\n\
+///             hull\tcog\t8899aabbccddeeff\t4 +0000\n";
+/// let mut room = [b'.'; 36];
+/// assert_eq!(book::compact(text, &mut room), Ok(34));
+/// assert_eq!(&room, b"hull\tcog\t8899aabbccddeeff\t4 +0000\n..");
+/// ```
+pub fn compact(book: impl AsRef<[u8]>, room: &mut [u8]) -> Result<usize, BookError> {
+    let (mut length, mut line) = (0, 0);
+    let number = entries::book_compact(book.as_ref(), room, &mut length, &mut line);
+    refusal::answer(number, length).map_err(|why| BookError::new(why, line))
+}
+
+/// The compacted book, written into `room`. A good book is ASCII.
+///
+/// # Errors
+/// Those of [`compact`].
+///
+/// ```
+/// use chowderbell::book::{self, BookError};
+///
+/// let text = "hull\tships/cog\t00112233445566ff\t1745578609 +0200\n\
+///             hull\tships/whaler\t8899aabbccddeeff\t1745578610 +0200\n\
+///             since\t1 hour ago\t1745582210\t7200\n\
+///             hull\tships/cog\t00112233445566fe\t1745578000 +0200\n";
+/// let mut room = [0; book::MAX];
+/// let compacted = book::compacted(text, &mut room).unwrap();
+/// // the first line went, since the last one has its path
+/// assert_eq!(Some(compacted), text.split_once('\n').map(|(_, rest)| rest));
+///
+/// // the cog is before the cut-off in its last line; its first line was listed, and is gone
+/// let mut room = [0; book::MAX];
+/// assert_eq!(book::list(text, &mut room), Ok(101)); // 49 bytes of the cog, 52 of the whaler
+/// assert_eq!(book::listing(compacted, &mut room), Ok("hull\tships/whaler\t8899aabbccddeeff\t1745578610 +0200\n"));
+///
+/// assert_eq!(book::compacted("hull\n", &mut room), Err(BookError::BadLine(1)));
+/// ```
+pub fn compacted(book: impl AsRef<[u8]>, room: &mut [u8]) -> Result<&str, BookError> {
+    let length = compact(book, room)?;
+    Ok(core::str::from_utf8(&room[..length]).expect("a good book is ASCII"))
+}
+
+/// Why a book is not good, or was not listed or compacted.
 #[derive(Clone, Copy, PartialEq, Eq, Hash, Debug)]
 #[non_exhaustive]
 pub enum BookError {
@@ -100,7 +162,7 @@ pub enum BookError {
     TooLong,
     /// The book has a bad line. This is the number of the first one, counted from 1.
     BadLine(usize),
-    /// The book is good, and its listing is longer than the room.
+    /// The book is good, and its listing, or the compacted book, is longer than the room.
     Room,
 }
 
@@ -147,7 +209,7 @@ impl fmt::Display for BookError {
         match self {
             BookError::TooLong => write!(f, "the book has more than {MAX} bytes"),
             BookError::BadLine(line) => write!(f, "line {line} of the book is bad"),
-            BookError::Room => f.write_str("the room is shorter than the listing"),
+            BookError::Room => f.write_str("the room is shorter than the bytes to be written"),
         }
     }
 }

@@ -66,6 +66,14 @@ mod c {
             length: *mut usize,
             line: *mut usize,
         ) -> u8;
+        pub fn chowderbell_book_compact(
+            book: *const u8,
+            len: usize,
+            room: *mut u8,
+            room_len: usize,
+            length: *mut usize,
+            line: *mut usize,
+        ) -> u8;
     }
 }
 
@@ -198,4 +206,13 @@ pub fn book_check(book: &[u8], line: &mut usize) -> u8 {
 #[must_use]
 pub fn book_list(book: &[u8], room: &mut [u8], length: &mut usize, line: &mut usize) -> u8 {
     unsafe { c::chowderbell_book_list(book.as_ptr(), book.len(), room.as_mut_ptr(), room.len(), length, line) }
+}
+
+/// Writes the compacted book at the start of `room`. Returns 0, 8 or 10.
+///
+/// `line` is that of [`book_check`].
+#[inline]
+#[must_use]
+pub fn book_compact(book: &[u8], room: &mut [u8], length: &mut usize, line: &mut usize) -> u8 {
+    unsafe { c::chowderbell_book_compact(book.as_ptr(), book.len(), room.as_mut_ptr(), room.len(), length, line) }
 }

@@ -1,7 +1,7 @@
 use core::fmt;
 
-/// Why a text was not read, a time was not written or a book was not listed. The numbers are those of the C entries
-/// (RULES 2).
+/// Why a text was not read, a time was not written or a book was not listed or compacted. The numbers are those of the C
+/// entries (RULES 2).
 #[derive(Clone, Copy, PartialEq, Eq, Hash, Debug)]
 #[non_exhaustive]
 #[repr(u8)]

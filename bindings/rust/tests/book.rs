@@ -25,15 +25,16 @@ fn since(seconds: i64) -> String {
 }
 
 /// Checks every book, prints those whose answers differ with the book, wanted and got, and fails if there are any. Also
-/// holds a listing to the same answer, in a room as long as the book.
+/// holds a listing and the compacted book to the same answer, in a room as long as the book.
 fn hold<B: AsRef<[u8]>>(rows: impl IntoIterator<Item = (B, Result<(), BookError>)>) {
     let mut differ = 0;
     for (text, wanted) in rows {
         let text = text.as_ref();
         let got = book::check(text);
         let listed = book::list(text, &mut vec![0; text.len()]).map(|_| ());
-        if (got, listed) != (wanted, wanted) {
-            println!("\"{}\"\n  wanted {wanted:?}\n  got    {got:?}, {listed:?}", text.escape_ascii());
+        let compacted = book::compact(text, &mut vec![0; text.len()]).map(|_| ());
+        if (got, listed, compacted) != (wanted, wanted, wanted) {
+            println!("\"{}\"\n  wanted {wanted:?}\n  got    {got:?}, {listed:?}, {compacted:?}", text.escape_ascii());
             differ += 1;
         }
     }
@@ -49,6 +50,24 @@ fn listed(lines: &[String]) -> Vec<usize> {
     let listing = book::listing(&text, &mut room).unwrap();
     let number = |line| 1 + lines.iter().position(|other| other == line).expect("a line of the book");
     listing.split_inclusive('\n').map(number).collect()
+}
+
+/// The numbers, from 1, of the lines that stay when a book is compacted. The key of each hull is made the number of its
+/// line, so that no two hulls are the same. Equal `since` lines are told apart by their order.
+fn stay(lines: &[String]) -> Vec<usize> {
+    let lines: Vec<_> =
+        (1..).zip(lines).map(|(n, line)| line.replace("0123456789abcdef", &format!("{n:016x}"))).collect();
+    let text = lines.concat();
+    let mut room = vec![0; text.len()];
+    let compacted = book::compacted(&text, &mut room).unwrap();
+    let mut above = 0;
+    compacted
+        .split_inclusive('\n')
+        .map(|line| {
+            above += 1 + lines[above..].iter().position(|other| other == line).expect("a line further down");
+            above
+        })
+        .collect()
 }
 
 #[test]
@@ -373,6 +392,144 @@ fn rooms_of_every_length() {
 }
 
 #[test]
+fn the_last_line_of_each_path_stays() {
+    let [a, b, c] = ["a", "b", "c"].map(path);
+    let of = |letters: &str| -> Vec<String> {
+        letters
+            .chars()
+            .map(|letter| match letter {
+                's' => since(5),
+                _ => path(&letter.to_string()),
+            })
+            .collect()
+    };
+    for (letters, wanted) in [
+        ("", &[][..]),
+        ("a", &[1]),
+        ("aa", &[2]),
+        ("aaa", &[3]),
+        ("abc", &[1, 2, 3]),
+        ("cba", &[1, 2, 3]),
+        ("aba", &[2, 3]),
+        ("aab", &[2, 3]),
+        ("abb", &[1, 3]),
+        ("abab", &[3, 4]),
+        ("abba", &[3, 4]),
+        ("abcaba", &[3, 5, 6]),
+        // every `since` line stays, and keeps no hull above it
+        ("s", &[1]),
+        ("sss", &[1, 2, 3]),
+        ("asa", &[2, 3]),
+        ("sasbsas", &[1, 3, 4, 5, 6, 7]),
+        ("aasss", &[2, 3, 4, 5]),
+    ] {
+        assert_eq!(stay(&of(letters)), wanted, "{letters}");
+    }
+    // the last line stays, and not the one with the latest time
+    assert_eq!(stay(&[hull("9 +0000"), hull("3 +0000"), hull("5 +0000")]), [3]);
+    // nor the last one that is listed: the second line is before the cut-off
+    assert_eq!(stay(&[hull("5 +0000"), since(9), hull("8 +0000")]), [2, 3]);
+    // other keys and times make no other path, and the same ones not the same path
+    assert_eq!(stay(&[key("0000000000000000"), key("ffffffffffffffff")]), [2]);
+    let same = a.clone() + &b + &c;
+    assert_eq!(book::compacted(&same, &mut vec![0; same.len()]), Ok(&*same));
+}
+
+#[test]
+fn paths_are_the_same_if_all_their_bytes_are() {
+    let long = "x".repeat(254);
+    let (last, first) = (long.clone() + "y", "y".to_string() + &long);
+    let full = long.clone() + "x";
+    for (one, other) in [
+        ("a", "aa"),
+        ("aa", "a"),
+        ("ba", "a"),
+        ("ab", "ba"),
+        ("a", "A"),
+        ("a", "a "),
+        ("a", " a"),
+        ("a/b", "a//b"),
+        ("a/b", "a\\b"),
+        (&*full, &*last),
+        (&*full, &*first),
+        (&*full, &*long),
+        (&*last, &*first),
+        // a path may look like another field, or like another line's
+        ("hull", "since"),
+        ("fedcba9876543210", "a"),
+        ("5 +0000", "5 +0001"),
+    ] {
+        assert_eq!(stay(&[path(one), path(other)]), [1, 2], "{one}, {other}");
+        assert_eq!(stay(&[path(one), path(other), path(one)]), [2, 3], "{one}, {other}, {one}");
+    }
+    // the text of a `since` line is no path
+    assert_eq!(stay(&[path("now"), since(5)]), [1, 2]);
+    assert_eq!(stay(&[path("now"), since(5), path("now")]), [2, 3]);
+}
+
+#[test]
+fn a_compacted_book_is_good_and_compacts_to_itself() {
+    let text = hull("1 +0200") + &since(5) + &path("a cog") + &hull("4 +0000") + &since(5) + &path("a cog");
+    let compacted = since(5) + &hull("4 +0000") + &since(5) + &path("a cog");
+    let mut room = vec![0; text.len()];
+    assert_eq!(book::compacted(&text, &mut room), Ok(&*compacted));
+    assert_eq!(book::check(&compacted), Ok(()));
+    assert_eq!(book::compacted(&compacted, &mut room), Ok(&*compacted));
+    // the listing of the book was lines 1, 3 and 6; without the lines that went it is line 6
+    assert_eq!(book::listing(&text, &mut room), Ok(&*(hull("1 +0200") + &path("a cog") + &path("a cog"))));
+    assert_eq!(book::listing(&compacted, &mut room), Ok(&*path("a cog")));
+    // a line behind it
+    let longer = compacted.clone() + &path("a raft");
+    let mut room = vec![0; longer.len()];
+    assert_eq!(book::compacted(&longer, &mut room), Ok(&*longer));
+    let longer = compacted + &hull("6 +0000");
+    assert_eq!(book::compacted(&longer, &mut room), Ok(&*(since(5) + &since(5) + &path("a cog") + &hull("6 +0000"))));
+}
+
+#[test]
+fn full_books_are_compacted() {
+    let mut room = vec![0; book::MAX];
+    // 32 bytes to a line: 2,048 lines take 65,536
+    let same = path("a").repeat(2047) + &path("a").replace("5 +0000", "6 +0000");
+    assert_eq!(same.len(), 65536);
+    assert_eq!(book::compacted(&same, &mut room), Ok(&*path("a").replace("5 +0000", "6 +0000")));
+    // one line more is too long, though the compacted book would not be
+    assert_eq!(book::compact(same + &path("a"), &mut room), Err(TooLong));
+    // 36 bytes to a line: 1,820 lines take 65,520
+    let names: Vec<_> = (0..1820).map(|n| path(&format!("{n:05}"))).collect();
+    assert_eq!(names.concat().len(), 65520);
+    assert_eq!(book::compacted(names.concat(), &mut room), Ok(&*names.concat()));
+    // 910 paths twice
+    let twice = names[..910].concat().repeat(2);
+    assert_eq!(book::compacted(&twice, &mut room), Ok(&*names[..910].concat()));
+    let reversed: String = names[..910].iter().rev().cloned().collect();
+    assert_eq!(book::compacted(reversed.clone() + &names[..910].concat(), &mut room), Ok(&*names[..910].concat()));
+    // 4,681 `since` lines, all the same
+    let cut_offs = since(5).repeat(4681);
+    assert_eq!(book::compacted(&cut_offs, &mut room), Ok(&*cut_offs));
+}
+
+#[test]
+fn rooms_of_every_length_to_compact() {
+    let text = hull("4 +0000") + &since(5) + &path("a") + &hull("6 +0000");
+    let compacted = since(5) + &path("a") + &hull("6 +0000");
+    for length in 0..=text.len() + 1 {
+        let mut room = vec![b'.'; length];
+        // the room asked for is that of the compacted book, and not of the book
+        let wanted = if length < compacted.len() { Err(Room) } else { Ok(compacted.len()) };
+        // a refusal changes no byte: a bad line, a book that is too long
+        assert_eq!(book::compact(text.clone() + "x\n", &mut room), Err(BadLine(5)), "room of {length}");
+        assert_eq!(book::compact("\n".repeat(65537), &mut room), Err(TooLong), "room of {length}");
+        assert!(room.iter().all(|byte| *byte == b'.'), "room of {length}: a refusal changed the room");
+        assert_eq!(book::compact(&text, &mut room), wanted, "room of {length}");
+        let written = wanted.unwrap_or(0);
+        assert_eq!(room[..written], compacted.as_bytes()[..written], "room of {length}");
+        assert!(room[written..].iter().all(|byte| *byte == b'.'), "room of {length}: bytes beyond were written");
+    }
+    assert_eq!(book::compact("", &mut []), Ok(0));
+}
+
+#[test]
 fn every_output_is_set() {
     let good = hull("5 +0000");
     let bad = good.clone() + "x\n";
@@ -382,6 +539,10 @@ fn every_output_is_set() {
     {
         let (mut room, mut told) = (vec![b'.'; space], (77, 77));
         assert_eq!(entries::book_list(text.as_bytes(), &mut room, &mut told.0, &mut told.1), number);
+        assert_eq!(told, (length, line));
+        assert!(room[length..].iter().all(|byte| *byte == b'.'));
+        let (mut room, mut told) = (vec![b'.'; space], (77, 77));
+        assert_eq!(entries::book_compact(text.as_bytes(), &mut room, &mut told.0, &mut told.1), number);
         assert_eq!(told, (length, line));
         assert!(room[length..].iter().all(|byte| *byte == b'.'));
         let mut told = 77;
@@ -397,7 +558,7 @@ fn errors_have_refusals_and_words() {
     for (error, refusal, line, words) in [
         (TooLong, Refusal::Book, 0, "the book has more than 65536 bytes"),
         (BadLine(3), Refusal::Book, 3, "line 3 of the book is bad"),
-        (Room, Refusal::Room, 0, "the room is shorter than the listing"),
+        (Room, Refusal::Room, 0, "the room is shorter than the bytes to be written"),
     ] {
         assert_eq!((error.refusal(), error.line()), (refusal, line));
         assert_eq!(error.to_string(), words);

@@ -9,8 +9,8 @@ use native.Mathlib.Omega.{arith}
 use lib.ListN.{length, drop, getD, length-append}
 use lib.Seq.{sets, sets-eq, length-sets}
 use Rattle.text.specs.Lines.{newline}
+use Rattle.text.specs.Room.{putAt}
 use Rattle.stamps.specs.Copies.{joined}
-use Rattle.stamps.specs.Held.{putAt}
 use Rattle.stamps.proofs.Marks.{sets-append}
 use Rattle.compact.specs.Held.{lineAt, linesDown}
 

@@ -12,7 +12,7 @@ ghost use Rattle.stamps.specs.declared.book.Checked.the-variants.{Good};
 ghost use Rattle.compact.specs.Compact.{kept, compacted};
 ghost use Rattle.compact.specs.Held.{linesDown};
 use crate::table;
-use stamps::put;
+use text::copy;
 use text::places as cut;
 
 // The lines that are kept: how many there are, and how many bytes they have with their newlines.
@@ -73,8 +73,8 @@ pub fn copy_lines(book: &[u8], places: &[u16], count: usize, room: &mut [u8])
     let mut written: usize = 0;
     while 0 < k {
         let line = cut::before(cut::from(book, places[k - 1] as usize), b'\n');
-        written = put::put_part(line, written, room);
-        written = put::put_part(b"\n", written, room);
+        written = copy::put_part(line, written, room);
+        written = copy::put_part(b"\n", written, room);
         k -= 1;
     }
 }

@@ -21,7 +21,7 @@ use Rattle.time.specs.declared.Written.{Written}
 use Rattle.time.specs.declared.Written.the-variants.{Length}
 use Rattle.time.proofs.Headers.{length-headerBytes}
 use Rattle.time.proofs.Theorems.{header-written-if-it-fits}
-use Rattle.stamps.specs.Held.{putAt}
+use Rattle.text.specs.Room.{putAt}
 
 -- the room up to the end of what is put
 length-take-append : (x l : List ℕ) (at : ℕ) → at ≤ length l → length (take at l ++ x) ≡ at + length x

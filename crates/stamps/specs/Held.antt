@@ -1,12 +1,12 @@
 -- What the code holds on the way to an answer. Nothing here is needed to read what the public calls ensure. In order: the classes
 -- of bytes that a scan passes; a number, and the tail of a stamp, at the front of a longer text; the first line of a text; a line
--- from one of its places on; the marks of the lines that are listed; a room in which bytes are put.
+-- from one of its places on; the marks of the lines that are listed.
 -- Assumes nothing.
 use Prim.Native.Nat.{ℕ, _+_, _*_}
 use Prim.Native.Char.{code}
 use mathlib.Core.Path.{_≡_}
 use mathlib.Core.Bool.{Bool, true, cond, not, _&&_}
-use mathlib.Core.List.{List, [], _∷_, _++_}
+use mathlib.Core.List.{List, [], _∷_}
 use lib.Dec.{ltb, eqb}
 use lib.IntN.{pos, negℤ}
 use lib.ListN.{length, take, drop, getD}
@@ -139,8 +139,3 @@ picked (m ∷ ms) (l ∷ ls) = let below = picked ms ls in cond (eqb m 1) (l ∷
 abbrev pub badNumber : Number → ℕ
 badNumber (Value n) = n
 badNumber NoNumber = 0
-
--- ---- a room in which bytes are put
--- the room with these bytes from place `at` on, and all others as they were
-abbrev pub putAt : List ℕ → ℕ → List ℕ → List ℕ
-putAt bytes at room = take at room ++ bytes ++ drop (at + length bytes) room

@@ -20,7 +20,7 @@ ghost use Rattle.stamps.specs.Listing.{isAtOrAfter, orAbove, listing, li
 ghost use Rattle.stamps.specs.Held.{NextLine, markOf, marksOf, picked, badNumber};
 use crate::line;
 use crate::line::Line;
-use crate::put;
+use text::copy;
 use text::number::Integer;
 use text::places;
 use time::Refusal;
@@ -268,7 +268,7 @@ fn copy_marked(book: &[u8], marks: &[u8], room: &mut [u8])
         let size = places::first_place(rest, b'\n') + 1;
         // Of a line that is not marked no byte is copied.
         let line = places::up_to(rest, size_if(is_marked(marks, n), size));
-        written = put::put_part(line, written, room);
+        written = copy::put_part(line, written, room);
         at += size;
         n += 1;
     }

@@ -4,7 +4,7 @@
 // hulls that its cut-offs keep. Every text has an answer, whatever its length and its bytes.
 pub mod book;
 pub mod line;
-pub mod put;
+mod put;
 mod scan;
 mod stamp;
 pub mod write;

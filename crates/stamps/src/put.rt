@@ -1,31 +1,17 @@
-// Bytes put into a room at a place, one part behind the other. Each call returns the place past the
-// bytes that it put, and leaves all other bytes as they were.
+// Times and numbers put into a room at a place. Each call returns the place past the bytes that it put,
+// and leaves all other bytes as they were.
 ghost use mathlib.Core.Path.{_≡_};
 ghost use Prim.Native.Nat.{_+_, _≤_, _<_};
 ghost use lib.IntN.{natAbs};
 ghost use lib.ListN.{length};
 ghost use Rattle.text.specs.Decimal.{signed};
+ghost use Rattle.text.specs.Room.{putAt};
 ghost use Rattle.time.specs.Header.{headerBytes};
-ghost use Rattle.stamps.specs.Held.{putAt};
 use text::decimal;
 use time::Time;
 
-// Puts the bytes of `part` from place `at` on.
-pub fn put_part(part: &[u8], at: usize, room: &mut [u8]) -> usize
-    requires { ⌜ at + length (now part) ≤ length (now room) ⌝ }
-    ensures { λ r. ⌜ r ≡ at + length (now (part .entry)) ⌝ }
-    ensures { λ _. ⌜ now (room .exit) ≡ putAt (now (part .entry)) at (now (room .entry)) ⌝ }
-{
-    let mut i = 0;
-    while i < part.len() {
-        room[at + i] = part[i];
-        i += 1;
-    }
-    at + i
-}
-
 // Puts the header of a time from place `at` on.
-pub(crate) fn put_time(t: Time, at: usize, room: &mut [u8]) -> usize
+pub fn put_time(t: Time, at: usize, room: &mut [u8]) -> usize
     requires { ⌜ (natAbs (t .offset) < 360000) × (at + length (headerBytes t) ≤ length (now room)) ⌝ }
     ensures { λ r. ⌜ r ≡ at + length (headerBytes t) ⌝ }
     ensures { λ _. ⌜ now (room .exit) ≡ putAt (headerBytes t) at (now (room .entry)) ⌝ }
@@ -35,7 +21,7 @@ pub(crate) fn put_time(t: Time, at: usize, room: &mut [u8]) -> usize
 }
 
 // Puts a number in plain decimal from place `at` on.
-pub(crate) fn put_number(z: i64, at: usize, room: &mut [u8]) -> usize
+pub fn put_number(z: i64, at: usize, room: &mut [u8]) -> usize
     requires { ⌜ at + length (signed z) ≤ length (now room) ⌝ }
     ensures { λ r. ⌜ r ≡ at + length (signed z) ⌝ }
     ensures { λ _. ⌜ now (room .exit) ≡ putAt (signed z) at (now (room .entry)) ⌝ }

@@ -11,20 +11,20 @@ ghost use lib.ListN.{length, drop};
 ghost use Rattle.calendar.specs.Table.{IsMonths};
 ghost use Rattle.text.specs.Decimal.{signed};
 ghost use Rattle.text.specs.Lines.{tab};
-ghost use Rattle.text.specs.Room.{roomAfter};
+ghost use Rattle.text.specs.Room.{roomAfter, putAt};
 ghost use Rattle.time.specs.Answers.{isWritten};
 ghost use Rattle.time.specs.Header.{headerBytes};
 ghost use Rattle.relative.specs.Relative.{maxPairs};
 ghost use Rattle.stamps.specs.Writing.{isHull, isSince, isRead, hullLine, sinceLine, ended, lineWritten, hullWritten, sinceWritten};
 ghost use Rattle.stamps.specs.Stamps.{isWholeMinutes};
 ghost use Rattle.stamps.specs.Lines.{isPath, isKey};
-ghost use Rattle.stamps.specs.Held.{putAt};
 use crate::line::KEY;
 use crate::line::MAX_PATH;
 use crate::put;
 use crate::scan;
 use crate::scan::Class;
 use crate::stamp::SECONDS_PER_MINUTE;
+use text::copy;
 use text::decimal;
 use time::Answer;
 use time::Now;
@@ -105,11 +105,11 @@ fn put_hull(path: &[u8], key: &[u8], time: Time, room: &mut [u8])
     requires { ⌜ length (ended (hullLine (now path) (now key) time)) ≤ length (now room) ⌝ }
     ensures { λ _. ⌜ now (room .exit) ≡ ended (hullLine (now (path .entry)) (now (key .entry)) time) ++ drop (length (ended (hullLine (now (path .entry)) (now (key .entry)) time))) (now (room .entry)) ⌝ }
 {
-    let at = put::put_part(b"hull", 0, room);
+    let at = copy::put_part(b"hull", 0, room);
     let at = put_field(path, at, room);
     let at = put_field(key, at, room);
     let at = put_time_field(time, at, room);
-    put::put_part(b"\n", at, room);
+    copy::put_part(b"\n", at, room);
 }
 
 // Puts a tab and the bytes of `part` from place `at` on.
@@ -118,8 +118,8 @@ fn put_field(part: &[u8], at: usize, room: &mut [u8]) -> usize
     ensures { λ r. ⌜ r ≡ at + length (tab ∷ now (part .entry)) ⌝ }
     ensures { λ _. ⌜ now (room .exit) ≡ putAt (tab ∷ now (part .entry)) at (now (room .entry)) ⌝ }
 {
-    let next = put::put_part(b"\t", at, room);
-    put::put_part(part, next, room)
+    let next = copy::put_part(b"\t", at, room);
+    copy::put_part(part, next, room)
 }
 
 // Puts a tab and the header of a time from place `at` on.
@@ -128,7 +128,7 @@ fn put_time_field(time: Time, at: usize, room: &mut [u8]) -> usize
     ensures { λ r. ⌜ r ≡ at + length (tab ∷ headerBytes time) ⌝ }
     ensures { λ _. ⌜ now (room .exit) ≡ putAt (tab ∷ headerBytes time) at (now (room .entry)) ⌝ }
 {
-    let next = put::put_part(b"\t", at, room);
+    let next = copy::put_part(b"\t", at, room);
     put::put_time(time, next, room)
 }
 
@@ -198,11 +198,11 @@ fn put_since(text: &[u8], current: Time, room: &mut [u8])
     requires { ⌜ length (ended (sinceLine (now text) current)) ≤ length (now room) ⌝ }
     ensures { λ _. ⌜ now (room .exit) ≡ ended (sinceLine (now (text .entry)) current) ++ drop (length (ended (sinceLine (now (text .entry)) current))) (now (room .entry)) ⌝ }
 {
-    let at = put::put_part(b"since", 0, room);
+    let at = copy::put_part(b"since", 0, room);
     let at = put_field(text, at, room);
     let at = put_number_field(current.seconds, at, room);
     let at = put_number_field(as_i64(current.offset), at, room);
-    put::put_part(b"\n", at, room);
+    copy::put_part(b"\n", at, room);
 }
 
 // Puts a tab and a number in plain decimal from place `at` on.
@@ -211,7 +211,7 @@ fn put_number_field(z: i64, at: usize, room: &mut [u8]) -> usize
     ensures { λ r. ⌜ r ≡ at + length (tab ∷ signed z) ⌝ }
     ensures { λ _. ⌜ now (room .exit) ≡ putAt (tab ∷ signed z) at (now (room .entry)) ⌝ }
 {
-    let next = put::put_part(b"\t", at, room);
+    let next = copy::put_part(b"\t", at, room);
     put::put_number(z, next, room)
 }
 

@@ -1,10 +1,10 @@
 -- A caller's buffer after a call (RULES 9.3 and 12.1). The buffer is called a room here.
 -- Assumes nothing.
-use Prim.Native.Nat.{ℕ}
+use Prim.Native.Nat.{ℕ, _+_}
 use mathlib.Core.Bool.{Bool, cond, _&&_}
 use mathlib.Core.List.{List, _++_}
 use lib.Dec.{leb}
-use lib.ListN.{length, drop}
+use lib.ListN.{length, take, drop}
 
 -- whether the bytes fit into the room
 abbrev pub fits : List ℕ → List ℕ → Bool
@@ -18,3 +18,7 @@ fitBoth bytes room more other = fits bytes room && fits more other
 -- that refuses leaves the room as it was
 abbrev pub roomAfter : Bool → List ℕ → List ℕ → List ℕ
 roomAfter wrote bytes room = cond wrote (bytes ++ drop (length bytes) room) room
+
+-- the room with these bytes from place `at` on, and all others as they were
+abbrev pub putAt : List ℕ → ℕ → List ℕ → List ℕ
+putAt bytes at room = take at room ++ bytes ++ drop (at + length bytes) room

@@ -2,6 +2,7 @@
 // of bytes; every text has an answer, whatever its length and its bytes. A part of a text is
 // returned as a part of the same slice, never as a copy.
 pub mod bytes;
+pub mod copy;
 pub mod decimal;
 pub mod number;
 pub mod places;

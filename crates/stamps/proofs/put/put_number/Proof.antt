@@ -8,7 +8,7 @@ use lib.ListN.{length}
 use mir.Syntax.{w64}
 use mir.Facts.{toZ-ofZ}
 use Rattle.text.specs.Decimal.{signed}
-use Rattle.stamps.specs.Held.{putAt}
+use Rattle.text.specs.Room.{putAt}
 use Rattle.stamps.proofs.Putting.{putAt-signed}
 use borrow.Author.Needs.{needs}
 use Rattle.stamps.proofs.put.put_number.Statement.{statement}

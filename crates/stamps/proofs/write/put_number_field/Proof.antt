@@ -9,7 +9,7 @@ use mir.Syntax.{w64}
 use mir.Facts.{toZ-ofZ}
 use Rattle.text.specs.Decimal.{signed}
 use Rattle.text.specs.Lines.{tab}
-use Rattle.stamps.specs.Held.{putAt}
+use Rattle.text.specs.Room.{putAt}
 use Rattle.stamps.proofs.Putting.{length-putAt, putAt-behind}
 use borrow.Author.Needs.{needs}
 use Rattle.stamps.proofs.write.put_number_field.Statement.{statement}

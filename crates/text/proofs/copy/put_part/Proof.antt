@@ -1,4 +1,4 @@
--- `stamps::put::put_part` meets its contract. The invariant: the bytes from `at` on are the first i bytes of the part, and all others are
+-- `text::copy::put_part` meets its contract. The invariant: the bytes from `at` on are the first i bytes of the part, and all others are
 -- as they were. The measure is what is left of the part.
 -- Assumes nothing.
 use mathlib.Core.Path.{_≡_, ap, _∙_}
@@ -9,8 +9,8 @@ use native.Mathlib.Numerals.{add-one}
 use lib.ListN.{length, take, drop, set, getD}
 use lib.Seq.{paste, paste-zero, paste-suc, length-paste, take-length}
 use borrow.Author.Needs.{needs}
-use Rattle.stamps.proofs.put.put_part.Statement.{statement}
-use Rattle.stamps.proofs.put.put_part.Tie as tie
+use Rattle.text.proofs.copy.put_part.Statement.{statement}
+use Rattle.text.proofs.copy.put_part.Tie as tie
 
 abbrev Inv-loop : tie.InvT-loop
 Inv-loop part at room₀ i₀ room i = (i ≤ length part) × (room ≡ paste room₀ at part i)

@@ -1,0 +1,20 @@
+// Bytes copied into a room at a place.
+ghost use mathlib.Core.Path.{_≡_};
+ghost use Prim.Native.Nat.{_+_, _≤_};
+ghost use lib.ListN.{length};
+ghost use Rattle.text.specs.Room.{putAt};
+
+// Puts the bytes of `part` from place `at` on, and returns the place past them. All other bytes of the
+// room stay as they were.
+pub fn put_part(part: &[u8], at: usize, room: &mut [u8]) -> usize
+    requires { ⌜ at + length (now part) ≤ length (now room) ⌝ }
+    ensures { λ r. ⌜ r ≡ at + length (now (part .entry)) ⌝ }
+    ensures { λ _. ⌜ now (room .exit) ≡ putAt (now (part .entry)) at (now (room .entry)) ⌝ }
+{
+    let mut i = 0;
+    while i < part.len() {
+        room[at + i] = part[i];
+        i += 1;
+    }
+    at + i
+}
