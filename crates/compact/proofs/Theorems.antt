@@ -6,13 +6,13 @@
 use mathlib.Core.Path.{_≡_, refl, sym, ap, _∙_}
 use mathlib.Core.Bool.{true, false≢true, and-false}
 use mathlib.Core.List.{List, [], _∷_, _++_, append-assoc}
-use Prim.Native.Nat.{ℕ, suc, _+_, _≤_}
+use Prim.Native.Nat.{ℕ, _≤_}
 use native.Mathlib.Omega.{arith}
-use lib.ListN.{length, length-append}
+use lib.ListN.{length}
 use Rattle.text.specs.Lines.{newline, endedLines, left}
 use Rattle.text.specs.declared.number.Integer.{Integer}
 use Rattle.text.specs.declared.number.Integer.the-variants.{Nothing}
-use Rattle.text.proofs.Lists.{by-test, both}
+use Rattle.text.proofs.Lists.{by-test}
 use Rattle.text.proofs.Texts.{Lacking}
 use Rattle.stamps.specs.Lines.{lineOf, isGood}
 use Rattle.stamps.specs.Writing.{ended}
@@ -26,18 +26,17 @@ use Rattle.stamps.specs.declared.book.Checked.the-variants.{Good}
 use Rattle.stamps.proofs.Books.{areGood-append, length-joined, takenBy-le, endedLines-nil}
 use Rattle.stamps.proofs.Listings.{good-book-iff, judged-append, joined-good-iff, lacking-of-good, endedLines-joined, left-joined, not-has-newline-of-good, endedLines-line}
 use Rattle.compact.specs.Compact.{isKept, kept, compacted}
-use Rattle.compact.specs.Theorems.{listedOfKept}
+use Rattle.compact.specs.Theorems.{keptMarks, listedOfKept}
 use Rattle.compact.proofs.LastLines.{lacking-endedLines, endedLines-append}
-use Rattle.compact.proofs.Kept.{same-paths}
+use Rattle.stamps.proofs.Picked.{lacking-picked, areGood-picked, length-picked-le}
+use Rattle.compact.proofs.Kept.{kept-lines-in-order, same-paths}
 use Rattle.compact.proofs.Above.{hull-of-gone}
 use Rattle.compact.proofs.Added.{kept-append, kept-twice, IsNew, kept-new-line}
 
 module _ (bound : ℕ) where
   -- ---- the compacted book
   lacking-kept : (ls : List (List ℕ)) → Lacking newline ls → Lacking newline (kept bound ls)
-  unfolding kept
-  lacking-kept [] h = tt
-  lacking-kept (l ∷ ls) h = by-test (isKept bound l (lineOf bound l) ls) (λ y. rw y (h .0, lacking-kept ls (h .1))) (λ n. rw n (lacking-kept ls (h .1)))
+  lacking-kept ls h = rw kept-lines-in-order (lacking-picked (keptMarks bound ls) ls h)
 
   -- its lines are the lines that are kept, and nothing is left behind them
   pub endedLines-compacted : (book : List ℕ) → endedLines (compacted bound book) ≡ kept bound (endedLines book)
@@ -52,26 +51,21 @@ module _ (bound : ℕ) where
   unfolding compacted
   compacted-twice book = ap (λ (ls : List (List ℕ)). joined (kept bound ls)) (endedLines-compacted book) ∙ ap joined (kept-twice bound (endedLines book))
 
-  length-kept-le : (ls : List (List ℕ)) → length (joined (kept bound ls)) ≤ length (joined ls)
-  unfolding kept joined
-  length-kept-le [] = omega arith
-  length-kept-le (l ∷ ls) =
-      let below = joined (kept bound ls) in
-      let h : length below ≤ length (joined ls) = length-kept-le ls in
-      let e : length (l ++ newline ∷ joined ls) ≡ length l + suc (length (joined ls)) = length-append l (newline ∷ joined ls) in
-      by-test (isKept bound l (lineOf bound l) ls) (λ y. rw y (omega (arith, length-append l (newline ∷ below)))) (λ n. rw n (omega arith))
-
   -- so a room that is as long as the book is always long enough
   pub length-compacted-le : (book : List ℕ) → length (compacted bound book) ≤ length book
   unfolding compacted
-  length-compacted-le book = omega (arith, length-kept-le (endedLines book), length-joined (endedLines book), takenBy-le book)
+  length-compacted-le book =
+      let ls = endedLines book in
+      omega (
+        arith,
+        ap (λ (t : List (List ℕ)). length (joined t)) (kept-lines-in-order bound ls),
+        length-picked-le (keptMarks bound ls) ls,
+        length-joined ls,
+        takenBy-le book,
+      )
 
   areGood-kept : (ls : List (List ℕ)) → areGood (judged bound ls) ≡ true → areGood (judged bound (kept bound ls)) ≡ true
-  unfolding kept judged areGood
-  areGood-kept [] g = refl
-  areGood-kept (l ∷ ls) g =
-      let p = both (isGood (lineOf bound l)) (areGood (judged bound ls)) g in
-      by-test (isKept bound l (lineOf bound l) ls) (λ y. rw (y, p .0) (areGood-kept ls (p .1))) (λ n. rw n (areGood-kept ls (p .1)))
+  areGood-kept ls g = rw kept-lines-in-order (areGood-picked bound (keptMarks bound ls) ls g)
 
   pub compacted-is-a-good-book : (book : List ℕ) → checkOf bound book ≡ Good → checkOf bound (compacted bound book) ≡ Good
   compacted-is-a-good-book book good =

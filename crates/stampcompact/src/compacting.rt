@@ -115,8 +115,13 @@ fn report(name: &[u8], book: &[u8], compacted: &[u8]) {
 }
 
 fn print_size(book: &[u8]) {
-    io::print_decimal(STDERR_FILENO, count_lines(book) as u64);
-    io::write_all(STDERR_FILENO, b" lines, ");
+    let lines = count_lines(book);
+    io::print_decimal(STDERR_FILENO, lines as u64);
+    if lines == 1 {
+        io::write_all(STDERR_FILENO, b" line, ");
+    } else {
+        io::write_all(STDERR_FILENO, b" lines, ");
+    }
     io::print_decimal(STDERR_FILENO, book.len() as u64);
     io::write_all(STDERR_FILENO, b" bytes");
 }

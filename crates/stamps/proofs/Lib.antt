@@ -1,5 +1,5 @@
 -- The laws of books (RULES 13). In order: scans; printed numbers; tails of stamps; stamps, and stamps at the front of a longer text; fields;
--- `hull` lines, `since` lines and all lines as they are read; lines as they are written, part behind part; books; the marks of lines; copies;
+-- `hull` lines, `since` lines and all lines as they are read; lines as they are written, part behind part; books; the marks of lines, and what they pick; copies;
 -- listings; lines read back and written back; examples.
 pub mod Scans
 pub mod Printed
@@ -14,6 +14,7 @@ pub mod Writing
 pub mod Putting
 pub mod Books
 pub mod Marks
+pub mod Picked
 pub mod Copies
 pub mod Listings
 pub mod ReadBack

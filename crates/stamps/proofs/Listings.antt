@@ -14,7 +14,7 @@ use Prim.Native.Nat.{ℕ, zero, suc, _+_, _≤_, _<_}
 use native.Mathlib.Omega.{arith}
 use borrow.Author.Tests.{leb-true, leb-false, le-leb}
 use lib.Dec.{leb}
-use lib.ListN.{length, take, drop, length-append}
+use lib.ListN.{length, take, drop}
 use lib.Seq.{drop-length}
 use Rattle.text.specs.Places.{has}
 use Rattle.text.specs.Lines.{newline, endedLines, takenBy, left}
@@ -38,6 +38,7 @@ use Rattle.stamps.specs.declared.book.Checked.the-variants.{Good, Refuse
 use Rattle.stamps.proofs.Reading.{bad-of-not-good}
 use Rattle.stamps.proofs.Books.{length-joined, takenBy-le, firstBad-good, firstBad-bad, le-firstBad, areGood-append, good-book, book-of-good, checkOf-long}
 use Rattle.stamps.proofs.Marks.{picked-marksOf}
+use Rattle.stamps.proofs.Picked.{length-picked-le}
 
 -- ---- a line is listed exactly if it is a `hull` line whose seconds are at or after the last cut-off above it
 pub orAbove-assoc : (a b c : Integer) → orAbove (orAbove a b) c ≡ orAbove a (orAbove b c)
@@ -253,20 +254,18 @@ module _ (bound : ℕ) where
       let below = areGood-listed (cutOffBelow c x) ls in
       by-test (isListed c x) (λ y. rw (y, good-of-hull x (hull-of-listed bound c x y)) below) (λ n. rw n below)
 
-  length-listed-le : (c : Integer) (ls : List (List ℕ)) → length (joined (listed bound c ls)) ≤ length (joined ls)
-  unfolding listed joined
-  length-listed-le c [] = omega arith
-  length-listed-le c (l ∷ ls) =
-      let x = lineOf bound l in
-      let below = joined (listed bound (cutOffBelow c x) ls) in
-      let h : length below ≤ length (joined ls) = length-listed-le (cutOffBelow c x) ls in
-      let e : length (l ++ newline ∷ joined ls) ≡ length l + suc (length (joined ls)) = length-append l (newline ∷ joined ls) in
-      by-test (isListed c x) (λ y. rw y (omega (arith, length-append l (newline ∷ below)))) (λ n. rw n (omega arith))
-
   -- so a room that is as long as the book is always long enough
   pub length-listing-le : (book : List ℕ) → length (listing bound book) ≤ length book
   unfolding listing
-  length-listing-le book = omega (arith, length-listed-le Nothing (endedLines book), length-joined (endedLines book), takenBy-le book)
+  length-listing-le book =
+      let ls = endedLines book in
+      omega (
+        arith,
+        ap (λ (t : List (List ℕ)). length (joined t)) (listed-lines-in-order bound Nothing ls),
+        length-picked-le (marksOf bound Nothing ls) ls,
+        length-joined ls,
+        takenBy-le book,
+      )
 
   -- its lines are the lines that are listed
   pub endedLines-listing : (book : List ℕ) → endedLines (listing bound book) ≡ listed bound Nothing (endedLines book)
