@@ -1,45 +1,43 @@
-// The paths of the lines that are kept, in buckets. A bucket holds the number of the last line that was
-// entered in it, and each line the number of the one before it in the same bucket: a chain, which goes
-// down, from one number to a smaller one, until 0. Numbers count from 1. Bytes of paths are compared only
-// within a bucket. The proof asks of a bucket only that equal paths have the same one.
+// The paths of the lines that are kept, in buckets. Kept lines are numbered from 1. A bucket has the
+// number of the line that was entered last, and each line has a link to the one that was entered before
+// it in the same bucket, or 0. So a bucket is a chain of falling numbers. Bytes of paths are compared
+// only within a bucket. The proof needs only that equal paths are in the same bucket.
 ghost use mathlib.Core.Path.{_≡_};
 ghost use Prim.Native.Nat.{ℕ, _+_, _≤_, _<_};
 ghost use lib.ListN.{length, getD, set};
 ghost use Rattle.compact.specs.Held.{opensHull, pathAt, bucketOf, mixed, inChain, isOvertaken};
+use stamps::book;
+use stamps::line;
 use text::bytes;
 use text::places as cut;
 
-// How many buckets there are: a power of two, and one for lines without a path.
+// How many buckets there are for paths, and the bucket for lines without a path.
 const BUCKETS: usize = 2048;
 
 const NO_PATH: usize = BUCKETS;
 
 const HEADS: usize = BUCKETS + 1;
 
-// The most lines of a good book: 65,536 / 11, since a good line takes at least 10 bytes and its newline.
-const LINES: usize = 5957;
-
-// Where the path of a `hull` line begins.
-const PATH_START: usize = 5;
-
-// 2 to the power of 32, divided by the golden ratio.
-const GOLDEN: u64 = 2654435761;
-
+// 2 to the power of 32, and this divided by the golden ratio, as an odd number.
 const BITS_32: u64 = 4294967296;
 
-// What turns a number of 32 bits into a bucket: the upper 11 bits.
+const GOLDEN: u64 = 2654435761;
+
+// How many numbers of 32 bits share a bucket: it is given by their upper 11 bits.
 const BUCKET_SIZE: u64 = 2097152;
 
+// Empty buckets.
 pub fn no_heads() -> [u16; HEADS]
     ensures { λ r. ⌜ (2049 ≡ length r) × ((b : ℕ) → getD r b 0 ≡ 0) ⌝ }
 {
     [0; HEADS]
 }
 
-pub fn no_numbers() -> [u16; LINES]
+// A number for each line that a book can have.
+pub fn no_numbers() -> [u16; book::MAX_LINES]
     ensures { λ r. ⌜ 5957 ≡ length r ⌝ }
 {
-    [0; LINES]
+    [0; book::MAX_LINES]
 }
 
 // The path of the good line at the front of `s`. That of a `since` line is empty.
@@ -47,7 +45,7 @@ pub fn path_at(s: &[u8]) -> &[u8]
     ensures { λ r. ⌜ now r ≡ pathAt (now (s .entry)) ⌝ }
 {
     if opens_hull(s) {
-        return cut::before(cut::from(s, PATH_START), b'\t');
+        return cut::before(cut::from(s, line::PATH_START), b'\t');
     }
     cut::up_to(s, 0)
 }

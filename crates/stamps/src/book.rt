@@ -31,8 +31,8 @@ pub const MAX_BOOK: usize = 65536;
 // The fewest bytes that a good line takes: 10 and its newline.
 const LEAST_LINE: usize = 11;
 
-// The most lines of a good book, each of which has a mark: 65,536 / 11.
-const MARKS: usize = MAX_BOOK / LEAST_LINE;
+// The most lines that a good book can have: 65,536 / 11. A listing has a mark for each.
+pub const MAX_LINES: usize = MAX_BOOK / LEAST_LINE;
 
 // The mark of a line that is listed. Any other line has the mark 0.
 const LISTED: u8 = 1;
@@ -108,10 +108,10 @@ pub fn list_with(months: &[u32], book: &[u8], room: &mut [u8]) -> Copied
 }
 
 // A buffer for marks.
-fn no_marks() -> [u8; MARKS]
+fn no_marks() -> [u8; MAX_LINES]
     ensures { λ r. ⌜ 5957 ≡ length r ⌝ }
 {
-    [0; MARKS]
+    [0; MAX_LINES]
 }
 
 // What a pass over a book finds: the number of the first bad line, or 0 if there is none; and the

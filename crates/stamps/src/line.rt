@@ -26,7 +26,7 @@ use time::Now;
 use time::Time;
 
 // Where the path of a `hull` line and the text of a `since` line begin.
-const PATH_START: usize = 5;
+pub const PATH_START: usize = 5;
 
 const TEXT_START: usize = 6;
 
