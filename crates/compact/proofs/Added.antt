@@ -12,6 +12,7 @@ use Rattle.stamps.specs.declared.line.Line.{Line}
 use Rattle.stamps.specs.declared.line.Line.the-variants.{Hull, Since, Bad}
 use Rattle.stamps.proofs.Printed.{same-self}
 use Rattle.compact.specs.Compact.{hasPath, holdsPath, isKept, kept}
+use Rattle.compact.specs.Theorems.{IsNew}
 use Rattle.compact.proofs.Kept.{kept-taken, holdsPath-append, same-paths}
 
 module _ (bound : ℕ) where
@@ -45,15 +46,11 @@ module _ (bound : ℕ) where
   pub kept-twice : (ls : List (List ℕ)) → kept bound (kept bound ls) ≡ kept bound ls
   kept-twice ls = ap (kept bound) (sym (append-nil (kept bound ls))) ∙ kept-append ls [] ∙ ap (kept bound) (append-nil ls)
 
-  -- a line whose path is not there, and any line of `since`
-  abbrev pub IsNew : List ℕ → List (List ℕ) → Type 0
-  IsNew l ls = (p : List ℕ) → hasPath p l (lineOf bound l) ≡ true → holdsPath bound p ls ≡ false
-
   or-false : (b : Bool) → (b || false) ≡ b
   or-false true = refl
   or-false false = refl
 
-  isKept-new : (l m : List ℕ) (x : Line) (ls : List (List ℕ)) → lineOf bound l ≡ x → IsNew m (l ∷ ls) → isKept bound l x (ls ++ m ∷ []) ≡ isKept bound l x ls
+  isKept-new : (l m : List ℕ) (x : Line) (ls : List (List ℕ)) → lineOf bound l ≡ x → IsNew bound m (l ∷ ls) → isKept bound l x (ls ++ m ∷ []) ≡ isKept bound l x ls
   unfolding holdsPath
   isKept-new l m (Hull h) ls e new =
       let p = part l (h .path) in
@@ -65,7 +62,7 @@ module _ (bound : ℕ) where
   isKept-new l m (Since x) ls e new = refl
   isKept-new l m Bad ls e new = refl
 
-  new-of-cons : (l m : List ℕ) (ls : List (List ℕ)) → IsNew m (l ∷ ls) → IsNew m ls
+  new-of-cons : (l m : List ℕ) (ls : List (List ℕ)) → IsNew bound m (l ∷ ls) → IsNew bound m ls
   unfolding holdsPath
   new-of-cons l m ls new p e = by-test (hasPath p l (lineOf bound l)) (λ y. absurd (false≢true (sym (rw y at (new p e))))) (λ n. rw n at (new p e))
 
@@ -75,7 +72,7 @@ module _ (bound : ℕ) where
   isKept-last l (Since x) = refl
   isKept-last l Bad = refl
 
-  pub kept-new-line : (ls : List (List ℕ)) (m : List ℕ) → IsNew m ls → kept bound (ls ++ m ∷ []) ≡ kept bound ls ++ m ∷ []
+  pub kept-new-line : (ls : List (List ℕ)) (m : List ℕ) → IsNew bound m ls → kept bound (ls ++ m ∷ []) ≡ kept bound ls ++ m ∷ []
   unfolding kept
   kept-new-line [] m new = kept-taken bound m [] (isKept-last m (lineOf bound m))
   kept-new-line (l ∷ ls) m new =

@@ -26,12 +26,12 @@ use Rattle.stamps.specs.declared.book.Checked.the-variants.{Good}
 use Rattle.stamps.proofs.Books.{areGood-append, length-joined, takenBy-le, endedLines-nil}
 use Rattle.stamps.proofs.Listings.{good-book-iff, judged-append, joined-good-iff, lacking-of-good, endedLines-joined, left-joined, not-has-newline-of-good, endedLines-line}
 use Rattle.compact.specs.Compact.{isKept, kept, compacted}
-use Rattle.compact.specs.Theorems.{keptMarks, listedOfKept}
+use Rattle.compact.specs.Theorems.{keptMarks, IsNew, listedOfKept}
 use Rattle.compact.proofs.LastLines.{lacking-endedLines, endedLines-append}
 use Rattle.stamps.proofs.Picked.{lacking-picked, areGood-picked, length-picked-le}
 use Rattle.compact.proofs.Kept.{kept-lines-in-order, same-paths}
 use Rattle.compact.proofs.Above.{hull-of-gone}
-use Rattle.compact.proofs.Added.{kept-append, kept-twice, IsNew, kept-new-line}
+use Rattle.compact.proofs.Added.{kept-append, kept-twice, kept-new-line}
 
 module _ (bound : ℕ) where
   -- ---- the compacted book

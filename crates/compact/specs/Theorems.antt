@@ -1,7 +1,8 @@
 -- What the theorems about compacting speak of (docs/PROMISES.md). No contract cites these.
 -- Assumes nothing.
 use Prim.Native.Nat.{ℕ, suc}
-use mathlib.Core.Bool.{Bool, false, cond, _&&_, _||_}
+use mathlib.Core.Path.{_≡_}
+use mathlib.Core.Bool.{Bool, true, false, cond, _&&_, _||_}
 use mathlib.Core.List.{List, [], _∷_, _++_}
 use Rattle.text.specs.Bytes.{same}
 use Rattle.text.specs.Places.{part}
@@ -12,7 +13,7 @@ use Rattle.stamps.specs.Theorems.{isSinceLine}
 use Rattle.stamps.specs.Held.{markOf}
 use Rattle.stamps.specs.declared.line.Line.{Line}
 use Rattle.stamps.specs.declared.line.Line.the-variants.{Hull, Since, Bad}
-use Rattle.compact.specs.Compact.{isKept}
+use Rattle.compact.specs.Compact.{hasPath, holdsPath, isKept}
 
 -- the mark of each line: 1 if it is kept, 0 if it goes
 unfoldable pub keptMarks : ℕ → List (List ℕ) → List ℕ
@@ -44,6 +45,10 @@ timesIn p (q ∷ qs) = let n = timesIn p qs in cond (same q p) (suc n) n
 unfoldable pub different : List (List ℕ) → List (List ℕ)
 different [] = []
 different (p ∷ ps) = let below = different ps in cond (isIn p ps) below (p ∷ below)
+
+-- ---- a new line: its path is not in these lines. A line of `since` always is one
+abbrev pub IsNew : ℕ → List ℕ → List (List ℕ) → Type 0
+IsNew bound l ls = (p : List ℕ) → hasPath p l (lineOf bound l) ≡ true → holdsPath bound p ls ≡ false
 
 -- ---- the lines above a line
 -- the lines of `above` that are kept if `below` follows them
