@@ -3,6 +3,7 @@
 -- dates by rule 2.
 -- Assumes nothing.
 use mathlib.Core.Path.{refl}
+use mathlib.Core.Bool.{true}
 use mathlib.Core.List.{List, [], _∷_, _++_}
 use Prim.Native.Char.{code}
 use lib.IntN.{pos, negsuc}
@@ -12,7 +13,7 @@ use Rattle.text.specs.Words.{words, pieces, full}
 use Rattle.text.specs.Number.{readFrom, digitsOf, unsignedOf, signedOf, fit}
 use Rattle.text.specs.Quote.{bytes}
 use Rattle.text.specs.Decimal.{digitsUpTo, decimal, signed, signedBefore}
-use Rattle.time.specs.Answers.{timeAt}
+use Rattle.time.specs.Answers.{timeAt, timeMarked}
 use Rattle.time.specs.Header.{headerBytes, headerSign, signByte, wholeMinutes}
 use Rattle.time.specs.Rows.{Row, reads, AllRight}
 use Rattle.time.specs.declared.Answer.the-variants.{Time, Refused}
@@ -20,7 +21,7 @@ use Rattle.time.specs.declared.Refusal.the-variants.{NotAscii, Form, TooLarge}
 use Rattle.header.specs.Offset.{fiveOrSeven, fieldOf, lastField, fieldsOf, offsetOf}
 use Rattle.header.specs.Header.{secondsOf, headerOffset, headerOfWords, headerOf}
 use Rattle.header.specs.Raw.{rule1, rule2, allows, rawOfWords, rawOf}
-use Rattle.header.specs.Examples.{five, marked}
+use Rattle.header.specs.Examples.{five, fiveMarked, marked}
 
 -- ---- the examples marked P
 pub marked-examples : AllRight marked
@@ -81,6 +82,32 @@ other-examples : AllRight others
 unfolding isSpace isDigit isSign ascii run firstPlace has words pieces full readFrom digitsOf unsignedOf signedOf fit fiveOrSeven fieldOf lastField fieldsOf offsetOf secondsOf headerOffset headerOfWords headerOf allows rawOfWords rawOf
 other-examples =
     (refl, (refl, (refl, (refl, (refl, (refl, (refl, (refl, (refl, (refl, (refl, (refl, (refl, (refl, (refl, (refl, (refl, (refl, (refl, (refl, (refl, (refl, (refl, (refl, (refl, (refl, (refl, tt)))))))))))))))))))))))))))
+
+-- ---- the mark (RULES 5.10 and 11.18)
+abbrev minus-zero : List Row
+minus-zero =
+    reads (headerOf (bytes "5 +0000")) (five (pos 0))
+    -- with a third word the second is not read as an offset
+    ∷ reads (headerOf (bytes "5 -0000 x")) (five (pos 0))
+    ∷ reads (headerOf (bytes "12abc -0000")) (Time (timeMarked (pos 12) (pos 0) true))
+    -- the sum decides, not the digits: 0 hours, -1 minute, 60 seconds
+    ∷ reads (headerOf (bytes "5 -00-160")) fiveMarked
+    ∷ reads (headerOf (bytes "5 -000000")) fiveMarked
+    ∷ reads (headerOf (bytes "5 -0001")) (five (negsuc 59))
+    -- no offset: the second byte is no digit, or there are 4 bytes
+    ∷ reads (headerOf (bytes "5 -+0+0")) (five (pos 0))
+    ∷ reads (headerOf (bytes "5 -000")) (five (pos 0))
+    -- by either rule of raw dates
+    ∷ reads (rawOf rule1 (bytes "5 -0000")) fiveMarked
+    ∷ reads (rawOf rule2 (bytes "5 -0000")) fiveMarked
+    ∷ reads (rawOf rule1 (bytes "5 -+0+0")) fiveMarked
+    ∷ reads (rawOf rule1 (bytes "5 +0000")) (five (pos 0))
+    ∷ reads (rawOf rule1 (bytes "5 -0000 x")) (Refused Form)
+    ∷ []
+
+minus-zero-examples : AllRight minus-zero
+unfolding isSpace isDigit isSign ascii run firstPlace has words pieces full readFrom digitsOf unsignedOf signedOf fit fiveOrSeven fieldOf lastField fieldsOf offsetOf secondsOf headerOffset headerOfWords headerOf allows rawOfWords rawOf
+minus-zero-examples = (refl, (refl, (refl, (refl, (refl, (refl, (refl, (refl, (refl, (refl, (refl, (refl, (refl, tt)))))))))))))
 
 -- ---- raw dates by rule 2
 abbrev by-rule-2 : List Row

@@ -10,6 +10,7 @@ pub mod Readers
 pub mod Usual
 pub mod Shortcuts
 pub mod ReadBack
+pub mod OwnForm
 pub mod Reach
 pub mod Beyond
 pub mod RawDates

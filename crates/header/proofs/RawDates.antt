@@ -15,11 +15,11 @@ use Rattle.text.specs.Words.{words}
 use Rattle.text.specs.declared.number.FittedInteger.{FittedInteger}
 use Rattle.text.specs.declared.number.FittedInteger.the-variants.{Is, TooLarge, Nothing as NoInteger}
 use Rattle.text.proofs.Lists.{by-test}
-use Rattle.time.specs.Answers.{timeAt, answerNumber}
+use Rattle.time.specs.Answers.{timeMarked, answerNumber}
 use Rattle.time.specs.declared.Time.{Time}
 use Rattle.time.specs.declared.Answer.the-variants.{Time as At, Refused}
 use Rattle.time.specs.declared.Refusal.the-variants.{NotAscii, Form, TooLarge as NumberTooLarge}
-use Rattle.header.specs.Offset.{onlyWord, secondWord, fieldsOf, offsetOf}
+use Rattle.header.specs.Offset.{onlyWord, secondWord, fieldsOf, offsetOf, hasMark, readTime}
 use Rattle.header.specs.Header.{number64}
 use Rattle.header.specs.Raw.{Limits, allows, rawTime, rawOfWords, rawOf}
 use Rattle.header.specs.Held.{firstWord}
@@ -35,7 +35,8 @@ use Rattle.header.proofs.Beyond.{number64-too-large}
 -- ---- what is accepted
 pub raw-accepts : (l : Limits) (s : List ℕ) (t : Time) → RawDate l s t → rawOf l s ≡ At t
 unfolding rawOf rawOfWords
-raw-accepts l s t d = rw (d .ascii-is, d .words-are, d .number-is, d .fields-are, d .allowed, d .offset-is)
+raw-accepts l s t d =
+    rw (d .ascii-is, d .words-are, d .number-is, d .fields-are, d .allowed) (λ i. At (timeMarked (t .seconds) (d .offset-is i) (d .mark-is i)))
 
 -- a number and fields that are accepted
 record Accepted (l : Limits) (i : FittedInteger) (p : Parsed) (t : Time) : Type 0 where
@@ -44,19 +45,21 @@ record Accepted (l : Limits) (i : FittedInteger) (p : Parsed) (t : Time) : Type 
   parsed : p ≡ Offset fields
   allowed : allows l fields ≡ true
   offset-is : offsetOf fields ≡ t .offset
+  mark-is : hasMark fields ≡ t .mark
 
 accepted : (l : Limits) (i : FittedInteger) (p : Parsed) (t : Time) → rawTime l i p ≡ At t → Accepted l i p t
 accepted l (Is z) (Offset f) t e =
     by-test (allows l f)
     (λ a.
-    let k : At (timeAt z (offsetOf f)) ≡ At t = rw a at e in
-    let same : timeAt z (offsetOf f) ≡ t = cc in
+    let k : At (readTime z f) ≡ At t = rw a at e in
+    let same : readTime z f ≡ t = cc in
     record {
       number = ap (λ (u : Time). Is (u .seconds)) same;
       fields = f;
       parsed = refl;
       allowed = a;
       offset-is = ap (λ (u : Time). u .offset) same;
+      mark-is = ap (λ (u : Time). u .mark) same;
     })
     (λ a. let k = rw a at e in let q : _≡_ {A = ℕ} 0 1 = cc in absurd (omega arith))
 accepted l (Is z) NoOffset t e = let q : _≡_ {A = ℕ} 0 1 = cc in absurd (omega arith)
@@ -79,6 +82,7 @@ two-words l s t (w ∷ v ∷ []) a e r =
       fields-are = r .parsed;
       allowed = r .allowed;
       offset-is = r .offset-is;
+      mark-is = r .mark-is;
     }
 two-words l s t (w ∷ v ∷ u ∷ ws) a e r = absurd (fieldsOf-some [] (r .fields) (r .parsed) (fieldsOf-nil Byte))
 
@@ -92,7 +96,7 @@ raw-accepts-only l s t e =
 -- ---- the answer to an ASCII text is a time, 2 or 11
 module _ {A : Type 0} (l : Limits) where
   rawTime-cases : (i : FittedInteger) (p : Parsed) → ((t : Time) → rawTime l i p ≡ At t → A) → (rawTime l i p ≡ Refused Form → A) → (rawTime l i p ≡ Refused NumberTooLarge → A) → A
-  rawTime-cases (Is z) (Offset f) time form large = by-test (allows l f) (λ a. time (timeAt z (offsetOf f)) (rw a)) (λ a. form (rw a))
+  rawTime-cases (Is z) (Offset f) time form large = by-test (allows l f) (λ a. time (readTime z f) (rw a)) (λ a. form (rw a))
   rawTime-cases (Is z) NoOffset time form large = form refl
   rawTime-cases TooLarge p time form large = large refl
   rawTime-cases NoInteger p time form large = form refl
@@ -150,4 +154,5 @@ raw-within l m w s t e =
       fields-are = d .fields-are;
       allowed = w (d .fields) (d .allowed);
       offset-is = d .offset-is;
+      mark-is = d .mark-is;
     })

@@ -9,12 +9,13 @@ use mathlib.Core.List.{List, [], _∷_}
 use lib.Dec.{eqb}
 use lib.IntN.{ℤ, pos, negℤ, _+ℤ_, _*ℤ_}
 use lib.ListN.{length, take, drop, getD}
+use Rattle.ints.specs.Equal.{eqZ}
 use Rattle.text.specs.Bytes.{isSpace, isSign}
 use Rattle.text.specs.Words.{words}
 use Rattle.text.specs.Number.{signedOf, unsignedOf, fit, plus}
 use Rattle.text.specs.declared.number.Integer.{Integer}
 use Rattle.text.specs.declared.number.Integer.the-variants.{Is, Nothing as NoInteger}
-use Rattle.time.specs.Answers.{timeAt}
+use Rattle.time.specs.Answers.{timeMarked}
 use Rattle.time.specs.declared.Time.{Time}
 use Rattle.header.specs.declared.offset.Field.{Field}
 use Rattle.header.specs.declared.offset.Field.the-variants.{Signed, Byte}
@@ -67,6 +68,10 @@ sumOf f = f .hours *ℤ pos 3600 +ℤ f .minutes *ℤ pos 60 +ℤ f .seconds
 unfoldable pub offsetOf : Fields → ℤ
 offsetOf f = cond (f .minus) (negℤ (sumOf f)) (sumOf f)
 
+-- RULES 5.10: the mark is set exactly if the offset is 0 behind a `-`
+abbrev pub hasMark : Fields → Bool
+hasMark f = f .minus && eqZ (offsetOf f) (pos 0)
+
 -- the time of these seconds and fields
 abbrev pub readTime : ℤ → Fields → Time
-readTime s f = timeAt s (offsetOf f)
+readTime s f = timeMarked s (offsetOf f) (hasMark f)

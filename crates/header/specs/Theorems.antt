@@ -1,16 +1,17 @@
 -- What the theorems about headers and raw dates speak of (docs/PROMISES.md): the seconds that 64 bits hold, and the texts whose
--- number is too large for them; the offsets that a header can give, and a header for each of them; what a raw date is, within any
--- limits; limits within others; the texts on which the raw and the header reader agree. No contract cites these.
+-- number is too large for them; the offsets that a header can give, and a header for each of them; what is read back from the header
+-- of a time; headers of the commit's own form; what a raw date is, within any limits; limits within others; the texts on which the raw
+-- and the header reader agree. No contract cites these.
 -- Assumes nothing.
-use Prim.Native.Nat.{ℕ, _-_, _*_, _/_, _^_, min}
+use Prim.Native.Nat.{ℕ, _-_, _*_, _/_, _^_, _<_, min}
 use Prim.Native.Char.{code}
 use mathlib.Core.Path.{_≡_}
-use mathlib.Core.Bool.{true, false}
+use mathlib.Core.Bool.{Bool, true, false, cond, _||_}
 use mathlib.Core.List.{List, [], _∷_}
 use mathlib.Core.Logic.{_⊎_}
 use lib.IntN.{ℤ, pos, negsuc, natAbs}
 use lib.ListN.{getD}
-use Rattle.ints.specs.Range.{In}
+use Rattle.ints.specs.Range.{In, isIn}
 use Rattle.text.specs.Bytes.{isSpace, isDigit, ascii}
 use Rattle.text.specs.Places.{has, leading}
 use Rattle.text.specs.Words.{words}
@@ -18,9 +19,10 @@ use Rattle.text.specs.Number.{signedOf}
 use Rattle.text.specs.Decimal.{signedBefore, twoBefore}
 use Rattle.text.specs.declared.number.Integer.the-variants.{Is as IsValue}
 use Rattle.text.specs.declared.number.FittedInteger.the-variants.{Is}
-use Rattle.time.specs.Header.{signByte, space}
+use Rattle.time.specs.Answers.{timeAt, timeMarked}
+use Rattle.time.specs.Header.{signByte, isMinusZero, space, cutToMinutes}
 use Rattle.time.specs.declared.Time.{Time}
-use Rattle.header.specs.Offset.{secondWord, fieldsOf, offsetOf}
+use Rattle.header.specs.Offset.{secondWord, fieldsOf, offsetOf, hasMark}
 use Rattle.header.specs.Header.{number64}
 use Rattle.header.specs.Raw.{Limits, allows}
 use Rattle.header.specs.declared.offset.Field.the-variants.{Byte}
@@ -76,6 +78,22 @@ sevenBytes o = signByte o ∷ twoBefore (hoursIn (natAbs o)) (twoBefore (minutes
 abbrev pub headerWith : ℤ → ℤ → List ℕ
 headerWith z o = signedBefore z (space ∷ sevenBytes o)
 
+-- the time that the header of a time is read as: the offset is cut toward zero to whole minutes. The mark is set for offset 0 so marked
+-- and for offsets -59 to -1, which are written `-0000` too
+abbrev pub readBack : Time → Time
+readBack t = timeMarked (t .seconds) (cutToMinutes (t .offset)) (isMinusZero t || isIn (negsuc 58) (negsuc 0) (t .offset))
+
+-- a header of the commit's own form: `<decimal seconds> <sign>HHMM`, with minutes below 60
+pub record OwnForm (s : List ℕ) : Type 0 where
+  pub seconds : ℤ
+  pub seconds-in : Seconds64 seconds
+  pub minus : Bool
+  pub hours : ℕ
+  pub hours-lt : hours < 100
+  pub minutes : ℕ
+  pub minutes-lt : minutes < 60
+  pub bytes-are : s ≡ signedBefore seconds (space ∷ cond minus (code "-") (code "+") ∷ twoBefore hours (twoBefore minutes []))
+
 -- s is a raw date of the time t: ASCII, and two words, a 64-bit number and an offset whose unsigned fields the limits allow
 pub record RawDate (l : Limits) (s : List ℕ) (t : Time) : Type 0 where
   pub ascii-is : ascii s ≡ true
@@ -87,11 +105,12 @@ pub record RawDate (l : Limits) (s : List ℕ) (t : Time) : Type 0 where
   pub fields-are : fieldsOf Byte second ≡ Offset fields
   pub allowed : allows l fields ≡ true
   pub offset-is : offsetOf fields ≡ t .offset
+  pub mark-is : hasMark fields ≡ t .mark
 
 -- m allows all that l allows
 abbrev pub Within : Limits → Limits → Type 0
 Within l m = (f : Fields) → allows l f ≡ true → allows m f ≡ true
 
--- where raw accepts s as t, the two readers agree if the byte after the offset's sign is a digit, or the offset is 0
+-- where raw accepts s as t, the two readers agree if the byte after the offset's sign is a digit, or the offset is 0 without the mark
 abbrev pub Alike : List ℕ → Time → Type 0
-Alike s t = (isDigit (getD (secondWord s) 1 0) ≡ true) ⊎ (t .offset ≡ pos 0)
+Alike s t = (isDigit (getD (secondWord s) 1 0) ≡ true) ⊎ (t ≡ timeAt (t .seconds) (pos 0))

@@ -158,12 +158,14 @@ fn as_integer(n: Number) -> Integer
     }
 }
 
-// The time of these seconds and fields. Both readers make their times here.
+// The time of these seconds and fields. Both readers make their times here. It has the mark if the
+// offset is 0 behind a `-`.
 pub fn read_time(z: i64, f: Fields) -> Time
     requires { ⌜ Small f ⌝ }
     ensures { λ r. ⌜ r ≡ readTime z f ⌝ }
 {
-    Time::new(z, seconds_of(f))
+    let offset = seconds_of(f);
+    Time::with_mark(z, offset, f.minus & (offset == 0))
 }
 
 // The sign belongs to the whole sum, not to the hours alone (RULES 5.5).

@@ -11,11 +11,11 @@ use mir.Val.{SFits, toZ, ofZ}
 use mir.ValLaws.{toZ-ofZ}
 use Rattle.ints.specs.Equal.{eqZ}
 
-eqZ-refl : (z : ℤ) → eqZ z z ≡ true
+pub eqZ-refl : (z : ℤ) → eqZ z z ≡ true
 eqZ-refl (pos n) = eq-eqb n n refl
 eqZ-refl (negsuc n) = eq-eqb n n refl
 
-eqZ-true : (a b : ℤ) → eqZ a b ≡ true → a ≡ b
+pub eqZ-true : (a b : ℤ) → eqZ a b ≡ true → a ≡ b
 eqZ-true (pos a) (pos b) e = ap pos (eqb-true a b e)
 eqZ-true (pos a) (negsuc b) e = absurd (false≢true e)
 eqZ-true (negsuc a) (pos b) e = absurd (false≢true e)

@@ -10,7 +10,7 @@ use Rattle.text.specs.Decimal.{digitsUpTo, decimal, signed, signedBefore}
 use Rattle.text.specs.Quote.{bytes}
 use Rattle.calendar.specs.Calendar.{leap, lengths, monthLength, yearLength, yearStart, total, firstDay, spanOf, yearOf, monthOf}
 use Rattle.calendar.specs.Dates.{dateOf}
-use Rattle.time.specs.Answers.{timeAt}
+use Rattle.time.specs.Answers.{timeAt, timeMarked}
 use Rattle.time.specs.Clock.{clockOf}
 use Rattle.time.specs.Range.{secondsInRange, offsetInRange}
 use Rattle.time.specs.Header.{signByte, headerSign, wholeMinutes, headerBytes, sizeOf, headerWritten, cutToMinutes}
@@ -36,13 +36,17 @@ headers =
     writes (headerBytes (timeAt (pos 1745582210) (pos 7200))) (bytes "1745582210 +0200") ∷
     -- RULES 11.2, "359999 is written `+9959`"
     writes (headerBytes (timeAt (pos 5) (pos 359999))) (bytes "5 +9959") ∷
+    -- "`-` for offset 0 with the mark; beside any other offset the mark is ignored"
+    writes (headerBytes (timeMarked (pos 5) (pos 0) true)) (bytes "5 -0000") ∷
+    writes (headerBytes (timeMarked (pos 5) (pos 30) true)) (bytes "5 +0000") ∷
+    writes (headerBytes (timeMarked (pos 5) (pos 3600) true)) (bytes "5 +0100") ∷
     -- Git's published writer tests, t0006
     writes (headerBytes (timeAt (pos 1466000000) (pos 7200))) (bytes "1466000000 +0200") ∷
     writes (headerBytes (timeAt (pos 1466000000) (negsuc 7199))) (bytes "1466000000 -0200") ∷ []
 
 headers-right : AllRight headers
 unfolding headerBytes signedBefore signed decimal digitsUpTo headerSign signByte wholeMinutes
-headers-right = (refl, (refl, (refl, (refl, tt))))
+headers-right = (refl, (refl, (refl, (refl, (refl, (refl, (refl, tt)))))))
 
 -- RULES 11.2, "360000, which the header writer refuses by 7"
 too-wide : headerWritten (timeAt (pos 5) (pos 360000)) (replicate 26 0) ≡ Refused Offset
@@ -74,13 +78,15 @@ lines =
     writes (isoBytes (timeAt (pos 0) (pos 90))) (bytes "1970-01-01T00:01:00+00:01") ∷
     -- "with `+` where it is zero"
     writes (isoBytes (timeAt (pos 0) (negsuc 29))) (bytes "1970-01-01T00:00:00+00:00") ∷
+    -- "the ISO writer ignores the mark"
+    writes (isoBytes (timeMarked (pos 0) (pos 0) true)) (bytes "1970-01-01T00:00:00+00:00") ∷
     -- Git's published writer tests, t0006, but for offset 0, where Git prints `Z`
     writes (isoBytes (timeAt (pos 1466000000) (pos 7200))) (bytes "2016-06-15T16:13:20+02:00") ∷
     writes (isoBytes (timeAt (pos 1466000000) (negsuc 7199))) (bytes "2016-06-15T12:13:20-02:00") ∷ []
 
 lines-right : AllRight lines
 unfolding isoBytes shown cutToMinutes lineBytes clockOf signByte wholeMinutes dateOf monthOf yearOf spanOf monthLength yearLength firstDay yearStart total lengths leap
-lines-right = (refl, (refl, (refl, (refl, (refl, (refl, tt))))))
+lines-right = (refl, (refl, (refl, (refl, (refl, (refl, (refl, tt)))))))
 
 -- "Writers test in the order 7, 6, 8": the largest seconds at an offset of a day, with no room
 seven-first : isoWritten (timeAt (pos (2 ^ 63 - 1)) (pos 86400)) [] ≡ Refused Offset

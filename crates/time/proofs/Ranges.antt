@@ -1,5 +1,5 @@
 -- The range, in signed numbers and in numbers from 0. In order: seconds from 0 are in range exactly between two numbers; an instant as
--- an answer; the move to numbers from 0; a time in range moved so and back is itself; its local clock.
+-- an answer; the move to numbers from 0; a time in range moved so and back is itself, but for its mark; its local clock.
 -- Assumes nothing.
 use mathlib.Core.Path.{_≡_, sym, ap, _∙_}
 use mathlib.Core.Bool.{Bool, true, false, _&&_}
@@ -13,6 +13,7 @@ use Rattle.ints.specs.Range.{In}
 use Rattle.ints.proofs.Parts.{add-parts, up-neg, dn-neg, parts-eq, eq-parts, le-parts, parts-le, natAbs-add-sub}
 use Rattle.ints.proofs.Machine.{leZ-sub-sub, In-of-isIn}
 use Rattle.text.proofs.Lists.{both}
+use Rattle.time.specs.Answers.{unmarked}
 use Rattle.time.specs.Clock.{localOf}
 use Rattle.time.specs.Range.{leastSeconds, mostSeconds, secondsInRange, leastOffset, mostOffset, offsetInRange, timeInRange, since1970, timeOf, instantOf, movedOf, answerAt, InRange}
 use Rattle.time.specs.declared.Time.{Time}
@@ -101,8 +102,8 @@ module _ (t : Time) {p q : Bool} (e : p ≡ secondsInRange (t .seconds)) (f : q 
   unfolding movedOf timeInRange
   movedOf-out h = rw (← e, ← f, h)
 
--- ---- a time in range, as numbers from 0 and back
-pub timeOf-instantOf : (t : Time) → timeInRange t ≡ true → timeOf (instantOf t) ≡ t
+-- ---- a time in range, as numbers from 0 and back: its mark is lost
+pub timeOf-instantOf : (t : Time) → timeInRange t ≡ true → timeOf (instantOf t) ≡ unmarked t
 unfolding timeInRange secondsInRange offsetInRange
 timeOf-instantOf t e =
     let p = both (secondsInRange (t .seconds)) (offsetInRange (t .offset)) e in
@@ -110,10 +111,11 @@ timeOf-instantOf t e =
     let o = In-of-isIn leastOffset mostOffset (t .offset) (p .1) in
     let a : pos 0 ≤ℤ (t .seconds +ℤ pos 377736739200) = parts-le _ _ (omega (arith, le-parts (s .low), add-parts (t .seconds) (pos 377736739200))) in
     let b : pos 0 ≤ℤ (t .offset +ℤ pos 93600) = parts-le _ _ (omega (arith, le-parts (o .low), add-parts (t .offset) (pos 93600))) in
-    λ i. record { seconds = natAbs-add-sub (t .seconds) 377736739200 a i; offset = natAbs-add-sub (t .offset) 93600 b i }
+    λ i. record { seconds = natAbs-add-sub (t .seconds) 377736739200 a i; offset = natAbs-add-sub (t .offset) 93600 b i; mark = false }
 
 -- the seconds that its local clock shows, as a signed number
 pub localOf-instantOf : (t : Time) → timeInRange t ≡ true → pos (localOf (instantOf t)) ≡ t .seconds +ℤ t .offset +ℤ pos 377736739200
+unfolding timeInRange
 localOf-instantOf t e =
     let i : Instant = instantOf t in
     let b = timeOf-instantOf t e in

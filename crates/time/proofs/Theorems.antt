@@ -1,11 +1,11 @@
 -- What a caller of the writers may rely on, proved of their definitions. In order: the length of a header that is written is `size` and
 -- that of its bytes; `size` is at most 26, which `Time::MIN` takes; a header is written wherever it fits, so always to a buffer of
--- 26 bytes; the front of the room then holds its bytes; `Time::MIN` and `Time::MAX` are the smallest and the largest time that a header
+-- 26 bytes; the front of the room then holds its bytes; the mark changes the sign of offset 0 and nothing else; `Time::MIN` and `Time::MAX` are the smallest and the largest time that a header
 -- can carry; an ISO line is 25 bytes of one shape, and the front of the room holds them once it is written; its offset is never `-00:00`; the
 -- line of the time that it shows is the same line.
 -- Assumes nothing.
 use mathlib.Core.Path.{_≡_, refl, sym, ap, _∙_}
-use mathlib.Core.Bool.{true}
+use mathlib.Core.Bool.{true, false, and-false}
 use mathlib.Core.List.{List}
 use Prim.Native.Nat.{ℕ, _+_, _-_, _/_, _%_, _^_, _≤_, _<_}
 use native.Mathlib.Omega.{arith}
@@ -18,18 +18,19 @@ use lib.Signed.{_≤ℤ_}
 use mir.Syntax.{w64}
 use mir.Val.{SFits}
 use Rattle.ints.proofs.Machine.{param, natAbs-le-of-SFits, In-of-natAbs}
+use Rattle.ints.specs.Equal.{eqZ}
 use Rattle.calendar.proofs.Dates.{IsDate-of-dateOf, IsDate-day-lt}
 use Rattle.calendar.specs.Dates.{dateOf}
 use Rattle.text.proofs.Signed.{length-signed-le}
 use Rattle.text.proofs.Lists.{by-test}
 use Rattle.text.proofs.Digits.{tens, ones}
 use Rattle.text.specs.Bytes.{isSign}
-use Rattle.text.specs.Decimal.{digitsUpTo, decimal, signed}
+use Rattle.text.specs.Decimal.{digitsUpTo, decimal, signed, signedBefore}
 use Rattle.text.specs.Quote.{bytes}
 use Rattle.text.specs.Room.{roomAfter}
-use Rattle.time.specs.Answers.{timeAt, isWritten}
+use Rattle.time.specs.Answers.{timeAt, timeMarked, unmarked, isWritten}
 use Rattle.time.specs.Clock.{clockOf, localOf}
-use Rattle.time.specs.Header.{sizeOf, headerBytes, headerWritten, signByte, wholeMinutes, smallestTime, largestTime, cutToMinutes}
+use Rattle.time.specs.Header.{sizeOf, headerBytes, headerSign, headerWritten, signByte, wholeMinutes, smallestTime, largestTime, cutToMinutes}
 use Rattle.time.specs.Range.{instantOf}
 use Rattle.time.specs.Iso.{lineClock, clockYear, lineBytes, shown, isoBytes, isoWritten}
 use Rattle.time.specs.Theorems.{HasHeader, isLike}
@@ -86,6 +87,26 @@ take-of-written w n b room e l = rw (e, l) (take-append-seam b (drop (length b) 
 pub header-in-room : (t : Time) (room : List ℕ) (n : ℕ) → headerWritten t room ≡ Length n
     → take n (roomAfter (isWritten (headerWritten t room)) (headerBytes t) room) ≡ headerBytes t
 header-in-room t room n e = take-of-written (headerWritten t room) n (headerBytes t) room e (size-is-the-bytes-written t room n e .1)
+
+-- ---- the mark
+-- offset 0 with the mark is written `-0000`
+pub minus-zero-written : (z : ℤ) → headerBytes (timeMarked z (pos 0) true) ≡ signedBefore z (bytes " -0000")
+unfolding headerBytes headerSign wholeMinutes
+minus-zero-written z = refl
+
+-- beside any other offset the mark is ignored
+pub mark-ignored : (t : Time) → eqZ (t .offset) (pos 0) ≡ false → headerBytes t ≡ headerBytes (unmarked t)
+unfolding headerBytes headerSign
+mark-ignored t e = rw (e, and-false (t .mark))
+
+-- answer and length do not depend on it, nor does the ISO line
+pub mark-leaves-the-answer : (t : Time) (room : List ℕ) → headerWritten t room ≡ headerWritten (unmarked t) room
+unfolding headerWritten
+mark-leaves-the-answer t room = refl
+
+pub iso-ignores-the-mark : (t : Time) (room : List ℕ) → (isoBytes t ≡ isoBytes (unmarked t)) × (isoWritten t room ≡ isoWritten (unmarked t) room)
+unfolding isoBytes isoWritten shown
+iso-ignores-the-mark t room = (refl, refl)
 
 -- ---- `Time::MIN` and `Time::MAX`
 -- no time that a header can carry has smaller seconds or a smaller offset than `Time::MIN`, which is one itself

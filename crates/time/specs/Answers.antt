@@ -11,8 +11,15 @@ use Rattle.time.specs.declared.Answer.the-variants.{Time as At, Refused}
 use Rattle.time.specs.declared.Written.{Written}
 use Rattle.time.specs.declared.Written.the-variants.{Length, Refused as NotWritten}
 
+-- a time with the mark or without it; one without it; and a time less its mark
+abbrev pub timeMarked : ℤ → ℤ → Bool → Time
+timeMarked s o m = record { seconds = s; offset = o; mark = m }
+
 abbrev pub timeAt : ℤ → ℤ → Time
-timeAt s o = record { seconds = s; offset = o }
+timeAt s o = timeMarked s o false
+
+abbrev pub unmarked : Time → Time
+unmarked t = timeAt (t .seconds) (t .offset)
 
 abbrev pub numberOf : Refusal → ℕ
 numberOf NotAscii = 1
@@ -31,7 +38,7 @@ abbrev pub answerNumber : Answer → ℕ
 answerNumber (At t) = 0
 answerNumber (Refused r) = numberOf r
 
--- a refusal returns seconds 0 and offset 0
+-- a refusal returns seconds 0 and offset 0, without the mark
 abbrev pub answerTime : Answer → Time
 answerTime (At t) = t
 answerTime (Refused r) = timeAt (pos 0) (pos 0)

@@ -2,11 +2,12 @@
 -- Assumes nothing.
 use Prim.Native.Nat.{ℕ, suc, _+_, _-_, _*_, _/_, _%_, _^_}
 use Prim.Native.Char.{code}
-use mathlib.Core.Bool.{cond}
+use mathlib.Core.Bool.{Bool, cond, _&&_}
 use mathlib.Core.List.{List, [], _∷_}
 use lib.Dec.{leb, ltb}
 use lib.IntN.{ℤ, pos, negsuc, negℤ, natAbs}
 use lib.ListN.{length}
+use Rattle.ints.specs.Equal.{eqZ}
 use Rattle.text.specs.Decimal.{signed, signedBefore, twoBefore}
 use Rattle.time.specs.Answers.{timeAt}
 use Rattle.time.specs.declared.Time.{Time}
@@ -19,9 +20,13 @@ unfoldable pub signByte : ℤ → ℕ
 signByte (pos n) = code "+"
 signByte (negsuc n) = code "-"
 
--- the sign in the header of a time
+-- whether the mark of a time counts: beside offset 0 it does, beside any other offset it is ignored
+abbrev pub isMinusZero : Time → Bool
+isMinusZero t = t .mark && eqZ (t .offset) (pos 0)
+
+-- the sign in the header of a time: offset 0 with the mark has `-`
 unfoldable pub headerSign : Time → ℕ
-headerSign t = signByte (t .offset)
+headerSign t = cond (isMinusZero t) (code "-") (signByte (t .offset))
 
 -- the minutes of an offset, its seconds dropped
 unfoldable pub wholeMinutes : ℤ → ℕ

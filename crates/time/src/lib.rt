@@ -11,7 +11,7 @@ ghost use Prim.Native.Nat.{_≤_, _<_};
 ghost use lib.ListN.{length};
 ghost use Rattle.text.specs.Decimal.{decimal as decimalOf};
 ghost use Rattle.text.specs.Room.{roomAfter};
-ghost use Rattle.time.specs.Answers.{timeAt, numberOf, isWritten};
+ghost use Rattle.time.specs.Answers.{timeAt, timeMarked, numberOf, isWritten};
 ghost use Rattle.calendar.specs.Table.{IsMonths};
 ghost use Rattle.time.specs.Header.{sizeOf, headerBytes, headerWritten, smallestTime, largestTime};
 ghost use Rattle.time.specs.Iso.{isoBytes, isoWritten};
@@ -21,10 +21,12 @@ use text::decimal;
 // 100 hours. The header writer refuses an offset of this size or more.
 const OFFSET_LIMIT: u64 = 360000;
 
-// Seconds since 1970, and an offset from UTC in seconds.
+// Seconds since 1970, an offset from UTC in seconds, and a mark: the offset is written `-0000`. The mark counts beside offset 0 alone;
+// beside any other offset it is ignored.
 pub struct Time {
     pub seconds: i64,
     pub offset: i32,
+    pub mark: bool,
 }
 
 impl Time {
@@ -32,12 +34,14 @@ impl Time {
     pub const MAX: Time = Time {
         seconds: 9223372036854775807,
         offset: 359999,
+        mark: false,
     };
 
     // The smallest: no other has smaller seconds or a smaller offset.
     pub const MIN: Time = Time {
         seconds: -9223372036854775808,
         offset: -359999,
+        mark: false,
     };
 
     // `MAX` and `MIN` as calls, so that contracts say which times they are.
@@ -53,10 +57,25 @@ impl Time {
         Time::MIN
     }
 
+    // A time without the mark.
     pub fn new(seconds: i64, offset: i32) -> Time
         ensures { λ r. ⌜ r ≡ timeAt seconds offset ⌝ }
     {
-        Time { seconds, offset }
+        Time {
+            seconds,
+            offset,
+            mark: false,
+        }
+    }
+
+    pub fn with_mark(seconds: i64, offset: i32, mark: bool) -> Time
+        ensures { λ r. ⌜ r ≡ timeMarked seconds offset mark ⌝ }
+    {
+        Time {
+            seconds,
+            offset,
+            mark,
+        }
     }
 
     // How many decimal digits n has. Zero has one.

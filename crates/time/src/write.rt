@@ -26,11 +26,16 @@ pub fn sign_byte(offset: i32) -> u8
     b'+'
 }
 
-// The sign in the header of a time.
+// The sign in the header of a time. Offset 0 with the mark has `-`; beside any other offset the mark is ignored.
 pub fn header_sign(t: Time) -> u8
     ensures { λ r. ⌜ r ≡ headerSign t ⌝ }
 {
-    sign_byte(t.offset)
+    let offset = t.offset;
+    let mark = t.mark;
+    if mark & (offset == 0) {
+        return b'-';
+    }
+    sign_byte(offset)
 }
 
 // A whole header, to the front of a room that is long enough.

@@ -20,10 +20,10 @@ offset-test : (c : tie.After-offset-in-range) → c .offset-in-range .result ≡
 offset-test c = c .offset-in-range .ensures ∙ ap offsetInRange (back w32 (c .before .before .before .before .args .t .offset) (c .before .before .struct-told2 .given .1 .0 .1))
 
 seconds-in : (c : tie.Then1) → In leastSeconds mostSeconds (c .before .before .before .before .before .args .t .seconds)
-seconds-in c = seconds-of-test _ (seconds-test (c .before)) (offset-test (c .before)) (c .if1 .taken)
+seconds-in c = seconds-of-test (c .before .before .before .before .before .args .t) (seconds-test (c .before)) (offset-test (c .before)) (c .if1 .taken)
 
 offset-in : (c : tie.Then1) → In leastOffset mostOffset (c .before .before .before .before .before .args .t .offset)
-offset-in c = offset-of-test _ (seconds-test (c .before)) (offset-test (c .before)) (c .if1 .taken)
+offset-in c = offset-of-test (c .before .before .before .before .before .args .t) (seconds-test (c .before)) (offset-test (c .before)) (c .if1 .taken)
 
 add-t7 : tie.Need-add-t7
 add-t7 c = fits w64 tt (add (known w64 tt (seconds-in c)) (lit (pos 377736739200)))
@@ -42,13 +42,13 @@ returns : tie.Need-returns
 returns c =
     let s = read w64 tt (add (known w64 tt (seconds-in c)) (lit (pos 377736739200))) in
     let o = read w32 tt (add (known w32 tt (offset-in c)) (lit (pos 93600))) in (
-      (λ i. Inside (record { seconds = natAbs (s .is i); offset = natAbs (o .is i) })) ∙ sym (movedOf-in _ (seconds-test (c .before)) (offset-test (c .before)) (c .if1 .taken)),
+      (λ i. Inside (record { seconds = natAbs (s .is i); offset = natAbs (o .is i) })) ∙ sym (movedOf-in (c .before .before .before .before .before .args .t) (seconds-test (c .before)) (offset-test (c .before)) (c .if1 .taken)),
       record { early = size-ge tt s; late = size-le tt s; west = size-ge tt o; east = size-le tt o },
     )
 
 -- out of it
 returns-2 : tie.Need-returns-2
-returns-2 c = (sym (movedOf-out _ (seconds-test (c .before)) (offset-test (c .before)) (c .if1 .left)), tt)
+returns-2 c = (sym (movedOf-out (c .before .before .before .before .before .args .t) (seconds-test (c .before)) (offset-test (c .before)) (c .if1 .left)), tt)
 
 pub instant-of-spec : {M : Type 1} → statement M
 instant-of-spec =
