@@ -25,6 +25,7 @@ use Rattle.relative.specs.Months.{dateAt, clockAt, earlierDate, secondsA
 use Rattle.relative.specs.declared.pair.Unit.{Unit}
 use Rattle.relative.specs.declared.pair.Unit.the-variants.{Months}
 use Rattle.relative.specs.declared.pair.Pair.{Pair}
+use Rattle.relative.proofs.Texts.{landing-unmarked}
 use Rattle.relative.proofs.Named.{relativeOf-of-pairs}
 use Rattle.relative.proofs.Dates.{monthsEarlier-secondsAt}
 use Rattle.relative.proofs.Joining.{known-or}
@@ -62,7 +63,7 @@ module _ (bound : ℕ) (l : 1 ≤ bound) (s : List ℕ) (n : ℕ) (x : Time) (c 
       let some : 0 < length (pairsOf s) = rw (p .pair) (omega arith) in
       let all : known (pairsOf s) ≡ true = rw (p .pair, k) in
       let few : length (pairsOf s) ≤ bound = rw (p .pair) l in
-      relativeOf-of-pairs bound s (At x) (p .plain) some (known-or (known (pairsOf s)) (agoIn s) all) few ∙ rw (p .pair, c)
+      relativeOf-of-pairs bound s (At x) (p .plain) some (known-or (known (pairsOf s)) (agoIn s) all) few ∙ rw (p .pair, c) (ap (λ (z : ℤ). landed z (x .offset)) (landing-unmarked x n u))
 
   months-land : (k : ℕ) → OnePair s n (Months k) → relativeOf bound s (At x) ≡ landed (secondsAt (earlierDate (dateAt x) (n * k)) (clockAt x) (x .offset)) (x .offset)
   unfolding landing

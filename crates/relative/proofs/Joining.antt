@@ -15,6 +15,7 @@ use Rattle.text.specs.declared.words.Separator.the-variants.{Mark}
 use Rattle.text.specs.declared.number.Number.the-variants.{Nothing}
 use Rattle.text.proofs.Plain.{ascii-append}
 use Rattle.text.proofs.Taking.{words-append}
+use Rattle.time.specs.Answers.{timeMarked, unmarked}
 use Rattle.time.specs.Range.{timeInRange}
 use Rattle.time.specs.declared.Time.{Time}
 use Rattle.time.specs.declared.Now.{Now}
@@ -28,7 +29,7 @@ use Rattle.relative.specs.Steps.{steps}
 use Rattle.relative.specs.Relative.{from, relativeOf}
 use Rattle.relative.specs.Joined.{Joinable, joinedBySpace, after}
 use Rattle.relative.specs.declared.pair.Pair.{Pair}
-use Rattle.relative.proofs.Texts.{pairsFrom-append, waitsFrom-append, known-append, steps-append, steps-refused, Good, steps-good}
+use Rattle.relative.proofs.Texts.{pairsFrom-append, waitsFrom-append, known-append, steps-append, steps-refused, Good, steps-good, Clear, steps-clear}
 use Rattle.relative.proofs.Named.{relativeOf-of-pairs}
 
 -- a whole text answers its pairs, applied from the current time
@@ -58,14 +59,16 @@ abbrev onward : Answer → List Pair → Answer
 onward (Answered x) ps = from (At x) ps
 onward (Refused r) ps = Refused r
 
-steps-onward : (ps : List Pair) (x : Answer) → Good x → steps ps x ≡ onward x ps
+steps-onward : (ps : List Pair) (x : Answer) → Good x → Clear x → steps ps x ≡ onward x ps
 unfolding from
-steps-onward ps (Answered x) g = rw g
-steps-onward ps (Refused r) g = steps-refused ps r
+steps-onward ps (Answered x) g c = rw g (λ i. steps ps (Answered (timeMarked (x .seconds) (x .offset) (c i))))
+steps-onward ps (Refused r) g c = steps-refused ps r
 
 from-append : (x : Time) (ps qs : List Pair) → timeInRange x ≡ true → from (At x) (ps ++ qs) ≡ onward (from (At x) ps) qs
-unfolding from
-from-append x ps qs c = rw (c, steps-append ps qs (Answered x)) (steps-onward qs (steps ps (Answered x)) (steps-good ps (Answered x) c))
+unfolding from timeInRange
+from-append x ps qs c =
+    let start = Answered (unmarked x) in
+    rw (c, steps-append ps qs start) (steps-onward qs (steps ps start) (steps-good ps start c) (steps-clear ps start refl))
 
 module _ (bound : ℕ) (b : List ℕ) (w : Joinable b) (h : length (pairsOf b) ≤ bound) where
   onward-after : (r : Answer) → onward r (pairsOf b) ≡ after bound b r

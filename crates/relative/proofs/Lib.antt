@@ -1,6 +1,6 @@
 -- The laws of relative dates, each file over those before it. Counts, Landing, Scanning, Cases: the code computes what the
 -- definitions say. Bounds: two bounds on the number of pairs. Texts, Named: two texts in a row; a text with a pair is not one
--- of the names. Dates: months earlier, as dates. Joining, Earlier, Seconds, LetterCase: the theorems that callers may rely on.
+-- of the names. Dates: months earlier, as dates. Joining, Earlier, Seconds, LetterCase, Unmarked: the theorems that callers may rely on.
 -- Examples: those of the rules, computed.
 -- Assumes nothing.
 pub mod Counts
@@ -15,4 +15,5 @@ pub mod Joining
 pub mod Earlier
 pub mod Seconds
 pub mod LetterCase
+pub mod Unmarked
 pub mod Examples

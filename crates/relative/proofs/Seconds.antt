@@ -19,7 +19,7 @@ use Rattle.text.specs.Number.{digitsOf, readFrom, fit}
 use Rattle.text.specs.Words.{words, pieces, full}
 use Rattle.text.specs.declared.number.Number.the-variants.{Value}
 use Rattle.text.proofs.Lists.{by-test, both, sameLetters-of-length, length-of-same}
-use Rattle.time.specs.Answers.{timeAt}
+use Rattle.time.specs.Answers.{timeAt, unmarked}
 use Rattle.time.specs.Range.{leastSeconds, mostSeconds, secondsInRange, offsetInRange, timeInRange}
 use Rattle.time.specs.declared.Time.{Time}
 use Rattle.time.specs.declared.Now.{Now}
@@ -45,8 +45,8 @@ secondsInRange-of-time : (x : Time) → timeInRange x ≡ true → secondsInRang
 unfolding timeInRange
 secondsInRange-of-time x c = both (secondsInRange (x .seconds)) (offsetInRange (x .offset)) c .0
 
--- alone, trimmed, in any letter case, they are the current time
-pub now-is-the-current-time : (bound : ℕ) (s : List ℕ) (x : Time) → ascii s ≡ true → (is (trim s) "now" || is (trim s) "today") ≡ true → timeInRange x ≡ true → relativeOf bound s (At x) ≡ Answered x
+-- alone, trimmed, in any letter case, they are the current time, without its mark
+pub now-is-the-current-time : (bound : ℕ) (s : List ℕ) (x : Time) → ascii s ≡ true → (is (trim s) "now" || is (trim s) "today") ≡ true → timeInRange x ≡ true → relativeOf bound s (At x) ≡ Answered (unmarked x)
 unfolding relativeOf namedOf from steps step landing landed
 now-is-the-current-time bound s x a e c = rw (a, e, c, +ℤ-idr (x .seconds), secondsInRange-of-time x c)
 
@@ -112,7 +112,7 @@ unfolding secondsInRange
 seconds-le z e = In-of-isIn leastSeconds mostSeconds z e .high
 
 -- pairs of seconds units land where their sum does: a step that leaves the range is not made good by a later one
-steps-total : (ps : List Pair) (x : Time) → allSeconds ps ≡ true → timeInRange x ≡ true → steps ps (Answered x) ≡ landed (x .seconds -ℤ pos (total ps)) (x .offset)
+steps-total : (ps : List Pair) (x : Time) → allSeconds ps ≡ true → timeInRange x ≡ true → steps ps (Answered (unmarked x)) ≡ landed (x .seconds -ℤ pos (total ps)) (x .offset)
 unfolding allSeconds timeInRange steps step landed total
 steps-total [] x h c = rw (+ℤ-idr (x .seconds), both (secondsInRange (x .seconds)) (offsetInRange (x .offset)) c .0)
 steps-total (p ∷ ps) x h c =
@@ -120,7 +120,7 @@ steps-total (p ∷ ps) x h c =
     let k = both (isSeconds (p .unit)) (allSeconds ps) h in
     let a : ℕ = p .count * size (p .unit) in
     let y : Time = timeAt (x .seconds -ℤ pos a) (x .offset) in
-    rw (landing-size x (p .count) (p .unit) (k .0))
+    rw (landing-size (unmarked x) (p .count) (p .unit) (k .0))
     (by-test (secondsInRange (x .seconds -ℤ pos a))
     (λ e.
     let g : timeInRange y ≡ true = rw (e, r .1) in

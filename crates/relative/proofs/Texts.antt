@@ -1,19 +1,23 @@
 -- Two texts in a row: their pairs and steps; an answer in range. In order: pairs; steps; what steps keep.
 -- Assumes nothing.
 use mathlib.Core.Path.{_≡_, refl}
-use mathlib.Core.Bool.{true, _&&_}
+use mathlib.Core.Bool.{true, false, _&&_}
 use mathlib.Core.List.{List, [], _∷_, _++_}
 use Prim.Native.Nat.{ℕ}
 use lib.IntN.{ℤ}
 use Rattle.text.specs.declared.number.Number.{Number}
 use Rattle.text.specs.declared.number.Number.the-variants.{Value, Nothing}
 use Rattle.text.proofs.Lists.{by-test, both}
+use Rattle.time.specs.Answers.{unmarked}
 use Rattle.time.specs.Range.{secondsInRange, offsetInRange, timeInRange}
+use Rattle.time.specs.declared.Time.{Time as TimeValue}
 use Rattle.time.specs.declared.Refusal.{Refusal}
 use Rattle.time.specs.declared.Answer.{Answer}
 use Rattle.time.specs.declared.Answer.the-variants.{Time, Refused}
 use Rattle.relative.specs.Pairs.{next, pairsFrom, known, isKnown}
-use Rattle.relative.specs.Steps.{landing, landed, step, steps}
+use Rattle.relative.specs.Steps.{landing, landed, monthsEarlier, step, steps}
+use Rattle.relative.specs.declared.pair.Unit.{Unit as PairUnit}
+use Rattle.relative.specs.declared.pair.Unit.the-variants.{Seconds, Months, Unknown}
 use Rattle.relative.specs.Joined.{waitsFrom}
 use Rattle.relative.specs.declared.pair.Pair.{Pair}
 
@@ -64,3 +68,29 @@ pub steps-good : (a : List Pair) (x : Answer) → Good x → Good (steps a x)
 unfolding steps
 steps-good [] x g = g
 steps-good (p ∷ a) x g = steps-good a (step p x) (step-good p x g)
+
+-- ---- and an answer without the mark, which every step gives
+abbrev pub Clear : Answer → Type 0
+Clear (Time x) = x .mark ≡ false
+Clear (Refused r) = Unit {0}
+
+landed-clear : (z o : ℤ) → Clear (landed z o)
+unfolding landed
+landed-clear z o = by-test (secondsInRange z) (λ e. rw e refl) (λ e. rw e tt)
+
+step-clear : (p : Pair) (x : Answer) → Clear (step p x)
+unfolding step
+step-clear p (Time x) = landed-clear (landing x (p .count) (p .unit)) (x .offset)
+step-clear p (Refused r) = tt
+
+pub steps-clear : (a : List Pair) (x : Answer) → Clear x → Clear (steps a x)
+unfolding steps
+steps-clear [] x c = c
+steps-clear (p ∷ a) x c = steps-clear a (step p x) (step-clear p x)
+
+-- a landing does not depend on the mark
+pub landing-unmarked : (x : TimeValue) (n : ℕ) (u : PairUnit) → landing (unmarked x) n u ≡ landing x n u
+unfolding landing monthsEarlier
+landing-unmarked x n (Seconds k) = refl
+landing-unmarked x n (Months k) = refl
+landing-unmarked x n Unknown = refl

@@ -10,6 +10,7 @@ use Rattle.text.specs.Bytes.{ascii}
 use Rattle.text.specs.Trim.{trim}
 use Rattle.text.specs.declared.number.Number.{Number}
 use Rattle.text.specs.declared.number.Number.the-variants.{Value, Nothing}
+use Rattle.time.specs.Answers.{unmarked}
 use Rattle.time.specs.Range.{timeInRange}
 use Rattle.time.specs.declared.Now.{Now}
 use Rattle.time.specs.declared.Now.the-variants.{Missing, At}
@@ -26,10 +27,10 @@ use Rattle.relative.specs.declared.pair.Pair.{Pair}
 abbrev pub maxPairs : ℕ
 maxPairs = 32
 
--- the pairs applied from the current time: 3 if it is missing, 4 if it is out of range
+-- the pairs applied from the current time, whose mark is not looked at: 3 if it is missing, 4 if it is out of range
 unfoldable pub from : Now → List Pair → Answer
 from Missing ps = Refused NoCurrent
-from (At x) ps = cond (timeInRange x) (steps ps (Time x)) (Refused Current)
+from (At x) ps = cond (timeInRange x) (steps ps (Time (unmarked x))) (Refused Current)
 
 -- `now`, `today` or `yesterday`, trimmed and in any letter case: how many seconds before the current time
 unfoldable pub namedOf : List ℕ → Number
