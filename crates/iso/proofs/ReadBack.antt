@@ -22,7 +22,7 @@ use Rattle.calendar.specs.Civil.{yearCount}
 use Rattle.calendar.specs.Dates.{dateOf, dayNumber}
 use Rattle.calendar.specs.declared.Found.the-variants.{At}
 use Rattle.calendar.proofs.Dates.{IsDate-of-dateOf, IsDate-day-lt}
-use Rattle.time.specs.Answers.{timeAt, answerTime, isWritten}
+use Rattle.time.specs.Answers.{timeAt, unmarked, answerTime, isWritten}
 use Rattle.time.specs.Clock.{localOf, clockOf}
 use Rattle.time.specs.Header.{signByte, wholeMinutes, cutToMinutes}
 use Rattle.time.specs.Iso.{offsetBefore, lineBytes, shown, isoBytes, isoWritten}
@@ -192,7 +192,8 @@ module _ (t : Time) {n : ℕ} (w : WasWritten t n) where
         let d = IsDate-day-lt is-date in
         ascii-line (month / 12 - 10000) (month % 12 + 1) (dateOf day .day + 1) (second / 3600) (second / 60 % 60) (second % 60) (t .offset) (omega arith) (omega arith) (omega arith) (omega arith) (omega arith) (omega arith) (w .narrow) whole
 
-    zoned-line : zoned (flexible (lineBytes t)) ≡ Read t
+    -- as the same time, without the mark
+    zoned-line : zoned (flexible (lineBytes t)) ≡ Read (unmarked t)
     unfolding zoned
     zoned-line =
         let n : day * 86400 + second ≡ localOf i = omega arith in
@@ -201,7 +202,7 @@ module _ (t : Time) {n : ℕ} (w : WasWritten t n) where
         rw (flexible-line, clock-sum second, day-line) (sym (momentOf-in {f = At day} second (t .offset) refl r) ∙ (λ j. Read (timeAt (e j) (t .offset))))
 
     -- it is read back, by the flexible form
-    line-read-back : (zoned (flexible (lineBytes t)) ≡ Read t) × (isoOf (lineBytes t) ≡ Read t)
+    line-read-back : (zoned (flexible (lineBytes t)) ≡ Read (unmarked t)) × (isoOf (lineBytes t) ≡ Read (unmarked t))
     line-read-back = (zoned-line, iso-of-flexible (lineBytes t) ascii-written (rw trim-written zoned-line))
 
 -- every time that the ISO writer writes is read back, by the flexible form, with its seconds and its offset cut toward zero to whole
@@ -216,9 +217,9 @@ pub iso-read-back-in-room : (t : Time) (room : List ℕ) (n : ℕ) → isoWritte
     → isoOf (take n (roomAfter (isWritten (isoWritten t room)) (isoBytes t) room)) ≡ Read (timeAt (t .seconds) (cutToMinutes (t .offset)))
 iso-read-back-in-room t room n e = ap isoOf (line-in-room t room n e) ∙ iso-read-back t room n e .1
 
--- at an offset of whole minutes, that is the same time
+-- at an offset of whole minutes, that is the same time, without the mark
 pub iso-read-back-whole : (t : Time) (room : List ℕ) (n : ℕ) → isoWritten t room ≡ Length n → natAbs (t .offset) % 60 ≡ 0
-    → (zoned (flexible (isoBytes t)) ≡ Read t) × (isoOf (isoBytes t) ≡ Read t)
+    → (zoned (flexible (isoBytes t)) ≡ Read (unmarked t)) × (isoOf (isoBytes t) ≡ Read (unmarked t))
 iso-read-back-whole t room n e whole = rw (cut-of-whole (t .offset) whole) at (iso-read-back t room n e)
 
 -- two times of one line have one instant
