@@ -19,7 +19,7 @@ use Rattle.text.specs.declared.number.Number.the-variants.{Value, Nothing as No
 use Rattle.text.proofs.Lists.{by-test}
 use Rattle.calendar.specs.declared.Found.{Found}
 use Rattle.calendar.specs.declared.Found.the-variants.{At as Day, Nothing as NoDay}
-use Rattle.time.specs.Answers.{answerNumber}
+use Rattle.time.specs.Answers.{unmarked, answerNumber}
 use Rattle.time.specs.Range.{secondsInRange, timeInRange, since1970}
 use Rattle.time.specs.declared.Now.{Now}
 use Rattle.time.specs.declared.Now.the-variants.{Missing, At as CurrentAt}
@@ -76,7 +76,7 @@ from-not : (now : Now) (ps : List Pair) → Not11 (from now ps)
 unfolding from
 from-not Missing ps e = omega (arith, ap answerNumber e)
 from-not (CurrentAt x) ps e =
-    by-test (timeInRange x) (λ k. steps-not ps (Time x) (λ t. omega (arith, ap answerNumber t)) (rw k at e)) (λ k. omega (arith, ap answerNumber (rw k at e)))
+    by-test (timeInRange x) (λ k. steps-not ps (Time (unmarked x)) (λ t. omega (arith, ap answerNumber t)) (rw k at e)) (λ k. omega (arith, ap answerNumber (rw k at e)))
 
 byName-not : (x : Number) (bound : ℕ) (s : List ℕ) (now : Now) → Not11 (byName x bound s now)
 unfolding byPairs

@@ -10,6 +10,7 @@ use native.Mathlib.Omega.{arith}
 use borrow.Author.Tests.{lt-ltb, lt-leb}
 use lib.ListN.{length}
 use Rattle.text.proofs.Lists.{by-test}
+use Rattle.time.specs.Answers.{timeMarked, unmarked}
 use Rattle.time.specs.Range.{timeInRange}
 use Rattle.time.specs.declared.Now.{Now}
 use Rattle.time.specs.declared.Now.the-variants.{Missing, At}
@@ -21,7 +22,7 @@ use Rattle.relative.specs.Pairs.{known, isKnown}
 use Rattle.relative.specs.Steps.{step, steps}
 use Rattle.relative.specs.Relative.{from, verdict}
 use Rattle.relative.specs.declared.pair.Pair.{Pair}
-use Rattle.relative.proofs.Texts.{steps-refused, Good, steps-good}
+use Rattle.relative.proofs.Texts.{steps-refused, Good, steps-good, Clear, steps-clear}
 use Rattle.turns.specs.Reading.{subtracted, unmoved, readOn, AnswersBy}
 use Rattle.turns.specs.declared.reading.Reading.{Reading}
 
@@ -36,20 +37,23 @@ unfolding subtracted
 subtracted-cons p ps (Time x) = refl
 subtracted-cons p ps (Refused r) = subtracted-refused ps r
 
--- from a time in range they are the steps of the first reader
-subtracted-steps : (ps : List Pair) (a : Answer) → Good a → subtracted ps a ≡ steps ps a
-unfolding subtracted from steps
-subtracted-steps [] a g = refl
-subtracted-steps (p ∷ ps) (Time x) g = rw g (subtracted-steps ps (step p (Time x)) (steps-good (p ∷ []) (Time x) g))
-subtracted-steps (p ∷ ps) (Refused r) g = sym (steps-refused (p ∷ ps) r)
+-- from a time in range without the mark they are the steps of the first reader
+subtracted-steps : (ps : List Pair) (a : Answer) → Good a → Clear a → subtracted ps a ≡ steps ps a
+unfolding subtracted from steps timeInRange
+subtracted-steps [] a g c = refl
+subtracted-steps (p ∷ ps) (Time x) g c =
+    let y : Answer = Time (unmarked x) in
+    rw g (subtracted-steps ps (step p y) (steps-good (p ∷ []) y g) (steps-clear (p ∷ []) y refl))
+    ∙ (λ i. steps ps (step p (Time (timeMarked (x .seconds) (x .offset) (sym c i)))))
+subtracted-steps (p ∷ ps) (Refused r) g c = sym (steps-refused (p ∷ ps) r)
 
 -- from a current time
 subtracted-unmoved : (current : Now) (p : Pair) (ps : List Pair) → subtracted (p ∷ ps) (unmoved current) ≡ from current (p ∷ ps)
-unfolding subtracted from
+unfolding subtracted from timeInRange
 subtracted-unmoved Missing p ps = refl
 subtracted-unmoved (At x) p ps =
     by-test (timeInRange x)
-    (λ e. subtracted-steps (p ∷ ps) (Time x) e ∙ rw e)
+    (λ e. subtracted-steps (p ∷ ps) (Time (unmarked x)) e refl ∙ rw e)
     (λ e. rw e (subtracted-refused ps Current))
 
 module _ (bound : ℕ) where
