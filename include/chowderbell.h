@@ -1,8 +1,14 @@
 /* Chowderbell: reads and writes the dates that Git writes and people type, and lists and compacts books of stamps.
  *
- * A time is signed 64-bit seconds since 1970 and a signed 32-bit offset from UTC in seconds. The library uses no heap, keeps no
- * state and no pointer, and never looks at the clock, the time zone or the locale of the machine: the current time is an argument.
- * Every text and every number has an answer. Thread-safe: there is no shared state.
+ * A time is signed 64-bit seconds since 1970, a signed 32-bit offset from UTC in seconds, and a mark. The library uses no heap,
+ * keeps no state and no pointer, and never looks at the clock, the time zone or the locale of the machine: the current time is an
+ * argument. Every text and every number has an answer. Thread-safe: there is no shared state.
+ *
+ * The mark keeps the minus of "-0000", so that a program that reads a header and writes it again gets the same bytes. Set beside
+ * offset 0, it says that this offset is written "-0000". Beside any other offset it means nothing. The functions with a name that
+ * ends in _marked give or take it, as a uint8_t. They store 0 if it is clear and 1 if it is set; passed to them, any value but 0
+ * sets it. The other functions do without: readers drop it, and chowderbell_write_header writes a time with the mark clear. An ISO
+ * line does not show it, and a current time is passed without it.
  *
  * Every function but chowderbell_size, which cannot fail, returns one of these numbers: 0 for success, else why it refused.
  *
@@ -72,34 +78,46 @@ extern "C" {
 #define CHOWDERBELL_PATH_MAX 255
 #define CHOWDERBELL_KEY_LENGTH 16
 
-/* Readers. When they return 0, *seconds and *offset are the time; otherwise both are set to 0.
+/* Readers. When they return 0, *seconds and *offset are the time, with *mark where there is one; otherwise these are set to 0.
    They read text[0] to text[len - 1] and no other byte. */
 
 /* A commit header's date, "1745582210 +0200". No rule limits the offset here: "+0520" and "+9999" are read. A word that is no
    offset is read as 0 and is not refused. If the first word is not a number, its leading digits are read: "12abc" is 12. A ":"
    anywhere is 2. Without one, if the first word or else its leading digits are too large, the answer is 11:
-   "99999999999999999999 +0200". Returns 0, 1, 2 or 11. */
+   "99999999999999999999 +0200". The mark is dropped: "5 -0000" and "5 +0000" give the same answer. Returns 0, 1, 2 or 11. */
 uint8_t chowderbell_header(const uint8_t *text, size_t len, int64_t *seconds, int32_t *offset);
+
+/* A commit header's date with its mark. The number, the seconds and the offset are those of chowderbell_header. The mark is set
+   exactly if the second word is read as an offset, opens with "-" and gives 0: "5 -0000", "5 -000000", and also "5 -00-160", whose
+   0 hours, -1 minutes and 60 seconds add up to 0. It is clear for "5 -0000 x", where no offset is read since there is a third word.
+   Returns 0, 1, 2 or 11. */
+uint8_t chowderbell_header_marked(const uint8_t *text, size_t len, int64_t *seconds, int32_t *offset, uint8_t *mark);
 
 /* A raw date, strictly: two words, a number and an offset. An offset is a sign and two or three fields of two bytes, each of them
    two digits, or "+" and a digit: "+0545", "++5+0". Its hours are at most 14, its minutes 0, 15, 30 or 45, its seconds 0. These are
    the limits of rule 1, below. If the first word is a number that is too large, the answer is 11, also without an offset.
-   Returns 0, 1, 2 or 11. */
+   The mark is dropped. Returns 0, 1, 2 or 11. */
 uint8_t chowderbell_raw(const uint8_t *text, size_t len, int64_t *seconds, int32_t *offset);
 
 /* A raw date by the rule with this number.
      rule 1  lets through an offset with hours to 14 and minutes 0, 15, 30 or 45: "+0545", "-1400".
      rule 2  lets through an offset with hours to 23 and minutes to 59: also "+0520", "-2000", "+2359".
    By both rules seconds must be 0 if there are any: "+054500". What rule 1 reads, rule 2 reads as the same time.
-   For any number but 1 or 2 every text is refused: by 1 if it holds a byte of 128 or more, otherwise by 2. Returns 0, 1, 2
-   or 11. */
+   For any number but 1 or 2 every text is refused: by 1 if it holds a byte of 128 or more, otherwise by 2. The mark is
+   dropped. Returns 0, 1, 2 or 11. */
 uint8_t chowderbell_raw_by(uint32_t rule, const uint8_t *text, size_t len, int64_t *seconds, int32_t *offset);
 
-/* An ISO date: "2008-02-14 20:30:45 -0500", "20080214T203045-04:00", "2008.02.14 20:30:45". Returns 0, 1 or 2. */
+/* A raw date by the rule with this number, with its mark. The number returned, the seconds and the offset are those of
+   chowderbell_raw_by; by rule 1 those of chowderbell_raw. The mark is set exactly if the offset opens with "-" and is 0: "5 -0000",
+   "5 -+0+0". Returns 0, 1, 2 or 11. */
+uint8_t chowderbell_raw_marked(uint32_t rule, const uint8_t *text, size_t len, int64_t *seconds, int32_t *offset, uint8_t *mark);
+
+/* An ISO date: "2008-02-14 20:30:45 -0500", "20080214T203045-04:00", "2008.02.14 20:30:45". It has no mark, also with "-0000".
+   Returns 0, 1 or 2. */
 uint8_t chowderbell_iso(const uint8_t *text, size_t len, int64_t *seconds, int32_t *offset);
 
 /* A relative date, "2 weeks ago", counted back from the current time. If has_now is 0 the current time is missing, and now_seconds
-   and now_offset are ignored. The answer has the offset of the current time. Returns 0 to 6. */
+   and now_offset are ignored. The answer has the offset of the current time, and no mark. Returns 0 to 6. */
 uint8_t chowderbell_relative(const uint8_t *text, size_t len, uint8_t has_now, int64_t now_seconds, int32_t now_offset,
                              int64_t *seconds, int32_t *offset);
 
@@ -115,27 +133,41 @@ uint8_t chowderbell_relative_turns(const uint8_t *text, size_t len, uint8_t has_
 
 /* A date in any form, tried in this order: "@" and then a raw date or a number; a number of at least 100000000, as seconds at
    offset 0; an ISO date; a relative date; a raw date. Raw dates are read by rule 1. 11 is given only by that last step:
-   "99999999999999999999 days ago" is 11, and "@99999999999999999999" is 2. Returns 0 to 6, or 11. */
+   "99999999999999999999 days ago" is 11, and "@99999999999999999999" is 2. The mark is dropped. Returns 0 to 6, or 11. */
 uint8_t chowderbell_any(const uint8_t *text, size_t len, uint8_t has_now, int64_t now_seconds, int32_t now_offset,
                         int64_t *seconds, int32_t *offset);
 
 /* A date in any form, tried in the same order, with raw dates read by the rule with this number, also behind "@". Wherever
    chowderbell_any does not return 2, rule 2 gives the same answer. For any number but 1 or 2 every text is refused, "now" too: by 1
-   if it holds a byte of 128 or more, otherwise by 2. Returns 0 to 6, or 11. */
+   if it holds a byte of 128 or more, otherwise by 2. The mark is dropped. Returns 0 to 6, or 11. */
 uint8_t chowderbell_any_by(uint32_t rule, const uint8_t *text, size_t len, uint8_t has_now, int64_t now_seconds,
                            int32_t now_offset, int64_t *seconds, int32_t *offset);
 
-/* Returns how many bytes the header of a time has, 7 to 26, also for an offset that is too wide to write. This is a length and not
-   a number of the table above. */
+/* A date in any form, with raw dates read by the rule with this number, and with its mark. The number returned, the seconds and the
+   offset are those of chowderbell_any_by; by rule 1 those of chowderbell_any. If the text is read as a raw date, also behind "@",
+   the mark is that of chowderbell_raw_marked: it is set for "5 -0000" and "@5 -0000". Otherwise it is clear. Returns 0 to 6, or
+   11. */
+uint8_t chowderbell_any_marked(uint32_t rule, const uint8_t *text, size_t len, uint8_t has_now, int64_t now_seconds,
+                               int32_t now_offset, int64_t *seconds, int32_t *offset, uint8_t *mark);
+
+/* Returns how many bytes the header of a time has, 7 to 26, also for an offset that is too wide to write. With the mark or without,
+   they are as many. This is a length and not a number of the table above. */
 size_t chowderbell_size(int64_t seconds, int32_t offset);
 
 /* Writers. `len` is the length of the room. When they return 0, room[0] to room[*length - 1] are the bytes written, and the bytes
    beyond them are as they were. Otherwise *length is set to 0, and every byte of the room is as it was. They add no
    terminating zero. */
 
-/* A header, "1745582210 +0200", of chowderbell_size bytes. Returns 0; 7 for an offset of 360000 seconds (100 hours) or more either
+/* A header, "1745582210 +0200", of chowderbell_size bytes, with the mark clear: offset 0 is written "+0000". Seconds of the offset
+   are dropped, and its sign stays: -30 is written "-0000". Returns 0; 7 for an offset of 360000 seconds (100 hours) or more either
    way; or 8. */
 uint8_t chowderbell_write_header(int64_t seconds, int32_t offset, uint8_t *room, size_t len, size_t *length);
+
+/* A header of a time with this mark. Offset 0 is written "-0000" if the mark is set. Beside any other offset the mark is ignored:
+   30 is written "+0000". All else is as by chowderbell_write_header.
+   A header comes back byte for byte if it is seconds as this function prints them, a space, "+" or "-", two digits of hours and two
+   of minutes below 60: what chowderbell_header_marked reads from such a text is written as that text again. Returns 0, 7 or 8. */
+uint8_t chowderbell_write_header_marked(int64_t seconds, int32_t offset, uint8_t mark, uint8_t *room, size_t len, size_t *length);
 
 /* An ISO line, "2008-02-14T20:30:45-05:00", 25 bytes. The offset is first cut toward zero to whole minutes, and the line shows the
    clock at the cut offset, with + where that is zero. So chowderbell_iso reads every line back with the same seconds and the cut
@@ -151,8 +183,8 @@ uint8_t chowderbell_write_iso(int64_t seconds, int32_t offset, uint8_t *room, si
 
    PATH     1 to 255 bytes from 32 to 126.
    KEY      16 bytes, each "0" to "9" or "a" to "f".
-   TIME     exactly the bytes that chowderbell_write_header writes for some time at an offset of whole minutes, as
-            "1745582210 +0200". Not of that form are "+5 +0000", "05 +0000", "5 +0060" and "5 -0000".
+   TIME     exactly the bytes that chowderbell_write_header_marked writes for some time at an offset of whole minutes, as
+            "1745582210 +0200". It may end in "-0000". Not of that form are "+5 +0000", "05 +0000", "5 +0060" and "5 -000000".
    TEXT     a relative date without tab and newline, for which chowderbell_relative returns 0 at the current time SECONDS, OFFSET.
    SECONDS, OFFSET
             plain decimals, as chowderbell_write_header prints seconds: "0", "-18000". Not of that form are "+5", "05" and "-0".
@@ -182,7 +214,7 @@ uint8_t chowderbell_book_check(const uint8_t *book, size_t len, size_t *line);
      10  The book is not good. *line is set as by chowderbell_book_check.
      8   The book is good, and its listing is longer than the room. *line is set to 0.
    If it returns 8 or 10, *length is set to 0, and every byte of the room is as it was. It uses some 6 KB of stack more than a
-   check, for a mark of each line. */
+   check, a byte for each line that a book can have. */
 uint8_t chowderbell_book_list(const uint8_t *book, size_t len, uint8_t *room, size_t room_len, size_t *length, size_t *line);
 
 /* Writes the compacted book to the front of a room of room_len bytes: the book without each `hull` line whose path a later `hull`

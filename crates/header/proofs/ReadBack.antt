@@ -96,7 +96,7 @@ headerOf-signedBefore z w r h b =
     rw (ascii-header z w b, no-colon-of-between 32 _ (header-between z w b), words-header z w h b, secondsOf-signed z r)
 
 -- ---- an offset's word: a sign, two digits of hours and two of minutes
-sign-between : (b : ℕ) → isSign b ≡ true → (33 ≤ b) × (b ≤ 57)
+pub sign-between : (b : ℕ) → isSign b ≡ true → (33 ≤ b) × (b ≤ 57)
 unfolding isSign
 sign-between b e =
     by-test (eqb b (code "+")) (λ k. let q = eqb-true b (code "+") k in (omega (arith, q), omega (arith, q)))

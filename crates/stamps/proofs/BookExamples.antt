@@ -54,8 +54,10 @@ books =
     ∷ checks (newline ∷ []) (Refused Book 1)
     -- "lines end in a newline": the second line lacks its own
     ∷ checks (joined (hull "a" "5 +0130" ∷ []) ++ hull "b" "5 +0130") (Refused Book 2)
-    -- a time is what the header writer writes for an offset of whole minutes: `-0000` is written for -30 seconds, which is none
-    ∷ checks (joined (hull "a" "0 -0000" ∷ [])) (Refused Book 1)
+    -- a time is what the header writer writes at an offset of whole minutes; `-0000` is offset 0 with the mark
+    ∷ checks (joined (hull "a" "0 -0000" ∷ [])) Good
+    ∷ checks (joined (hull "a" "0 -000000" ∷ [])) (Refused Book 1)
+    ∷ checks (joined (hull "a" "0 -0060" ∷ [])) (Refused Book 1)
     -- nor is an offset with seconds, a `+` in front of the seconds or a leading zero
     ∷ checks (joined (hull "a" "5 +013015" ∷ [])) (Refused Book 1)
     ∷ checks (joined (hull "a" "+5 +0130" ∷ [])) (Refused Book 1)
@@ -72,10 +74,12 @@ books =
     -- a hull above the `since` line is listed whatever its seconds are; below it, one at the cut-off is listed, and one before it is not.
     -- The offset of a hull does not matter
     ∷ lists (hull "a" "1 +0000" ∷ since (bytes "1 second ago") "6" "0" ∷ hull "b" "4 +0000" ∷ hull "c" "5 -0100" ∷ []) (hull "a" "1 +0000" ∷ hull "c" "5 -0100" ∷ [])
+    -- the sign of offset 0 does not matter either, and comes back as it was
+    ∷ lists (since (bytes "now") "5" "0" ∷ hull "a" "5 -0000" ∷ hull "b" "5 +0000" ∷ hull "c" "4 -0000" ∷ []) (hull "a" "5 -0000" ∷ hull "b" "5 +0000" ∷ [])
     -- the last `since` line above counts, not the strictest
     ∷ lists (since (bytes "now") "9" "0" ∷ since (bytes "now") "1" "0" ∷ hull "a" "5 +0000" ∷ []) (hull "a" "5 +0000" ∷ [])
     ∷ []
 
 book-examples : AllRight books
 unfolding checkOf firstBad linesIn judged lineOf sinceOf hullOf isKey isHexDigit isPath isPathByte every stampOf isWholeMinutes printed joined relativeOf byPairs namedOf from steps step landed landing pairsFrom agoFrom known unitOf unitNamed singular countOf spelled wordsOf headerOf headerOfWords headerOffset secondsOf offsetOf fieldsOf lastField fieldOf fiveOrSeven timeInRange offsetInRange secondsInRange wholeMinutes signByte headerSign headerBytes left takenBy endedLines fitSigned fit signedOf unsignedOf digitsOf readFrom has firstPlace run signedBefore signed decimal digitsUpTo full pieces words trimStart trimEnd trim sameLetters same ascii lowerOf isSign isAlphanumeric isDigit isSpace listing listed
-book-examples = (refl, (refl, (refl, (refl, (refl, (refl, (refl, (refl, (refl, (refl, (refl, (refl, (refl, (refl, tt))))))))))))))
+book-examples = (refl, (refl, (refl, (refl, (refl, (refl, (refl, (refl, (refl, (refl, (refl, (refl, (refl, (refl, (refl, (refl, (refl, tt)))))))))))))))))

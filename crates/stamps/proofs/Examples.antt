@@ -3,6 +3,7 @@
 use Prim.Native.Nat.{_-_, _^_}
 use Prim.Native.String.{String}
 use mathlib.Core.Path.{_≡_, refl}
+use mathlib.Core.Bool.{true}
 use mathlib.Core.List.{List, [], _∷_}
 use lib.IntN.{pos, negsuc}
 use Rattle.text.specs.Bytes.{isSpace, isDigit, isSign, ascii, same}
@@ -13,7 +14,7 @@ use Rattle.text.specs.Decimal.{digitsUpTo, decimal, signed, signedBefore}
 use Rattle.text.specs.Number.{readFrom, digitsOf, unsignedOf, signedOf, fitSigned}
 use Rattle.text.specs.declared.number.Integer.{Integer}
 use Rattle.text.specs.declared.number.Integer.the-variants.{Is, Nothing as NoInteger}
-use Rattle.time.specs.Answers.{timeAt}
+use Rattle.time.specs.Answers.{timeAt, timeMarked}
 use Rattle.time.specs.Header.{headerBytes, headerSign, signByte, wholeMinutes}
 use Rattle.header.specs.Offset.{fiveOrSeven, fieldOf, lastField, fieldsOf, offsetOf}
 use Rattle.header.specs.Header.{secondsOf, headerOffset, headerOfWords, headerOf}
@@ -42,12 +43,14 @@ stamps =
     -- seconds in the offset are read, but never written
     ∷ means "5 +013000" NoStamp
     ∷ means "5 +013030" NoStamp
-    -- `-0000` is written for the offset -30, which is not whole minutes; it is read as 0
-    ∷ means "5 -0000" NoStamp
+    -- `-0000` is written for offset 0 with the mark, and read so; in seven bytes it is read alike, but never written
+    ∷ means "5 -0000" (At (timeMarked (pos 5) (pos 0) true))
+    ∷ means "5 -000000" NoStamp
     -- zeros in front, a `+`, and the sign of 0 are read, but never written
     ∷ means "05 +0000" NoStamp
     ∷ means "+5 +0000" NoStamp
     ∷ means "-0 +0000" NoStamp
+    ∷ means "-0 -0000" NoStamp
     -- 60 minutes are read as an hour, and written so
     ∷ means "5 +0160" NoStamp
     ∷ means "5 +9960" NoStamp
@@ -67,7 +70,7 @@ stamps =
 
 stamp-examples : AllStamps stamps
 unfolding isSpace isDigit isSign ascii same run firstPlace has words pieces full readFrom digitsOf unsignedOf signedOf fitSigned digitsUpTo decimal signed signedBefore headerBytes headerSign signByte wholeMinutes fiveOrSeven fieldOf lastField fieldsOf offsetOf secondsOf headerOffset headerOfWords headerOf isWholeMinutes stampOf
-stamp-examples = (refl, (refl, (refl, (refl, (refl, (refl, (refl, (refl, (refl, (refl, (refl, (refl, (refl, (refl, (refl, (refl, (refl, (refl, (refl, (refl, (refl, (refl, (refl, tt)))))))))))))))))))))))
+stamp-examples = (refl, (refl, (refl, (refl, (refl, (refl, (refl, (refl, (refl, (refl, (refl, (refl, (refl, (refl, (refl, (refl, (refl, (refl, (refl, (refl, (refl, (refl, (refl, (refl, (refl, tt)))))))))))))))))))))))))
 
 -- ---- printed numbers
 abbrev number : String → Integer

@@ -2,7 +2,7 @@
 -- there in two steps, seconds and tail, is the stamp of the line.
 -- Assumes nothing.
 use mathlib.Core.Path.{_≡_, refl, sym, ap, _∙_}
-use mathlib.Core.Bool.{false}
+use mathlib.Core.Bool.{Bool, false}
 use mathlib.Core.List.{List, [], _∷_, _++_, append-assoc}
 use Prim.Native.Char.{code}
 use Prim.Native.Nat.{ℕ, suc, _/_, _%_, _^_, _<_}
@@ -21,19 +21,21 @@ use Rattle.text.proofs.Numbers.{isDigit-of-le, numeral-of-digits, fitSigned-val
 use Rattle.text.proofs.Digits.{isSign-of-digit}
 use Rattle.text.proofs.Decimals.{Between, decimal-digits, length-decimal-pos, twoBefore-between}
 use Rattle.text.proofs.Signed.{signedBefore-append, signedBefore-between}
-use Rattle.time.specs.Answers.{timeAt}
+use Rattle.time.specs.Answers.{timeMarked}
 use Rattle.time.specs.Header.{headerBytes, headerSign, wholeMinutes}
 use Rattle.time.specs.declared.Time.{Time}
-use Rattle.header.proofs.ReadBack.{signByte-between}
+use Rattle.header.proofs.ReadBack.{sign-between, headerSign-sign}
 use Rattle.stamps.specs.Stamps.{printed, stampOf}
 use Rattle.stamps.specs.Held.{OpensPrinted, tailOf}
 use Rattle.stamps.specs.declared.stamp.PrintedNumber.{PrintedNumber}
+use Rattle.stamps.specs.declared.stamp.Tail.{Tail}
+use Rattle.stamps.specs.declared.stamp.Tail.the-variants.{Is as IsTail, Nothing as NoTail}
 use Rattle.stamps.specs.declared.stamp.Stamp.{Stamp}
 use Rattle.stamps.specs.declared.stamp.Stamp.the-variants.{At, Nothing as NoStamp}
 use Rattle.stamps.proofs.Scans.{endsHere-firstPlace, before-of-endsHere, Free-of-between}
 use Rattle.stamps.proofs.Printed.{printed-bytes, fitSigned-printed-signed}
-use Rattle.stamps.proofs.Tails.{tailBytes, tailOf-tailBytes, HasTail-of-tailOf}
-use Rattle.stamps.proofs.Stamps.{stampOf-bytes, stampOf-good, stampOf-headerBytes, In-of-fitSigned}
+use Rattle.stamps.proofs.Tails.{tailBytes, tailOf-tailBytes, HasTail, HasTail-of-tailOf}
+use Rattle.stamps.proofs.Stamps.{stampOf-bytes, stampOf-good, stampOf-settled, stampOf-headerBytes, In-of-fitSigned}
 
 -- ---- the seconds are as many bytes as their plain decimal has
 run-digits : (w : List ℕ) (b : ℕ) (t : List ℕ) → Between 48 57 w → isDigit b ≡ false → run isDigit (w ++ b ∷ t) ≡ length w
@@ -51,61 +53,67 @@ unfolding signed numeral isSign
 numeral-signed (pos n) b t e = numeral-digits (decimal n) b t (length-decimal-pos n) (decimal-digits n .0) e
 numeral-signed (negsuc n) b t e = ap suc (run-digits (decimal (suc n)) b t (decimal-digits (suc n) .0) e)
 
--- ---- the bytes of a header: the seconds, and the tail of the offset
-headerBytes-append : (t : Time) (u : List ℕ) → headerBytes t ++ u ≡ signed (t .seconds) ++ (tailBytes (t .offset) ++ u)
-unfolding headerBytes headerSign
+-- ---- the bytes of a header: the seconds, and the tail
+headerBytes-append : (t : Time) (u : List ℕ) → headerBytes t ++ u ≡ signed (t .seconds) ++ (tailBytes t ++ u)
+unfolding headerBytes
 headerBytes-append t u =
-    ap (λ (w : List ℕ). w ++ u) (signedBefore-append (t .seconds) (tailBytes (t .offset))) ∙ append-assoc (signed (t .seconds)) (tailBytes (t .offset)) u
+    ap (λ (w : List ℕ). w ++ u) (signedBefore-append (t .seconds) (tailBytes t)) ∙ append-assoc (signed (t .seconds)) (tailBytes t) u
 
 pub headerBytes-between : (t : Time) → natAbs (t .offset) < 360000 → Between 32 57 (headerBytes t)
-unfolding headerBytes headerSign wholeMinutes
+unfolding headerBytes wholeMinutes
 headerBytes-between t h =
-    let sign = signByte-between (t .offset) in
+    let sign = sign-between (headerSign t) (headerSign-sign t) in
     let n = natAbs (t .offset) / 60 in
     let two : (k : ℕ) (w : List ℕ) → k < 100 → Between 32 57 w → Between 32 57 (twoBefore k w) = twoBefore-between 32 57 (omega arith) (omega arith) in
-    signedBefore-between 32 57 (omega arith) (omega arith) (t .seconds) (tailBytes (t .offset)) (
+    signedBefore-between 32 57 (omega arith) (omega arith) (t .seconds) (tailBytes t) (
       omega arith,
       omega arith,
       (omega (arith, sign .0), sign .1, two (n / 60) (twoBefore (n % 60) []) (omega arith) (two (n % 60) [] (omega arith) tt)),
     )
 
 -- ---- a stamp in two steps
--- the stamp of these seconds and this offset, if both are there
-abbrev pub stampWith : Integer → Integer → Stamp
-stampWith (Is z) (Is o) = At (timeAt z o)
-stampWith (Is z) NoInteger = NoStamp
-stampWith NoInteger o = NoStamp
+-- the stamp of these seconds and this tail, if both are there
+abbrev pub stampWith : Integer → Tail → Stamp
+stampWith (Is z) (IsTail o m) = At (timeMarked z o m)
+stampWith (Is z) NoTail = NoStamp
+stampWith NoInteger x = NoStamp
 
 module _ (d : List ℕ) where
   abbrev seconds : Integer
   seconds = fitSigned (2 ^ 63) (printed (take (numeral d) d))
 
-  abbrev offset : Integer
-  offset = tailOf (drop (numeral d) d)
+  abbrev tail : Tail
+  tail = tailOf (drop (numeral d) d)
 
   -- if both are there, the line is their header
-  before-is : (z o : ℤ) → seconds ≡ Is z → offset ≡ Is o → before newline d ≡ headerBytes (timeAt z o)
-  before-is z o e k =
-      let tail = HasTail-of-tailOf (drop (numeral d) d) o k in
-      let u = drop 6 (drop (numeral d) d) in
-      let w : take (numeral d) d ≡ signed z = printed-bytes (take (numeral d) d) z (fitSigned-value (2 ^ 63) (printed (take (numeral d) d)) z e) in
-      let whole : d ≡ headerBytes (timeAt z o) ++ u =
-      sym (take-append-drop (numeral d) d) ∙ (λ i. w i ++ tail .bytes-are i) ∙ sym (headerBytes-append (timeAt z o) u) in
-      ap (before newline) whole
-      ∙ before-of-endsHere (headerBytes (timeAt z o)) u (Free-of-between newline 32 57 (omega arith) (headerBytes (timeAt z o)) (headerBytes-between (timeAt z o) (tail .small))) (tail .ends)
+  module _ (z o : ℤ) (m : Bool) (e : seconds ≡ Is z) (k : tail ≡ IsTail o m) where
+    abbrev time : Time
+    time = timeMarked z o m
 
-  stampOf-of-both : (z o : ℤ) → seconds ≡ Is z → offset ≡ Is o → stampOf (before newline d) ≡ At (timeAt z o)
-  stampOf-of-both z o e k =
-      let tail = HasTail-of-tailOf (drop (numeral d) d) o k in
-      ap stampOf (before-is z o e k)
-      ∙ stampOf-headerBytes (timeAt z o) (In-of-fitSigned (2 ^ 63) (printed (take (numeral d) d)) z e) (tail .small) (tail .whole)
+    has-tail : HasTail (drop (numeral d) d) time
+    has-tail = HasTail-of-tailOf (drop (numeral d) d) z o m k
+
+    before-is : before newline d ≡ headerBytes time
+    before-is =
+        let u = drop 6 (drop (numeral d) d) in
+        let w : take (numeral d) d ≡ signed z = printed-bytes (take (numeral d) d) z (fitSigned-value (2 ^ 63) (printed (take (numeral d) d)) z e) in
+        let whole : d ≡ headerBytes time ++ u =
+        sym (take-append-drop (numeral d) d) ∙ (λ i. w i ++ has-tail .bytes-are i) ∙ sym (headerBytes-append time u) in
+        ap (before newline) whole
+        ∙ before-of-endsHere (headerBytes time) u (Free-of-between newline 32 57 (omega arith) (headerBytes time) (headerBytes-between time (has-tail .small))) (has-tail .ends)
+
+    stampOf-of-both : stampOf (before newline d) ≡ At time
+    stampOf-of-both =
+        ap stampOf before-is
+        ∙ stampOf-headerBytes time (In-of-fitSigned (2 ^ 63) (printed (take (numeral d) d)) z e) (has-tail .small) (has-tail .whole)
+        ∙ (λ i. At (timeMarked z o (sym (has-tail .settled-is) i)))
 
   -- if the line is a stamp, both are there
   module _ (t : Time) (e : stampOf (before newline d) ≡ At t) where
     abbrev behind : List ℕ
     behind = drop (firstPlace newline d) d
 
-    whole-is : d ≡ signed (t .seconds) ++ (tailBytes (t .offset) ++ behind)
+    whole-is : d ≡ signed (t .seconds) ++ (tailBytes t ++ behind)
     whole-is = sym (take-append-drop (firstPlace newline d) d) ∙ ap (λ (w : List ℕ). w ++ behind) (stampOf-bytes (before newline d) t e) ∙ headerBytes-append t behind
 
     numeral-is : numeral d ≡ length (signed (t .seconds))
@@ -114,26 +122,27 @@ module _ (d : List ℕ) where
 
     seconds-are : seconds ≡ Is (t .seconds)
     seconds-are =
-        ap (λ (w : List ℕ). fitSigned (2 ^ 63) (printed w)) ((λ i. take (numeral-is i) (whole-is i)) ∙ take-append-seam (signed (t .seconds)) (tailBytes (t .offset) ++ behind))
+        ap (λ (w : List ℕ). fitSigned (2 ^ 63) (printed w)) ((λ i. take (numeral-is i) (whole-is i)) ∙ take-append-seam (signed (t .seconds)) (tailBytes t ++ behind))
         ∙ fitSigned-printed-signed (t .seconds) (stampOf-good (before newline d) t e .2)
 
-    offset-is : offset ≡ Is (t .offset)
-    offset-is =
+    tail-is : tail ≡ IsTail (t .offset) (t .mark)
+    tail-is =
         let good = stampOf-good (before newline d) t e in
-        ap tailOf ((λ i. drop (numeral-is i) (whole-is i)) ∙ drop-append-seam (signed (t .seconds)) (tailBytes (t .offset) ++ behind))
-        ∙ tailOf-tailBytes (t .offset) behind (good .1) (good .0) (endsHere-firstPlace d)
+        ap tailOf ((λ i. drop (numeral-is i) (whole-is i)) ∙ drop-append-seam (signed (t .seconds)) (tailBytes t ++ behind))
+        ∙ tailOf-tailBytes (t .seconds) (t .offset) (t .mark) behind (good .1) (good .0) (endsHere-firstPlace d)
+        ∙ ap (IsTail (t .offset)) (sym (stampOf-settled (before newline d) t e))
 
-  pub stampOf-before : stampOf (before newline d) ≡ stampWith seconds offset
+  pub stampOf-before : stampOf (before newline d) ≡ stampWith seconds tail
   stampOf-before = go (stampOf (before newline d)) refl
     where
-      neither : (x y : Integer) → seconds ≡ x → offset ≡ y → stampOf (before newline d) ≡ NoStamp → NoStamp ≡ stampWith x y
-      neither (Is z) (Is o) e k n = let m = stampOf-of-both z o e k in let q : _≡_ {A = ℕ} 0 1 = cc in absurd (omega arith)
-      neither (Is z) NoInteger e k n = refl
+      neither : (x : Integer) (y : Tail) → seconds ≡ x → tail ≡ y → stampOf (before newline d) ≡ NoStamp → NoStamp ≡ stampWith x y
+      neither (Is z) (IsTail o m) e k n = let both-there = stampOf-of-both z o m e k in let q : _≡_ {A = ℕ} 0 1 = cc in absurd (omega arith)
+      neither (Is z) NoTail e k n = refl
       neither NoInteger y e k n = refl
 
-      go : (x : Stamp) → stampOf (before newline d) ≡ x → x ≡ stampWith seconds offset
-      go (At t) e = sym (λ i. stampWith (seconds-are t e i) (offset-is t e i))
-      go NoStamp e = neither seconds offset refl refl e
+      go : (x : Stamp) → stampOf (before newline d) ≡ x → x ≡ stampWith seconds tail
+      go (At t) e = sym (λ i. stampWith (seconds-are t e i) (tail-is t e i))
+      go NoStamp e = neither seconds tail refl refl e
 
 -- the same at a place of a text, where the seconds are read first
 module _ (s : List ℕ) (at : ℕ) (r : PrintedNumber) (p : OpensPrinted (2 ^ 63) (drop at s) at r) where
@@ -146,9 +155,9 @@ module _ (s : List ℕ) (at : ℕ) (r : PrintedNumber) (p : OpensPrinted (2 ^ 63
   pub stampOf-no-seconds : r .number ≡ NoInteger → NoStamp ≡ stampOf (before newline (drop at s))
   stampOf-no-seconds e = sym (stampOf-with ∙ ap (λ (x : Integer). stampWith x (tailOf (drop (r .end) s))) e)
 
-  module _ (z : ℤ) (e : r .number ≡ Is z) (y : Integer) (k : y ≡ tailOf (drop (r .end) s)) where
-    pub stampOf-no-tail : y ≡ NoInteger → NoStamp ≡ stampOf (before newline (drop at s))
+  module _ (z : ℤ) (e : r .number ≡ Is z) (y : Tail) (k : y ≡ tailOf (drop (r .end) s)) where
+    pub stampOf-no-tail : y ≡ NoTail → NoStamp ≡ stampOf (before newline (drop at s))
     stampOf-no-tail n = sym (stampOf-with ∙ λ i. stampWith (e i) ((sym k ∙ n) i))
 
-    pub stampOf-seconds-tail : (o : ℤ) → y ≡ Is o → At (timeAt z o) ≡ stampOf (before newline (drop at s))
-    stampOf-seconds-tail o n = sym (stampOf-with ∙ λ i. stampWith (e i) ((sym k ∙ n) i))
+    pub stampOf-seconds-tail : (o : ℤ) (m : Bool) → y ≡ IsTail o m → At (timeMarked z o m) ≡ stampOf (before newline (drop at s))
+    stampOf-seconds-tail o m n = sym (stampOf-with ∙ λ i. stampWith (e i) ((sym k ∙ n) i))

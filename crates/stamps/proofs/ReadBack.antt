@@ -1,6 +1,6 @@
 -- What the writer of a line writes, the reader of lines reads back (RULES 13.12): from the bytes of a line (`hull-read-back`,
 -- `since-read-back`) and from the room that a call has written to (`hull-read-back-in-room`, `since-read-back-in-room`), which
--- then holds one good line. The time comes back, and within the bounds that are read are the path and the key, or the text. In
+-- then holds one good line. The time comes back, without a mark that means nothing (`settled`, `unmarked`), and within the bounds that are read are the path and the key, or the text. In
 -- order: texts without tab and newline; four such texts with tabs between; a line with its newline; the room; the text between
 -- two places of a line; a line of a hull; a line of a cut-off.
 -- Assumes nothing.
@@ -24,7 +24,7 @@ use Rattle.text.proofs.Decimals.{Between}
 use Rattle.text.proofs.FirstPlaces.{Free, firstPlace-of-Free}
 use Rattle.text.proofs.Lists.{by-test, both}
 use Rattle.text.proofs.Signed.{signed-between}
-use Rattle.time.specs.Answers.{isWritten}
+use Rattle.time.specs.Answers.{unmarked, isWritten}
 use Rattle.time.specs.Header.{headerBytes}
 use Rattle.time.specs.Range.{timeInRange, secondsInRange, offsetInRange, leastSeconds, mostSeconds, leastOffset, mostOffset}
 use Rattle.time.specs.declared.Time.{Time}
@@ -34,11 +34,12 @@ use Rattle.time.specs.declared.Answer.the-variants.{Time as Read, Refused as No
 use Rattle.time.specs.declared.Written.the-variants.{Length}
 use Rattle.header.specs.Theorems.{Seconds64}
 use Rattle.relative.specs.Relative.{relativeOf}
+use Rattle.relative.proofs.Unmarked.{current-mark-ignored}
 use Rattle.stamps.specs.Lines.{every, isPathByte, isHexDigit, spanAt, hullAt, hullOf, sinceAt, sinceWith, sinceOf, lineOf, isGood}
 use Rattle.stamps.specs.Writing.{hullLine, sinceLine, ended, isHull, isRead, isSince, lineWritten, hullWritten, sinceWritten}
 use Rattle.stamps.specs.Book.{judged, linesIn, lastPiece}
 use Rattle.stamps.specs.Copies.{joined}
-use Rattle.stamps.specs.Theorems.{areGood}
+use Rattle.stamps.specs.Theorems.{settled, areGood}
 use Rattle.stamps.specs.Held.{isTextByte}
 use Rattle.stamps.specs.declared.line.Line.{Line}
 use Rattle.stamps.specs.declared.stamp.Stamp.the-variants.{At}
@@ -175,9 +176,9 @@ part-hullLine-key path key t =
     let e : hullLine path key t ≡ (h ++ tab ∷ []) ++ (key ++ tab ∷ headerBytes t) = append-assoc h (tab ∷ key) (tab ∷ headerBytes t) ∙ sym (append-assoc h (tab ∷ []) (key ++ tab ∷ headerBytes t)) in
     part-middle (hullLine path key t) (h ++ tab ∷ []) key (tab ∷ headerBytes t) (5 + length path + 1) e (omega (arith, length-append h (tab ∷ [])))
 
--- the line of good values is read as a line of that time, and within its bounds are the path and the key
+-- the line of good values is read as a line of that time, without a mark that means nothing, and within its bounds are the path and the key
 pub hull-read-back : (bound : ℕ) (path key : List ℕ) (t : Time) → isHull path key t ≡ true → Seconds64 (t .seconds)
-    → (lineOf bound (hullLine path key t) ≡ hullAt path key (At t))
+    → (lineOf bound (hullLine path key t) ≡ hullAt path key (At (settled t)))
     × (part (hullLine path key t) (spanAt 5 path) ≡ path)
     × (part (hullLine path key t) (spanAt (5 + length path + 1) key) ≡ key)
 hull-read-back bound path key t e r =
@@ -199,7 +200,7 @@ module _ (path key : List ℕ) (t : Time) (room : List ℕ) (n : ℕ) (e : hullW
   -- and so a book of one good line
   pub hull-read-back-in-room : (bound : ℕ) → Seconds64 (t .seconds)
       → let written = take n (roomAfter (isWritten (hullWritten path key t room)) (ended (hullLine path key t)) room) in
-      (linesIn bound written ≡ hullAt path key (At t) ∷ []) × (part written (spanAt 5 path) ≡ path) × (part written (spanAt (5 + length path + 1) key) ≡ key)
+      (linesIn bound written ≡ hullAt path key (At (settled t)) ∷ []) × (part written (spanAt 5 path) ≡ path) × (part written (spanAt (5 + length path + 1) key) ≡ key)
   unfolding hullWritten
   hull-read-back-in-room bound r =
       let l = hullLine path key t in
@@ -259,20 +260,21 @@ part-sinceLine-text text current =
     (append-assoc (bytes "since" ++ tab ∷ text) seconds offset ∙ append-assoc (bytes "since" ++ tab ∷ []) text (seconds ++ offset))
     refl
 
--- the line of good values is read as a good line of that current time, whose cut-off is the time that the text means at it; and
+-- the line of good values is read as a good line of that current time, without its mark, whose cut-off is the time that the text means at it; and
 -- within its bounds is the text
 pub since-read-back : (bound : ℕ) (text : List ℕ) (current : Time) → isSince bound text current ≡ true
-    → (lineOf bound (sinceLine text current) ≡ sinceAt text current (relativeOf bound text (CurrentAt current)))
+    → (lineOf bound (sinceLine text current) ≡ sinceAt text (unmarked current) (relativeOf bound text (CurrentAt current)))
     × (isGood (lineOf bound (sinceLine text current)) ≡ true)
     × (part (sinceLine text current) (spanAt 6 text) ≡ text)
 unfolding sinceOf
 since-read-back bound text current e =
     let good = goodSince bound text current e in
     let f = since-fields bound text current e in
-    let line-is : lineOf bound (sinceLine text current) ≡ sinceAt text current (relativeOf bound text (CurrentAt current)) =
+    let line-is : lineOf bound (sinceLine text current) ≡ sinceAt text (unmarked current) (relativeOf bound text (CurrentAt current)) =
     lineOf-since bound (sinceLine text current) (f .one-line) (f .first-is) ∙ (λ i. sinceOf bound (f .second-is i) (f .third-is i) (f .fourth-is i))
-    ∙ (λ i. sinceWith bound text (printed-signed (current .seconds) (good .seconds-in) i) (printed-signed (current .offset) (good .offset-in) i)) in
-    (line-is, ap isGood line-is ∙ sinceAt-good text current (relativeOf bound text (CurrentAt current)) (good .read), part-sinceLine-text text current)
+    ∙ (λ i. sinceWith bound text (printed-signed (current .seconds) (good .seconds-in) i) (printed-signed (current .offset) (good .offset-in) i))
+    ∙ ap (sinceAt text (unmarked current)) (sym (current-mark-ignored bound text current)) in
+    (line-is, ap isGood line-is ∙ sinceAt-good text (unmarked current) (relativeOf bound text (CurrentAt current)) (good .read), part-sinceLine-text text current)
 
 module _ (bound : ℕ) (text : List ℕ) (current : Time) (room : List ℕ) (n : ℕ) (e : sinceWritten bound text current room ≡ Length n) where
   pub since-in-room : take n (roomAfter (isWritten (sinceWritten bound text current room)) (ended (sinceLine text current)) room) ≡ ended (sinceLine text current)
@@ -280,7 +282,7 @@ module _ (bound : ℕ) (text : List ℕ) (current : Time) (room : List ℕ) (n :
   since-in-room = inRoom (isSince bound text current) (sinceLine text current) room n e .bytes-are
 
   pub since-read-back-in-room : let written = take n (roomAfter (isWritten (sinceWritten bound text current room)) (ended (sinceLine text current)) room) in
-      (linesIn bound written ≡ sinceAt text current (relativeOf bound text (CurrentAt current)) ∷ []) × (areGood (linesIn bound written) ≡ true) × (part written (spanAt 6 text) ≡ text)
+      (linesIn bound written ≡ sinceAt text (unmarked current) (relativeOf bound text (CurrentAt current)) ∷ []) × (areGood (linesIn bound written) ≡ true) × (part written (spanAt 6 text) ≡ text)
   unfolding sinceWritten areGood
   since-read-back-in-room =
       let l = sinceLine text current in

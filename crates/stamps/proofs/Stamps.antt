@@ -1,18 +1,19 @@
 -- Stamps (RULES 13.5). In order: what a stamp says about its text; the seconds and the offset of a stamp; what the header writer
--- writes at an offset of whole minutes is a stamp; so the stamps are exactly those texts.
+-- writes at an offset of whole minutes is a stamp; so the stamps are exactly those texts (`stamp-is-what-the-writer-writes`).
 -- Assumes nothing.
 use mathlib.Core.Path.{_≡_, refl, sym, ap, _∙_}
-use mathlib.Core.Bool.{true, false, _&&_, false≢true, or-true}
+use mathlib.Core.Bool.{Bool, true, false, _&&_, _||_, false≢true, or-true, or-false}
 use mathlib.Core.List.{List, [], _∷_, _++_}
 use mathlib.Core.Logic.{_↔_}
 use Prim.Native.Char.{code}
-use Prim.Native.Nat.{ℕ, _+_, _/_, _%_, _^_, _≤_, _<_}
+use Prim.Native.Nat.{ℕ, suc, _+_, _/_, _%_, _^_, _≤_, _<_}
 use native.Mathlib.Omega.{arith}
-use borrow.Author.Tests.{eqb-true, leb-true, leb-false}
+use borrow.Author.Tests.{eqb-true, leb-true, leb-false, lt-leb}
 use lib.Dec.{leb}
-use lib.IntN.{ℤ, pos, negℤ, predℤ, natAbs}
+use lib.IntN.{ℤ, pos, negsuc, negℤ, predℤ, natAbs}
 use lib.Signed.{leZ, ltZ}
-use Rattle.ints.specs.Range.{In}
+use Rattle.ints.specs.Equal.{eqZ}
+use Rattle.ints.specs.Range.{In, isIn}
 use Rattle.ints.proofs.Parts.{le-parts, natAbs-parts, one-up, one-dn}
 use Rattle.text.specs.Bytes.{isSpace, isDigit, ascii, same}
 use Rattle.text.specs.Places.{has, leading}
@@ -26,19 +27,21 @@ use Rattle.text.specs.declared.number.FittedInteger.the-variants.{Is as Fits, T
 use Rattle.text.proofs.Lists.{by-test, both}
 use Rattle.text.proofs.Runs.{has-cons}
 use Rattle.text.proofs.Signed.{signedBefore-append, In-of-tests}
-use Rattle.time.specs.Header.{headerBytes, headerSign, wholeMinutes, cutToMinutes}
+use Rattle.time.specs.Answers.{timeMarked}
+use Rattle.time.specs.Header.{headerBytes, headerSign, isMinusZero, wholeMinutes, cutToMinutes}
 use Rattle.time.specs.declared.Time.{Time as TimeValue}
 use Rattle.time.specs.declared.Answer.{Answer}
 use Rattle.time.specs.declared.Answer.the-variants.{Time, Refused}
 use Rattle.time.proofs.Minutes.{cut-of-whole}
 use Rattle.header.specs.Header.{number64, numberOr, secondsOf, headerTime, headerOfWords, headerOffset, headerOf}
 use Rattle.header.specs.Offset.{onlyWord}
-use Rattle.header.specs.Theorems.{Seconds64}
+use Rattle.header.specs.Theorems.{Seconds64, readBack}
 use Rattle.header.specs.declared.offset.Parsed.{Parsed}
 use Rattle.header.specs.declared.offset.Parsed.the-variants.{Offset, Nothing as NoOffset}
 use Rattle.header.proofs.ReadBack.{header-read-back}
 use Rattle.header.proofs.Reach.{header-offset-in}
 use Rattle.stamps.specs.Stamps.{stampOf, stampAs, isWholeMinutes}
+use Rattle.stamps.specs.Theorems.{settled}
 use Rattle.stamps.specs.declared.stamp.Stamp.the-variants.{At}
 use Rattle.stamps.proofs.Printed.{same-self, eq-of-same}
 
@@ -140,14 +143,48 @@ cutToMinutes-whole : (o : ℤ) → isWholeMinutes o ≡ true → cutToMinutes o 
 unfolding isWholeMinutes
 cutToMinutes-whole o e = cut-of-whole o (eqb-true (natAbs o % 60) 0 e)
 
-pub stampOf-headerBytes : (t : TimeValue) → Seconds64 (t .seconds) → natAbs (t .offset) < 360000 → isWholeMinutes (t .offset) ≡ true → stampOf (headerBytes t) ≡ At t
-unfolding stampOf
-stampOf-headerBytes t r h w = rw (header-read-back t r h, cutToMinutes-whole (t .offset) w, w, same-self (headerBytes t))
+-- no offset from -59 to -1 is whole minutes
+not-under-a-minute : (o : ℤ) → isWholeMinutes o ≡ true → isIn (negsuc 58) (negsuc 0) o ≡ false
+unfolding isWholeMinutes
+not-under-a-minute (pos n) e = refl
+not-under-a-minute (negsuc n) e =
+    let k : suc n % 60 ≡ 0 = eqb-true (suc n % 60) 0 e in
+    rw (lt-leb n 58 (omega arith))
 
--- so the stamps are exactly what the header writer writes for times of 64-bit seconds at offsets of whole minutes under 100 hours
+readBack-whole : (t : TimeValue) → isWholeMinutes (t .offset) ≡ true → readBack t ≡ settled t
+readBack-whole t w =
+    let m : (isMinusZero t || isIn (negsuc 58) (negsuc 0) (t .offset)) ≡ isMinusZero t = rw (not-under-a-minute (t .offset) w, or-false) in
+    λ i. timeMarked (t .seconds) (cutToMinutes-whole (t .offset) w i) (m i)
+
+-- a mark that means nothing is not written
+and-again : (a b : Bool) → ((a && b) && b) ≡ (a && b)
+and-again true true = refl
+and-again true false = refl
+and-again false b = refl
+
+headerBytes-settled : (t : TimeValue) → headerBytes (settled t) ≡ headerBytes t
+unfolding headerBytes headerSign
+headerBytes-settled t = rw (and-again (t .mark) (eqZ (t .offset) (pos 0)))
+
+-- it is a stamp of that time, without a mark that means nothing
+pub stampOf-headerBytes : (t : TimeValue) → Seconds64 (t .seconds) → natAbs (t .offset) < 360000 → isWholeMinutes (t .offset) ≡ true → stampOf (headerBytes t) ≡ At (settled t)
+unfolding stampOf
+stampOf-headerBytes t r h w =
+    ap (λ (a : Answer). stampAs a (headerBytes t)) (header-read-back t r h ∙ ap Time (readBack-whole t w))
+    ∙ rw (w, headerBytes-settled t, same-self (headerBytes t))
+
+pub stampOf-settled : (s : List ℕ) (t : TimeValue) → stampOf s ≡ At t → t .mark ≡ isMinusZero t
+stampOf-settled s t e =
+    let good = stampOf-good s t e in
+    let k : At t ≡ At (settled t) = sym e ∙ ap stampOf (stampOf-bytes s t e) ∙ stampOf-headerBytes t (good .2) (good .1) (good .0) in
+    let same : t ≡ settled t = cc in
+    ap (λ (u : TimeValue). u .mark) same
+
+-- so the stamps are exactly what the header writer writes for times of 64-bit seconds at offsets of whole minutes under 100 hours, whose
+-- mark is set only beside offset 0. With a mark beside another offset the same bytes are written (`stampOf-headerBytes`)
 pub stamp-is-what-the-writer-writes : (s : List ℕ) (t : TimeValue)
-    → (stampOf s ≡ At t) ↔ ((s ≡ headerBytes t) × (isWholeMinutes (t .offset) ≡ true) × (natAbs (t .offset) < 360000) × Seconds64 (t .seconds))
+    → (stampOf s ≡ At t) ↔ ((s ≡ headerBytes t) × (isWholeMinutes (t .offset) ≡ true) × (natAbs (t .offset) < 360000) × Seconds64 (t .seconds) × (t .mark ≡ isMinusZero t))
 stamp-is-what-the-writer-writes s t = (
-  λ e. let good = stampOf-good s t e in (stampOf-bytes s t e, good .0, good .1, good .2),
-  λ w. ap stampOf (w .0) ∙ stampOf-headerBytes t (w .3) (w .2) (w .1),
+  λ e. let good = stampOf-good s t e in (stampOf-bytes s t e, good .0, good .1, good .2, stampOf-settled s t e),
+  λ w. ap stampOf (w .0) ∙ stampOf-headerBytes t (w .3) (w .2) (w .1) ∙ (λ i. At (timeMarked (t .seconds) (t .offset) (sym (w .4) i))),
 )

@@ -1,27 +1,30 @@
 -- The tail of a stamp, which is what follows its seconds (RULES 13.5). In order: its tests at a place of a text; a text that is
--- too short; the tail that is written for an offset has that offset; a tail with an offset is the one that is written for it.
+-- too short; the tail that is written for a time has its offset, and its mark if that counts; a tail with an offset and a mark is the one
+-- that is written for them.
 -- Assumes nothing.
 use mathlib.Core.Path.{_≡_, refl, sym, ap, _∙_}
-use mathlib.Core.Bool.{Bool, true, false, _&&_, and-false, or-false}
+use mathlib.Core.Bool.{Bool, true, false, cond, _&&_, and-false, or-false}
 use mathlib.Core.List.{List, [], _∷_, _++_}
 use Prim.Native.Char.{code}
 use Prim.Native.Nat.{ℕ, zero, suc, _+_, _*_, _/_, _%_, _<_}
 use native.Mathlib.Nat.{add-zero}
 use native.Mathlib.Omega.{arith}
-use borrow.Author.Tests.{eqb-true, eq-eqb, ne-eqb, lt-ltb, ltb-true}
-use lib.Dec.{ltb, eqb}
-use lib.IntN.{ℤ, pos, negsuc, natAbs}
+use borrow.Author.Tests.{eqb-true, eq-eqb, lt-ltb, ltb-true}
+use lib.Dec.{ltb, eqb, eqb·suc-zero}
+use lib.IntN.{ℤ, pos, negsuc, negℤ, natAbs}
 use lib.ListN.{length, drop, getD}
 use lib.Seq.{getD-drop, drop-drop}
 use Rattle.text.specs.Bytes.{isDigit, isSign}
 use Rattle.text.specs.Decimal.{twoBefore}
-use Rattle.text.specs.declared.number.Integer.the-variants.{Is, Nothing as NoInteger}
 use Rattle.text.proofs.Lists.{by-test, both, getD-of-length-le}
 use Rattle.text.proofs.Numbers.{digit-range, isDigit-of-le}
-use Rattle.time.specs.Header.{offsetBytes, signByte, wholeMinutes, space}
+use Rattle.time.specs.Answers.{timeMarked}
+use Rattle.time.specs.Header.{offsetBytes, headerSign, isMinusZero, signByte, wholeMinutes, space}
+use Rattle.time.specs.declared.Time.{Time}
 use Rattle.header.specs.Held.{twoDigits}
 use Rattle.stamps.specs.Stamps.{isWholeMinutes}
-use Rattle.stamps.specs.Held.{clockSize, offsetWith, fourDigits, endsHere, isTail, tailOf}
+use Rattle.stamps.specs.Held.{clockSize, tailWith, fourDigits, endsHere, isTail, tailOf}
+use Rattle.stamps.specs.declared.stamp.Tail.the-variants.{Is, Nothing as NoTail}
 
 all-five : (a b c d e : Bool) → (a && b && c && d && e) ≡ true → (a ≡ true) × (b ≡ true) × (c ≡ true) × (d ≡ true) × (e ≡ true)
 all-five a b c d e k =
@@ -43,7 +46,7 @@ module _ (s : List ℕ) (at : ℕ) where
   isTail-drop = simp (getD-drop, drop-drop, add-zero)
 
   pub tailOf-of-tests : tests ≡ true
-      → tailOf (drop at s) ≡ offsetWith (eqb (getD s (at + 1) 0) (code "-")) (clockSize (getD s (at + 2) 0) (getD s (at + 3) 0) (getD s (at + 4) 0) (getD s (at + 5) 0))
+      → tailOf (drop at s) ≡ tailWith (eqb (getD s (at + 1) 0) (code "-")) (clockSize (getD s (at + 2) 0) (getD s (at + 3) 0) (getD s (at + 4) 0) (getD s (at + 5) 0))
   unfolding tailOf
   tailOf-of-tests e = rw (isTail-drop, e) (simp getD-drop)
 
@@ -52,12 +55,12 @@ module _ (s : List ℕ) (at : ℕ) where
       all-five (eqb (getD s at 0) (code " ")) (isSign (getD s (at + 1) 0)) (fourDigits (getD s (at + 2) 0) (getD s (at + 3) 0) (getD s (at + 4) 0) (getD s (at + 5) 0))
       (ltb (getD s (at + 4) 0) (code "6")) (endsHere (drop (at + 6) s)) e .2
 
-  pub tailOf-of-no-test : tests ≡ false → tailOf (drop at s) ≡ NoInteger
+  pub tailOf-of-no-test : tests ≡ false → tailOf (drop at s) ≡ NoTail
   unfolding tailOf
   tailOf-of-no-test e = rw (isTail-drop, e)
 
 -- ---- a text that is too short
-pub tailOf-of-length : (s : List ℕ) → length s < 6 → tailOf s ≡ NoInteger
+pub tailOf-of-length : (s : List ℕ) → length s < 6 → tailOf s ≡ NoTail
 unfolding tailOf isTail isDigit
 tailOf-of-length s h =
     rw (
@@ -67,9 +70,9 @@ tailOf-of-length s h =
       and-false (eqb (getD s 0 0) (code " ") && isSign (getD s 1 0)),
     )
 
--- ---- the tail that is written for an offset
-abbrev pub tailBytes : ℤ → List ℕ
-tailBytes o = space ∷ offsetBytes (signByte o) (wholeMinutes o)
+-- ---- the tail that is written for a time
+abbrev pub tailBytes : Time → List ℕ
+tailBytes t = space ∷ offsetBytes (headerSign t) (wholeMinutes (t .offset))
 
 -- whole minutes are their digits' hours and minutes
 module _ (n : ℕ) (h : n < 360000) (w : n % 60 ≡ 0) where
@@ -94,29 +97,44 @@ module _ (n : ℕ) (h : n < 360000) (w : n % 60 ≡ 0) where
   minutes-lt : ltb (48 + minutes / 10) (code "6") ≡ true
   minutes-lt = lt-ltb (48 + minutes / 10) (code "6") (omega arith)
 
-pub tailOf-tailBytes : (o : ℤ) (t : List ℕ) → natAbs o < 360000 → isWholeMinutes o ≡ true → endsHere t ≡ true → tailOf (tailBytes o ++ t) ≡ Is o
-unfolding tailOf isTail offsetWith isSign signByte wholeMinutes isWholeMinutes
-tailOf-tailBytes (pos n) t h w e =
-    let k = eqb-true (n % 60) 0 w in
-    rw (fourDigits-digits n h k, minutes-lt n h k, e, clockSize-digits n h k)
-tailOf-tailBytes (negsuc n) t h w e =
+pub tailOf-tailBytes : (z o : ℤ) (m : Bool) (t : List ℕ) → natAbs o < 360000 → isWholeMinutes o ≡ true → endsHere t ≡ true
+    → tailOf (tailBytes (timeMarked z o m) ++ t) ≡ Is o (isMinusZero (timeMarked z o m))
+unfolding tailOf isTail tailWith isSign isDigit headerSign signByte wholeMinutes isWholeMinutes
+tailOf-tailBytes z (pos zero) true t h w e = rw e
+tailOf-tailBytes z (pos zero) false t h w e = rw e
+tailOf-tailBytes z (pos (suc n)) m t h w e =
     let k = eqb-true (suc n % 60) 0 w in
-    rw (fourDigits-digits (suc n) h k, minutes-lt (suc n) h k, e, clockSize-digits (suc n) h k, ne-eqb (suc n) 0 (λ z. omega arith))
+    rw (eqb·suc-zero, and-false m, fourDigits-digits (suc n) h k, minutes-lt (suc n) h k, e, clockSize-digits (suc n) h k)
+tailOf-tailBytes z (negsuc n) m t h w e =
+    let k = eqb-true (suc n % 60) 0 w in
+    rw (and-false m, fourDigits-digits (suc n) h k, minutes-lt (suc n) h k, e, clockSize-digits (suc n) h k, eqb·suc-zero)
 
--- ---- a tail with an offset
--- the sign and the size of the offset
+-- ---- a tail with an offset and a mark
+-- the size and the sign of the offset, and the mark, which is set only beside 0
 plus-of-isSign : (b : ℕ) → isSign b ≡ true → eqb b (code "-") ≡ false → b ≡ code "+"
 unfolding isSign
 plus-of-isSign b e m = eqb-true b (code "+") (rw (m, or-false) at e)
 
-natAbs-signByte-of-offsetWith : (b n : ℕ) (o : ℤ) → isSign b ≡ true → offsetWith (eqb b (code "-")) n ≡ Is o → (natAbs o ≡ n) × (signByte o ≡ b)
-unfolding offsetWith signByte
-natAbs-signByte-of-offsetWith b zero o e k =
-    by-test (eqb b (code "-")) (λ m. let q = rw m at k in let z : _≡_ {A = ℕ} 0 1 = cc in absurd (omega arith))
-    (λ m. let q : pos 0 ≡ o = cc (rw m at k) in rw (← q) (refl, sym (plus-of-isSign b e m)))
-natAbs-signByte-of-offsetWith b (suc n) o e k =
-    by-test (eqb b (code "-")) (λ m. let q : negsuc n ≡ o = cc (rw (m, ne-eqb (suc n) 0 (λ z. omega arith)) at k) in rw (← q) (refl, sym (eqb-true b (code "-") m)))
-    (λ m. let q : pos (suc n) ≡ o = cc (rw m at k) in rw (← q) (refl, sym (plus-of-isSign b e m)))
+record WithSign (b n : ℕ) (t : Time) : Type 0 where
+  size-is : natAbs (t .offset) ≡ n
+  sign-is : headerSign t ≡ b
+  settled-is : t .mark ≡ isMinusZero t
+
+withSign : (b n : ℕ) (z : ℤ) → isSign b ≡ true → WithSign b n (timeMarked z (cond (eqb b (code "-")) (negℤ (pos n)) (pos n)) (eqb b (code "-") && eqb n 0))
+unfolding headerSign signByte
+withSign b zero z e =
+    by-test (eqb b (code "-")) (λ m. rw m (record { size-is = refl; sign-is = sym (eqb-true b (code "-") m); settled-is = refl }))
+    (λ m. rw m (record { size-is = refl; sign-is = sym (plus-of-isSign b e m); settled-is = refl }))
+withSign b (suc n) z e =
+    by-test (eqb b (code "-")) (λ m. rw (m, eqb·suc-zero) (record { size-is = refl; sign-is = sym (eqb-true b (code "-") m); settled-is = refl }))
+    (λ m. rw m (record { size-is = refl; sign-is = sym (plus-of-isSign b e m); settled-is = refl }))
+
+withSign-of-tailWith : (b n : ℕ) (z o : ℤ) (m : Bool) → isSign b ≡ true → tailWith (eqb b (code "-")) n ≡ Is o m → WithSign b n (timeMarked z o m)
+unfolding tailWith
+withSign-of-tailWith b n z o m e k =
+    let size : cond (eqb b (code "-")) (negℤ (pos n)) (pos n) ≡ o = cc in
+    let mark : (eqb b (code "-") && eqb n 0) ≡ m = cc in
+    rw (← size, ← mark) (withSign b n z e)
 
 -- its digits
 module _ (h m : ℕ) (l : m < 60) where
@@ -134,14 +152,18 @@ twoBefore-twoDigits a b t d e =
     let q : 48 + twoDigits a b % 10 ≡ b = omega arith in
     λ i. p i ∷ q i ∷ t
 
--- the tail of an offset at the front of a text
-pub record HasTail (s : List ℕ) (o : ℤ) : Type 0 where
-  pub bytes-are : s ≡ tailBytes o ++ drop 6 s
+-- the tail of a time at the front of a text
+pub record HasTail (s : List ℕ) (t : Time) : Type 0 where
+  pub bytes-are : s ≡ tailBytes t ++ drop 6 s
   pub ends : endsHere (drop 6 s) ≡ true
-  pub whole : isWholeMinutes o ≡ true
-  pub small : natAbs o < 360000
+  pub whole : isWholeMinutes (t .offset) ≡ true
+  pub small : natAbs (t .offset) < 360000
+  pub settled-is : t .mark ≡ isMinusZero t
 
-module _ (a b h hh m mm : ℕ) (t : List ℕ) (o : ℤ) where
+module _ (a b h hh m mm : ℕ) (t : List ℕ) (z o : ℤ) (mark : Bool) where
+  abbrev time : Time
+  time = timeMarked z o mark
+
   abbrev text : List ℕ
   text = a ∷ b ∷ h ∷ hh ∷ m ∷ mm ∷ t
 
@@ -152,14 +174,14 @@ module _ (a b h hh m mm : ℕ) (t : List ℕ) (o : ℤ) where
     minutes-are : natAbs o / 60 % 60 ≡ twoDigits m mm
     minutes-are = ap (λ (n : ℕ). n / 60 % 60) size ∙ minutes-of-size (twoDigits h hh) (twoDigits m mm) l
 
-    tailBytes-of-digits : a ≡ code " " → signByte o ≡ b → text ≡ tailBytes o ++ t
+    tailBytes-of-digits : a ≡ code " " → headerSign time ≡ b → text ≡ tailBytes time ++ t
     unfolding wholeMinutes
     tailBytes-of-digits e k =
         sym ((λ i. sym e i ∷ k i ∷ twoBefore (hours-are i) (twoBefore (minutes-are i) t))
         ∙ ap (λ (w : List ℕ). a ∷ b ∷ w) (twoBefore-twoDigits h hh (twoBefore (twoDigits m mm) t) (u .0) (u .1))
         ∙ ap (λ (w : List ℕ). a ∷ b ∷ h ∷ hh ∷ w) (twoBefore-twoDigits m mm t (v .0) (v .1)))
 
-  HasTail-of-digits : a ≡ code " " → isSign b ≡ true → fourDigits h hh m mm ≡ true → m < code "6" → endsHere t ≡ true → offsetWith (eqb b (code "-")) (clockSize h hh m mm) ≡ Is o → HasTail text o
+  HasTail-of-digits : a ≡ code " " → isSign b ≡ true → fourDigits h hh m mm ≡ true → m < code "6" → endsHere t ≡ true → tailWith (eqb b (code "-")) (clockSize h hh m mm) ≡ Is o mark → HasTail text time
   unfolding isWholeMinutes
   HasTail-of-digits x e d l n k =
       let p = both (isDigit h && isDigit hh) (isDigit m && isDigit mm) d in
@@ -168,32 +190,34 @@ module _ (a b h hh m mm : ℕ) (t : List ℕ) (o : ℤ) where
       let tens = digit-range h (u .0) in
       let ones = digit-range hh (u .1) in
       let last = digit-range mm (v .1) in
-      let q = natAbs-signByte-of-offsetWith b (clockSize h hh m mm) o e k in
+      let q = withSign-of-tailWith b (clockSize h hh m mm) z o mark e k in
       record {
-        bytes-are = tailBytes-of-digits u v (omega arith) (q .0) x (q .1);
+        bytes-are = tailBytes-of-digits u v (omega arith) (q .size-is) x (q .sign-is);
         ends = n;
-        whole = eq-eqb (natAbs o % 60) 0 (omega (arith, q .0));
-        small = omega (arith, q .0);
+        whole = eq-eqb (natAbs o % 60) 0 (omega (arith, q .size-is));
+        small = omega (arith, q .size-is);
+        settled-is = q .settled-is;
       }
 
-  HasTail-of-tests : isTail text ≡ true → tailOf text ≡ Is o → HasTail text o
+  HasTail-of-tests : isTail text ≡ true → tailOf text ≡ Is o mark → HasTail text time
   unfolding isTail tailOf
   HasTail-of-tests k e =
       let p = all-five (eqb a (code " ")) (isSign b) (fourDigits h hh m mm) (ltb m (code "6")) (endsHere t) k in
       HasTail-of-digits (eqb-true a (code " ") (p .0)) (p .1) (p .2) (ltb-true m (code "6") (p .3)) (p .4) (rw k at e)
 
-all-tests : (s : List ℕ) (o : ℤ) → tailOf s ≡ Is o → isTail s ≡ true
+all-tests : (s : List ℕ) (o : ℤ) (mark : Bool) → tailOf s ≡ Is o mark → isTail s ≡ true
 unfolding tailOf
-all-tests s o e = by-test (isTail s) (λ k. k) (λ k. let q = rw k at e in let z : _≡_ {A = ℕ} 0 1 = cc in absurd (omega arith))
+all-tests s o mark e = by-test (isTail s) (λ k. k) (λ k. let q = rw k at e in let z : _≡_ {A = ℕ} 0 1 = cc in absurd (omega arith))
 
-no-tail : (s : List ℕ) (o : ℤ) → length s < 6 → tailOf s ≡ Is o → HasTail s o
-no-tail s o h e = let q = rw (tailOf-of-length s h) at e in let z : _≡_ {A = ℕ} 0 1 = cc in absurd (omega arith)
+no-tail : (s : List ℕ) (z o : ℤ) (mark : Bool) → length s < 6 → tailOf s ≡ Is o mark → HasTail s (timeMarked z o mark)
+no-tail s z o mark h e = let q = rw (tailOf-of-length s h) at e in let z : _≡_ {A = ℕ} 0 1 = cc in absurd (omega arith)
 
-pub HasTail-of-tailOf : (s : List ℕ) (o : ℤ) → tailOf s ≡ Is o → HasTail s o
-HasTail-of-tailOf (a ∷ b ∷ h ∷ hh ∷ m ∷ mm ∷ t) o e = HasTail-of-tests a b h hh m mm t o (all-tests (a ∷ b ∷ h ∷ hh ∷ m ∷ mm ∷ t) o e) e
-HasTail-of-tailOf [] o e = no-tail [] o (omega arith) e
-HasTail-of-tailOf (a ∷ []) o e = no-tail (a ∷ []) o (omega arith) e
-HasTail-of-tailOf (a ∷ b ∷ []) o e = no-tail (a ∷ b ∷ []) o (omega arith) e
-HasTail-of-tailOf (a ∷ b ∷ h ∷ []) o e = no-tail (a ∷ b ∷ h ∷ []) o (omega arith) e
-HasTail-of-tailOf (a ∷ b ∷ h ∷ hh ∷ []) o e = no-tail (a ∷ b ∷ h ∷ hh ∷ []) o (omega arith) e
-HasTail-of-tailOf (a ∷ b ∷ h ∷ hh ∷ m ∷ []) o e = no-tail (a ∷ b ∷ h ∷ hh ∷ m ∷ []) o (omega arith) e
+pub HasTail-of-tailOf : (s : List ℕ) (z o : ℤ) (mark : Bool) → tailOf s ≡ Is o mark → HasTail s (timeMarked z o mark)
+HasTail-of-tailOf (a ∷ b ∷ h ∷ hh ∷ m ∷ mm ∷ t) z o mark e =
+    HasTail-of-tests a b h hh m mm t z o mark (all-tests (a ∷ b ∷ h ∷ hh ∷ m ∷ mm ∷ t) o mark e) e
+HasTail-of-tailOf [] z o mark e = no-tail [] z o mark (omega arith) e
+HasTail-of-tailOf (a ∷ []) z o mark e = no-tail (a ∷ []) z o mark (omega arith) e
+HasTail-of-tailOf (a ∷ b ∷ []) z o mark e = no-tail (a ∷ b ∷ []) z o mark (omega arith) e
+HasTail-of-tailOf (a ∷ b ∷ h ∷ []) z o mark e = no-tail (a ∷ b ∷ h ∷ []) z o mark (omega arith) e
+HasTail-of-tailOf (a ∷ b ∷ h ∷ hh ∷ []) z o mark e = no-tail (a ∷ b ∷ h ∷ hh ∷ []) z o mark (omega arith) e
+HasTail-of-tailOf (a ∷ b ∷ h ∷ hh ∷ m ∷ []) z o mark e = no-tail (a ∷ b ∷ h ∷ hh ∷ m ∷ []) z o mark (omega arith) e

@@ -4,7 +4,7 @@
 -- book is made of its lines, each read and written again (`book-written-back`).
 -- Assumes nothing.
 use mathlib.Core.Path.{_≡_, refl, sym, ap, _∙_}
-use mathlib.Core.Bool.{true, false, _&&_, false≢true}
+use mathlib.Core.Bool.{true, false, not, _&&_, false≢true}
 use mathlib.Core.Logic.{_↔_}
 use mathlib.Core.List.{List, [], _∷_, _++_, append-assoc, append-nil}
 use Prim.Native.Nat.{ℕ, zero, suc, _+_, _-_, _<_}
@@ -25,7 +25,7 @@ use Rattle.text.proofs.Plain.{has-drop}
 use Rattle.text.proofs.Runs.{has-nil}
 use Rattle.text.proofs.Signed.{length-signed-pos}
 use Rattle.text.proofs.Texts.{not-has-cons, not-has-of-cons}
-use Rattle.time.specs.Answers.{timeAt}
+use Rattle.time.specs.Answers.{timeAt, unmarked}
 use Rattle.time.specs.Header.{headerBytes}
 use Rattle.time.specs.declared.Time.{Time}
 use Rattle.time.specs.declared.Now.the-variants.{At as CurrentAt}
@@ -33,13 +33,14 @@ use Rattle.time.specs.declared.Answer.{Answer}
 use Rattle.time.specs.declared.Answer.the-variants.{Time as Read, Refused as NotRead}
 use Rattle.header.specs.Theorems.{Seconds64}
 use Rattle.relative.specs.Relative.{relativeOf}
+use Rattle.relative.proofs.Unmarked.{current-mark-ignored}
 use Rattle.time.proofs.Headers.{length-headerBytes}
 use Rattle.stamps.specs.Stamps.{printed, isWholeMinutes, stampOf}
 use Rattle.stamps.specs.Lines.{isPath, isKey, spanAt, hullAt, hullOf, sinceAt, sinceWith, sinceOf, lineOf, isGood}
-use Rattle.stamps.specs.Writing.{hullLine, sinceLine, isHull, isSince}
+use Rattle.stamps.specs.Writing.{hullLine, sinceLine, isHull, isRead, isSince}
 use Rattle.stamps.specs.Book.{judged, checkOf}
 use Rattle.stamps.specs.Copies.{joined}
-use Rattle.stamps.specs.Theorems.{areGood, isHullLine, isSinceLine, rewritten, rewrittenLines}
+use Rattle.stamps.specs.Theorems.{settled, areGood, isHullLine, isSinceLine, rewritten, rewrittenLines}
 use Rattle.stamps.specs.Held.{hullLeft, sinceLeft}
 use Rattle.stamps.specs.declared.stamp.Stamp.{Stamp}
 use Rattle.stamps.specs.declared.stamp.Stamp.the-variants.{At, Nothing as NoStamp}
@@ -243,22 +244,29 @@ since-written-back bound l x e =
 
 -- so the writer takes exactly the values that read back
 pub hull-written-iff : (bound : ℕ) (path key : List ℕ) (t : Time) → Seconds64 (t .seconds)
-    → (isHull path key t ≡ true) ↔ (lineOf bound (hullLine path key t) ≡ hullAt path key (At t))
+    → (isHull path key t ≡ true) ↔ (lineOf bound (hullLine path key t) ≡ hullAt path key (At (settled t)))
+unfolding isHull
 hull-written-iff bound path key t r = (
   λ e. hull-read-back bound path key t e r .0,
   λ e. sym (λ i. isHull (part-hullLine-path path key t i) (part-hullLine-key path key t i) t) ∙ hull-written-back bound (hullLine path key t) _ e .1,
 )
 
+isSince-unmarked : (bound : ℕ) (text : List ℕ) (current : Time) → isSince bound text current ≡ isSince bound text (unmarked current)
+unfolding isSince
+isSince-unmarked bound text current = ap (λ (a : Answer). not (has tab text) && not (has newline text) && isRead a) (current-mark-ignored bound text current)
+
 pub since-written-iff : (bound : ℕ) (text : List ℕ) (current : Time)
     → (isSince bound text current ≡ true)
-    ↔ ((lineOf bound (sinceLine text current) ≡ sinceAt text current (relativeOf bound text (CurrentAt current))) × (isGood (lineOf bound (sinceLine text current)) ≡ true))
+    ↔ ((lineOf bound (sinceLine text current) ≡ sinceAt text (unmarked current) (relativeOf bound text (CurrentAt current))) × (isGood (lineOf bound (sinceLine text current)) ≡ true))
 since-written-iff bound text current = (
   λ e. let back = since-read-back bound text current e in (back .0, back .1),
   λ e. isSince-of-answer (relativeOf bound text (CurrentAt current)) (e .0) (e .1),
 )
   where
-    isSince-of-answer : (a : Answer) → lineOf bound (sinceLine text current) ≡ sinceAt text current a → isGood (lineOf bound (sinceLine text current)) ≡ true → isSince bound text current ≡ true
-    isSince-of-answer (Read t) e g = sym (ap (λ (s : List ℕ). isSince bound s current) (part-sinceLine-text text current)) ∙ since-written-back bound (sinceLine text current) _ e .1
+    isSince-of-answer : (a : Answer) → lineOf bound (sinceLine text current) ≡ sinceAt text (unmarked current) a → isGood (lineOf bound (sinceLine text current)) ≡ true → isSince bound text current ≡ true
+    isSince-of-answer (Read t) e g =
+        isSince-unmarked bound text current ∙ sym (ap (λ (s : List ℕ). isSince bound s (unmarked current)) (part-sinceLine-text text current))
+        ∙ since-written-back bound (sinceLine text current) _ e .1
     isSince-of-answer (NotRead r) e g = not-good (lineOf bound (sinceLine text current)) g e
 
 pub line-written-back : (bound : ℕ) (l : List ℕ) → isGood (lineOf bound l) ≡ true → rewritten bound l (lineOf bound l) ≡ l

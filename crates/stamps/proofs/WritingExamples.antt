@@ -3,6 +3,7 @@
 -- Assumes nothing.
 use Prim.Native.Nat.{ℕ}
 use mathlib.Core.Path.{_≡_, refl}
+use mathlib.Core.Bool.{true}
 use mathlib.Core.List.{List, [], _∷_, _++_}
 use lib.IntN.{ℤ, pos, negsuc}
 use Rattle.text.specs.Bytes.{isSpace, isDigit, isAlphanumeric, lowerOf, ascii, sameLetters}
@@ -13,7 +14,7 @@ use Rattle.text.specs.Decimal.{digitsUpTo, decimal, signed, signedBefore}
 use Rattle.text.specs.Places.{run, firstPlace, has}
 use Rattle.text.specs.Number.{readFrom, digitsOf, fit}
 use Rattle.text.specs.Lines.{tab, newline}
-use Rattle.time.specs.Answers.{timeAt}
+use Rattle.time.specs.Answers.{timeAt, timeMarked}
 use Rattle.time.specs.Header.{headerBytes, headerSign, signByte, wholeMinutes}
 use Rattle.time.specs.Range.{secondsInRange, offsetInRange, timeInRange}
 use Rattle.time.specs.declared.Refusal.the-variants.{Room, Book}
@@ -44,6 +45,11 @@ hull path key offset room = hullWritten path key (timeAt (pos 5) offset) room
 hull-bytes : hullLine (bytes "a b") key (timeAt (negsuc 4) (pos 5400)) ≡ bytes "hull" ++ tab ∷ bytes "a b" ++ tab ∷ key ++ tab ∷ bytes "-5 +0130"
 unfolding hullLine headerBytes headerSign signByte wholeMinutes signedBefore signed decimal digitsUpTo
 hull-bytes = refl
+
+-- offset 0 with the mark
+minus-zero-bytes : hullLine (bytes "a") key (timeMarked (pos 5) (pos 0) true) ≡ bytes "hull" ++ tab ∷ bytes "a" ++ tab ∷ key ++ tab ∷ bytes "5 -0000"
+unfolding hullLine headerBytes headerSign wholeMinutes signedBefore signed decimal digitsUpTo
+minus-zero-bytes = refl
 
 hull-examples :  -- the newline is counted: the line has 32 bytes with it
     (hull (bytes "a") key (pos 5400) room ≡ Length 32) × (hull (bytes "a") key (pos 5400) shorter ≡ Refused Room)

@@ -26,6 +26,8 @@ use Rattle.stamps.specs.Listing.{isListed, cutOffIn, cutOffBelow}
 use Rattle.stamps.specs.declared.scan.Class.{Class}
 use Rattle.stamps.specs.declared.scan.Class.the-variants.{Path, Hex, Text}
 use Rattle.stamps.specs.declared.stamp.PrintedNumber.{PrintedNumber}
+use Rattle.stamps.specs.declared.stamp.Tail.{Tail}
+use Rattle.stamps.specs.declared.stamp.Tail.the-variants.{Is as IsTail, Nothing as NoTail}
 use Rattle.stamps.specs.declared.line.Line.{Line}
 use Rattle.stamps.specs.declared.line.First.{First}
 use Rattle.stamps.specs.declared.book.Next.{Next}
@@ -60,9 +62,9 @@ endsHere (b ∷ s) = eqb b newline
 abbrev pub clockSize : ℕ → ℕ → ℕ → ℕ → ℕ
 clockSize h hh m mm = twoDigits h hh * 3600 + twoDigits m mm * 60
 
--- an offset of this size. Offset 0 has no `-`
-unfoldable pub offsetWith : Bool → ℕ → Integer
-offsetWith minus size = cond (minus && eqb size 0) NoInteger (Is (cond minus (negℤ (pos size)) (pos size)))
+-- the tail with an offset of this size. Behind `-`, offset 0 has the mark
+unfoldable pub tailWith : Bool → ℕ → Tail
+tailWith minus size = IsTail (cond minus (negℤ (pos size)) (pos size)) (minus && eqb size 0)
 
 -- four digits
 abbrev pub fourDigits : ℕ → ℕ → ℕ → ℕ → Bool
@@ -74,10 +76,10 @@ isTail s =
     eqb (getD s 0 0) (code " ") && isSign (getD s 1 0) && fourDigits (getD s 2 0) (getD s 3 0) (getD s 4 0) (getD s 5 0)
     && ltb (getD s 4 0) (code "6") && endsHere (drop 6 s)
 
--- its offset
-unfoldable pub tailOf : List ℕ → Integer
+-- its offset and its mark
+unfoldable pub tailOf : List ℕ → Tail
 tailOf s =
-    cond (isTail s) (offsetWith (eqb (getD s 1 0) (code "-")) (clockSize (getD s 2 0) (getD s 3 0) (getD s 4 0) (getD s 5 0))) NoInteger
+    cond (isTail s) (tailWith (eqb (getD s 1 0) (code "-")) (clockSize (getD s 2 0) (getD s 3 0) (getD s 4 0) (getD s 5 0))) NoTail
 
 -- ---- the first line of a text
 -- the line in front of the first newline of s, and, if it is good, how many bytes it has

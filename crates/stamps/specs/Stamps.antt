@@ -1,5 +1,5 @@
--- Numbers as the header writer prints them, and stamps (RULES 13.5 and 13.6). Two examples: `5 +0130` is a stamp, and `5 -0000` is none,
--- since it is read as 5 at offset 0, which is written `5 +0000`.
+-- Numbers as the header writer prints them, and stamps (RULES 13.5 and 13.6). Three examples: `5 +0130` is a stamp; `5 -0000` is one, of 5
+-- at offset 0 with the mark; `5 -000000` is none, since it is read as that same time, which is written `5 -0000`.
 -- Assumes nothing.
 use Prim.Native.Nat.{ℕ, _%_}
 use mathlib.Core.Bool.{Bool, cond, _&&_}

@@ -6,11 +6,18 @@ use mathlib.Core.List.{List, [], _∷_}
 use Rattle.text.specs.declared.number.Integer.{Integer}
 use Rattle.text.specs.declared.number.Integer.the-variants.{Nothing}
 use Rattle.text.specs.Places.{part}
+use Rattle.time.specs.Answers.{timeMarked}
+use Rattle.time.specs.Header.{isMinusZero}
+use Rattle.time.specs.declared.Time.{Time}
 use Rattle.stamps.specs.Lines.{lineOf, isGood}
 use Rattle.stamps.specs.Writing.{hullLine, sinceLine, isHull, isSince}
 use Rattle.stamps.specs.Listing.{cutOffIn, orAbove}
 use Rattle.stamps.specs.declared.line.Line.{Line}
 use Rattle.stamps.specs.declared.line.Line.the-variants.{Hull, Since, Bad}
+
+-- a time without a mark that means nothing: beside offset 0 the mark stays, beside any other offset it is dropped
+abbrev pub settled : Time → Time
+settled t = timeMarked (t .seconds) (t .offset) (isMinusZero t)
 
 -- whether all of these lines are good
 unfoldable pub areGood : List Line → Bool

@@ -11,7 +11,7 @@ ghost use Rattle.text.specs.Lines.{newline};
 ghost use Rattle.text.specs.Number.{halfOf};
 ghost use Rattle.header.specs.Held.{twoDigits};
 ghost use Rattle.stamps.specs.Stamps.{stampOf};
-ghost use Rattle.stamps.specs.Held.{OpensPrinted, ifWidth, tailOf, fourDigits, clockSize, offsetWith};
+ghost use Rattle.stamps.specs.Held.{OpensPrinted, ifWidth, tailOf, fourDigits, clockSize, tailWith};
 use crate::scan;
 use text::bytes;
 use text::decimal;
@@ -30,6 +30,12 @@ const TAIL: usize = 6;
 // The time that a stamp means, or that a text is no stamp.
 pub enum Stamp {
     At(Time),
+    Nothing,
+}
+
+// The tail of a stamp: its offset, and the mark of `-0000`.
+enum Tail {
+    Is(i64, bool),
     Nothing,
 }
 
@@ -76,23 +82,23 @@ pub fn stamp_at(s: &[u8], at: usize) -> Stamp
     let Integer::Is(z) = number else {
         return Stamp::Nothing;
     };
-    let offset = tail_at(s, end);
-    let Integer::Is(o) = offset else {
+    let tail = tail_at(s, end);
+    let Tail::Is(o, mark) = tail else {
         return Stamp::Nothing;
     };
-    Stamp::At(Time::new(z, o as i32))
+    Stamp::At(Time::with_mark(z, o as i32, mark))
 }
 
-// The offset of the stamp's tail at a place: a space, a sign, two digits of hours, two of minutes,
-// and the end of the line. Minutes are below 60, and offset 0 has the sign `+`.
-fn tail_at(s: &[u8], at: usize) -> Integer
+// The stamp's tail at a place: a space, a sign, two digits of hours, two of minutes, which are below
+// 60, and the end of the line.
+fn tail_at(s: &[u8], at: usize) -> Tail
     ensures { λ r. ⌜ r ≡ tailOf (drop at (now (s .entry))) ⌝ }
 {
     if s.len() < TAIL {
-        return Integer::Nothing;
+        return Tail::Nothing;
     }
     if s.len() - TAIL < at {
-        return Integer::Nothing;
+        return Tail::Nothing;
     }
     let sign = s[at + 1];
     let h = s[at + 2];
@@ -107,7 +113,7 @@ fn tail_at(s: &[u8], at: usize) -> Integer
     {
         return with_sign(sign == b'-', clock_size(h, hh, m, mm));
     }
-    Integer::Nothing
+    Tail::Nothing
 }
 
 fn are_digits(h: u8, hh: u8, m: u8, mm: u8) -> bool
@@ -131,16 +137,13 @@ fn two_digits(tens: u8, ones: u8) -> u64
     (10 * (tens - b'0') + (ones - b'0')) as u64
 }
 
-// An offset of this size. Offset 0 has no `-`.
-fn with_sign(minus: bool, size: u64) -> Integer
+// The tail with an offset of this size. Behind `-`, offset 0 has the mark.
+fn with_sign(minus: bool, size: u64) -> Tail
     requires { ⌜ size ≤ 362340 ⌝ }
-    ensures { λ r. ⌜ r ≡ offsetWith minus size ⌝ }
+    ensures { λ r. ⌜ r ≡ tailWith minus size ⌝ }
 {
     if minus {
-        if size == 0 {
-            return Integer::Nothing;
-        }
-        return Integer::Is(0 - (size as i64));
+        return Tail::Is(0 - (size as i64), size == 0);
     }
-    Integer::Is(size as i64)
+    Tail::Is(size as i64, false)
 }

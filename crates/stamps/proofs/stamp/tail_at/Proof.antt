@@ -7,7 +7,7 @@ use borrow.Author.Needs.{needs}
 use lib.Dec.{eqb}
 use lib.ListN.{getD, length-drop}
 use Prim.Native.Nat.{_+_}
-use Rattle.stamps.specs.Held.{offsetWith}
+use Rattle.stamps.specs.Held.{tailWith}
 use Rattle.stamps.proofs.Tails.{tests, tailOf-of-tests, tailOf-of-no-test, tailOf-of-length, fourDigits-of-tests}
 use Rattle.stamps.proofs.stamp.tail_at.Statement.{statement}
 use Rattle.stamps.proofs.stamp.tail_at.Tie as tie
@@ -33,7 +33,7 @@ returns-3 : tie.Need-returns-3
 returns-3 c =
     let at-test = c .before .before in
     let a = at-test .before .before .before .before .before .before .before .before .before .before .before .before .before .args in
-    c .with-sign .ensures ∙ ap (offsetWith (eqb (getD (a .s .now) (a .at + 1) 0) 45)) (c .before .clock-size .ensures .0)
+    c .with-sign .ensures ∙ ap (tailWith (eqb (getD (a .s .now) (a .at + 1) 0) 45)) (c .before .clock-size .ensures .0)
     ∙ sym (tailOf-of-tests (a .s .now) (a .at) (are-tests at-test))
 
 -- another byte among them, or behind them
