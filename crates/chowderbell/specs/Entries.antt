@@ -1,9 +1,9 @@
--- RULES 2.1 and 5.8 for C: what the entries read as the current time and as the rule of raw dates, and what they return and
--- store for the answer of a reader, of a writer, of a check of a book and of its listing.
+-- RULES 2.1, 5.8 and 5.10 for C: what the entries read as the current time, as the rule of raw dates and as a mark, and what they return
+-- and store for the answer of a reader, with its mark or without, of a writer, of a check of a book and of its listing.
 -- Assumes nothing.
 use Prim.Native.Nat.{ℕ}
 use mathlib.Core.Path.{_≡_}
-use mathlib.Core.Bool.{cond}
+use mathlib.Core.Bool.{Bool, cond, not}
 use mathlib.Core.List.{List}
 use lib.Dec.{eqb}
 use lib.IntN.{ℤ}
@@ -46,6 +46,19 @@ pub record HandedOut (a : Answer) (number : ℕ) (seconds offset : ℤ) : Type 0
   pub number-is : number ≡ answerNumber a
   pub seconds-is : seconds ≡ answerTime a .seconds
   pub offset-is : offset ≡ answerTime a .offset
+
+-- a mark is a byte: 0 if it is clear, 1 if it is set
+abbrev pub markByte : Bool → ℕ
+markByte m = cond m 1 0
+
+-- from a caller, any byte but 0 sets it
+abbrev pub isSet : ℕ → Bool
+isSet b = not (eqb b 0)
+
+-- a reader that gives the mark stores it too; it is clear for a refusal
+pub record HandedMarked (a : Answer) (number : ℕ) (seconds offset : ℤ) (mark : ℕ) : Type 0 where
+  pub handed-out : HandedOut a number seconds offset
+  pub mark-is : mark ≡ markByte (answerTime a .mark)
 
 -- a writer returns the number of its answer and stores the length, which is 0 for a refusal
 pub record HandedLength (w : Written) (number length : ℕ) : Type 0 where

@@ -1,9 +1,11 @@
 // The entries that read and write times: each reader, each writer and `size`. C passes a slice as a pointer and a length, and a
 // result as a pointer to where it is to be stored. Each entry returns 0 or the number of a refusal (RULES 2), except for
 // `chowderbell_size`. They keep no pointer and no state. `include/chowderbell.h` is the manual for callers.
+//
+// An entry whose name ends in `_marked` gives or takes the mark of `-0000` (RULES 5.10) as a byte. The others do without it.
 ghost use mathlib.Core.Path.{_≡_};
 ghost use Rattle.text.specs.Room.{roomAfter};
-ghost use Rattle.time.specs.Answers.{timeAt, isWritten};
+ghost use Rattle.time.specs.Answers.{timeAt, timeMarked, isWritten};
 ghost use Rattle.time.specs.Header.{sizeOf, headerBytes, headerWritten};
 ghost use Rattle.time.specs.Iso.{isoBytes, isoWritten};
 ghost use Rattle.header.specs.Header.{headerOf};
@@ -12,7 +14,7 @@ ghost use Rattle.iso.specs.Iso.{isoOf};
 ghost use Rattle.relative.specs.Relative.{maxPairs, relativeOf};
 ghost use Rattle.turns.specs.Turns.{turnsOf};
 ghost use Rattle.dates.specs.Any.{anyOf};
-ghost use Rattle.chowderbell.specs.Entries.{nowOf, ruleOf, noRule, ruled, HandedOut, HandedLength};
+ghost use Rattle.chowderbell.specs.Entries.{nowOf, ruleOf, noRule, ruled, markByte, isSet, HandedOut, HandedMarked, HandedLength};
 use header::raw;
 use header::raw::Rule;
 use text::bytes;
@@ -29,6 +31,11 @@ const RULE_1: u32 = 1;
 
 const RULE_2: u32 = 2;
 
+// A mark that is clear, and one that is set, as bytes.
+const CLEAR: u8 = 0;
+
+const SET: u8 = 1;
+
 // The rule that a number names, or that it names none.
 enum Named {
     By(Rule),
@@ -39,7 +46,20 @@ enum Named {
 pub extern "C" fn chowderbell_header(text: &[u8], seconds: &mut i64, offset: &mut i32) -> u8
     ensures { λ r. ⌜ HandedOut (headerOf (now (text .entry))) r (now (seconds .exit)) (now (offset .exit)) ⌝ }
 {
-    hand_out(header::parse_header(text), seconds, offset)
+    let mut mark = CLEAR;
+    chowderbell_header_marked(text, seconds, offset, &mut mark)
+}
+
+#[no_mangle]
+pub extern "C" fn chowderbell_header_marked(
+    text: &[u8],
+    seconds: &mut i64,
+    offset: &mut i32,
+    mark: &mut u8,
+) -> u8
+    ensures { λ r. ⌜ HandedMarked (headerOf (now (text .entry))) r (now (seconds .exit)) (now (offset .exit)) (now (mark .exit)) ⌝ }
+{
+    hand_marked(header::parse_header(text), seconds, offset, mark)
 }
 
 #[no_mangle]
@@ -59,7 +79,21 @@ pub extern "C" fn chowderbell_raw_by(
 ) -> u8
     ensures { λ r. ⌜ HandedOut (ruled (ruleOf rule) (λ l. rawOf l (now (text .entry))) (now (text .entry))) r (now (seconds .exit)) (now (offset .exit)) ⌝ }
 {
-    hand_out(raw_by(rule_of(rule), text), seconds, offset)
+    let mut mark = CLEAR;
+    chowderbell_raw_marked(rule, text, seconds, offset, &mut mark)
+}
+
+#[no_mangle]
+pub extern "C" fn chowderbell_raw_marked(
+    rule: u32,
+    text: &[u8],
+    seconds: &mut i64,
+    offset: &mut i32,
+    mark: &mut u8,
+) -> u8
+    ensures { λ r. ⌜ HandedMarked (ruled (ruleOf rule) (λ l. rawOf l (now (text .entry))) (now (text .entry))) r (now (seconds .exit)) (now (offset .exit)) (now (mark .exit)) ⌝ }
+{
+    hand_marked(raw_by(rule_of(rule), text), seconds, offset, mark)
 }
 
 #[no_mangle]
@@ -107,8 +141,8 @@ pub extern "C" fn chowderbell_relative_turns(
     )
 }
 
-// By rule 1. `dates` is called in one entry alone, so that the compiler inlines it there. Called
-// from two places it is not, and every call is slower (docs/SPEED.md).
+// By rule 1. `dates` is called in one entry alone, `chowderbell_any_marked`, so that the compiler inlines
+// it there. Called from two places it is not, and every call is slower (docs/SPEED.md).
 #[no_mangle]
 pub extern "C" fn chowderbell_any(
     text: &[u8],
@@ -120,7 +154,8 @@ pub extern "C" fn chowderbell_any(
 ) -> u8
     ensures { λ r. ⌜ HandedOut (anyOf rule1 (now (text .entry)) (nowOf «has_now» «now_seconds» «now_offset»)) r (now (seconds .exit)) (now (offset .exit)) ⌝ }
 {
-    chowderbell_any_by(
+    let mut mark = CLEAR;
+    chowderbell_any_marked(
         RULE_1,
         text,
         has_now,
@@ -128,6 +163,7 @@ pub extern "C" fn chowderbell_any(
         now_offset,
         seconds,
         offset,
+        &mut mark,
     )
 }
 
@@ -143,7 +179,33 @@ pub extern "C" fn chowderbell_any_by(
 ) -> u8
     ensures { λ r. ⌜ HandedOut (ruled (ruleOf rule) (λ l. anyOf l (now (text .entry)) (nowOf «has_now» «now_seconds» «now_offset»)) (now (text .entry))) r (now (seconds .exit)) (now (offset .exit)) ⌝ }
 {
-    hand_out(
+    let mut mark = CLEAR;
+    chowderbell_any_marked(
+        rule,
+        text,
+        has_now,
+        now_seconds,
+        now_offset,
+        seconds,
+        offset,
+        &mut mark,
+    )
+}
+
+#[no_mangle]
+pub extern "C" fn chowderbell_any_marked(
+    rule: u32,
+    text: &[u8],
+    has_now: u8,
+    now_seconds: i64,
+    now_offset: i32,
+    seconds: &mut i64,
+    offset: &mut i32,
+    mark: &mut u8,
+) -> u8
+    ensures { λ r. ⌜ HandedMarked (ruled (ruleOf rule) (λ l. anyOf l (now (text .entry)) (nowOf «has_now» «now_seconds» «now_offset»)) (now (text .entry))) r (now (seconds .exit)) (now (offset .exit)) (now (mark .exit)) ⌝ }
+{
+    hand_marked(
         any_by(
             rule_of(rule),
             text,
@@ -151,6 +213,7 @@ pub extern "C" fn chowderbell_any_by(
         ),
         seconds,
         offset,
+        mark,
     )
 }
 
@@ -172,7 +235,22 @@ pub extern "C" fn chowderbell_write_header(
     ensures length { λ r. ⌜ HandedLength (headerWritten (timeAt seconds offset) (now (room .entry))) r (now (length .exit)) ⌝ }
     ensures room { λ _. ⌜ now (room .exit) ≡ roomAfter (isWritten (headerWritten (timeAt seconds offset) (now (room .entry)))) (headerBytes (timeAt seconds offset)) (now (room .entry)) ⌝ }
 {
-    let t = Time::new(seconds, offset);
+    chowderbell_write_header_marked(seconds, offset, CLEAR, room, length)
+}
+
+// Any mark but 0 is set.
+#[no_mangle]
+pub extern "C" fn chowderbell_write_header_marked(
+    seconds: i64,
+    offset: i32,
+    mark: u8,
+    room: &mut [u8],
+    length: &mut usize,
+) -> u8
+    ensures length { λ r. ⌜ HandedLength (headerWritten (timeMarked seconds offset (isSet mark)) (now (room .entry))) r (now (length .exit)) ⌝ }
+    ensures room { λ _. ⌜ now (room .exit) ≡ roomAfter (isWritten (headerWritten (timeMarked seconds offset (isSet mark)) (now (room .entry)))) (headerBytes (timeMarked seconds offset (isSet mark))) (now (room .entry)) ⌝ }
+{
+    let t = Time::with_mark(seconds, offset, mark != CLEAR);
     hand_length(t.write_to(room), length)
 }
 
@@ -257,6 +335,38 @@ fn hand_out(a: Answer, seconds: &mut i64, offset: &mut i32) -> u8
             time::number_of(r)
         }
     }
+}
+
+// The same, and stores the mark of the time too, which is clear for a refusal.
+fn hand_marked(a: Answer, seconds: &mut i64, offset: &mut i32, mark: &mut u8) -> u8
+    ensures { λ r. ⌜ HandedMarked a r (now (seconds .exit)) (now (offset .exit)) (now (mark .exit)) ⌝ }
+{
+    match a {
+        Answer::Time(t) => {
+            let s = t.seconds;
+            let o = t.offset;
+            *seconds = s;
+            *offset = o;
+            *mark = mark_byte(t.mark);
+            SUCCESS
+        }
+        Answer::Refused(r) => {
+            *seconds = 0;
+            *offset = 0;
+            *mark = CLEAR;
+            time::number_of(r)
+        }
+    }
+}
+
+// A mark as a byte.
+fn mark_byte(mark: bool) -> u8
+    ensures { λ r. ⌜ r ≡ markByte mark ⌝ }
+{
+    if mark {
+        return SET;
+    }
+    CLEAR
 }
 
 // Returns the number of a writer's answer and stores its length, which is 0 for a refusal.

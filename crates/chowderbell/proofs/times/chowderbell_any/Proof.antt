@@ -8,8 +8,8 @@ use Rattle.chowderbell.proofs.times.chowderbell_any.Tie as tie
 
 returns : tie.Need-returns
 returns c =
-    let start = c .before .before .before .before in
-    rw (toZ-ofZ {w = w64} (start .fits .now-seconds), toZ-ofZ {w = w32} (start .fits .now-offset)) at (c .chowderbell-any-by .ensures)
+    let start = c .before .before .before .before .before in
+    (rw (toZ-ofZ {w = w64} (start .fits .now-seconds), toZ-ofZ {w = w32} (start .fits .now-offset)) at (c .chowderbell-any-marked .ensures)) .handed-out
 
 pub chowderbell-any-spec : {M : Type 1} → statement M
 chowderbell-any-spec = tie.close (tie.spec (λ c κs. search needs) returns)

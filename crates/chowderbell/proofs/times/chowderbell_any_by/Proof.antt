@@ -8,11 +8,8 @@ use Rattle.chowderbell.proofs.times.chowderbell_any_by.Tie as tie
 
 returns : tie.Need-returns
 returns c =
-    let at-any = c .before .before .before in
-    let at-rule = at-any .before .before in
-    let start = at-rule .before .before in
-    let now-is = rw (toZ-ofZ {w = w64} (start .fits .now-seconds), toZ-ofZ {w = w32} (start .fits .now-offset)) at (at-any .before .now-of .ensures) in
-    rw (← now-is, ← at-rule .rule-of .ensures, ← at-any .any-by .ensures) (c .hand-out .ensures)
+    let start = c .before .before .before .before .before in
+    (rw (toZ-ofZ {w = w64} (start .fits .now-seconds), toZ-ofZ {w = w32} (start .fits .now-offset)) at (c .chowderbell-any-marked .ensures)) .handed-out
 
 pub chowderbell-any-by-spec : {M : Type 1} → statement M
-chowderbell-any-by-spec = tie.close (tie.spec (λ c κs. search needs) (λ c κs. search needs) (λ c κs. search needs) (λ c κs. search needs) returns)
+chowderbell-any-by-spec = tie.close (tie.spec (λ c κs. search needs) returns)
