@@ -2,7 +2,9 @@
 // result as a pointer to where it is to be stored. Each entry returns 0 or the number of a refusal (RULES 2), except for
 // `chowderbell_size`. They keep no pointer and no state. `include/chowderbell.h` is the manual for callers.
 //
-// An entry whose name ends in `_marked` gives or takes the mark of `-0000` (RULES 5.10) as a byte. The others do without it.
+// An entry whose name ends in `_marked` gives or takes the mark of `-0000` (RULES 5.10) as a byte. The others do without it, and call
+// those: each reader is called in one place alone, so that the compiler inlines it there. There the text is borrowed anew, as `&*text`:
+// the call from the other entry then passes it in registers. Without either, every call is slower (docs/SPEED.md).
 ghost use mathlib.Core.Path.{_≡_};
 ghost use Rattle.text.specs.Room.{roomAfter};
 ghost use Rattle.time.specs.Answers.{timeAt, timeMarked, isWritten};
@@ -59,14 +61,15 @@ pub extern "C" fn chowderbell_header_marked(
 ) -> u8
     ensures { λ r. ⌜ HandedMarked (headerOf (now (text .entry))) r (now (seconds .exit)) (now (offset .exit)) (now (mark .exit)) ⌝ }
 {
-    hand_marked(header::parse_header(text), seconds, offset, mark)
+    hand_marked(header::parse_header(&*text), seconds, offset, mark)
 }
 
 #[no_mangle]
 pub extern "C" fn chowderbell_raw(text: &[u8], seconds: &mut i64, offset: &mut i32) -> u8
     ensures { λ r. ⌜ HandedOut (rawOf rule1 (now (text .entry))) r (now (seconds .exit)) (now (offset .exit)) ⌝ }
 {
-    hand_out(raw::parse_raw(text), seconds, offset)
+    let mut mark = CLEAR;
+    raw_marked(text, seconds, offset, &mut mark)
 }
 
 // The number of the rule comes from the caller, so it may name none.
@@ -79,8 +82,10 @@ pub extern "C" fn chowderbell_raw_by(
 ) -> u8
     ensures { λ r. ⌜ HandedOut (ruled (ruleOf rule) (λ l. rawOf l (now (text .entry))) (now (text .entry))) r (now (seconds .exit)) (now (offset .exit)) ⌝ }
 {
-    let mut mark = CLEAR;
-    chowderbell_raw_marked(rule, text, seconds, offset, &mut mark)
+    if rule == RULE_1 {
+        return chowderbell_raw(text, seconds, offset);
+    }
+    hand_out(raw_by(rule_of(rule), text), seconds, offset)
 }
 
 #[no_mangle]
@@ -93,7 +98,17 @@ pub extern "C" fn chowderbell_raw_marked(
 ) -> u8
     ensures { λ r. ⌜ HandedMarked (ruled (ruleOf rule) (λ l. rawOf l (now (text .entry))) (now (text .entry))) r (now (seconds .exit)) (now (offset .exit)) (now (mark .exit)) ⌝ }
 {
+    if rule == RULE_1 {
+        return raw_marked(text, seconds, offset, mark);
+    }
     hand_marked(raw_by(rule_of(rule), text), seconds, offset, mark)
+}
+
+// A raw date by rule 1, with its mark.
+fn raw_marked(text: &[u8], seconds: &mut i64, offset: &mut i32, mark: &mut u8) -> u8
+    ensures { λ r. ⌜ HandedMarked (rawOf rule1 (now (text .entry))) r (now (seconds .exit)) (now (offset .exit)) (now (mark .exit)) ⌝ }
+{
+    hand_marked(raw::parse_raw(&*text), seconds, offset, mark)
 }
 
 #[no_mangle]
@@ -141,8 +156,7 @@ pub extern "C" fn chowderbell_relative_turns(
     )
 }
 
-// By rule 1. `dates` is called in one entry alone, `chowderbell_any_marked`, so that the compiler inlines
-// it there. Called from two places it is not, and every call is slower (docs/SPEED.md).
+// By rule 1.
 #[no_mangle]
 pub extern "C" fn chowderbell_any(
     text: &[u8],
@@ -208,7 +222,7 @@ pub extern "C" fn chowderbell_any_marked(
     hand_marked(
         any_by(
             rule_of(rule),
-            text,
+            &*text,
             now_of(has_now, now_seconds, now_offset),
         ),
         seconds,

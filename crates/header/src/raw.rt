@@ -44,19 +44,19 @@ pub fn parse_raw(s: &[u8]) -> Answer
 // Reads a raw date by either rule, and refuses as `parse_raw` does. The steps are those of
 // `parse_raw`, which names rule 1: so the compiler makes a copy for rule 1 alone. With one body there
 // is one copy for both rules, which tests its rule at the limits, and rule 1 is slower
-// (docs/SPEED.md).
+// (docs/SPEED.md). `&*s` is the same text; passed on so, it comes in registers and not by way of memory.
 pub fn parse_raw_by(s: &[u8], rule: Rule) -> Answer
     ensures { λ r. ⌜ r ≡ rawOf (limitsOf rule) (now (s .entry)) ⌝ }
 {
-    let opening = walk::open(s);
+    let opening = walk::open(&*s);
     let number = opening.number;
     let end = opening.end;
     if end == s.len() {
         return raw_time(rule, number, Parsed::Nothing);
     }
-    let usual = walk::usual_tail(s, opening);
+    let usual = walk::usual_tail(&*s, opening);
     let Parsed::Offset(f) = usual else {
-        return parse_words(s, read_on(s, opening), rule);
+        return parse_words(&*s, read_on(&*s, opening), rule);
     };
     raw_time(rule, number, Parsed::Offset(f))
 }

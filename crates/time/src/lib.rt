@@ -22,11 +22,11 @@ use text::decimal;
 const OFFSET_LIMIT: u64 = 360000;
 
 // Seconds since 1970, an offset from UTC in seconds, and a mark: the offset is written `-0000`. The mark counts beside offset 0 alone;
-// beside any other offset it is ignored.
+// beside any other offset it is ignored. It is not the last field because readers are slower then (docs/SPEED.md).
 pub struct Time {
     pub seconds: i64,
-    pub offset: i32,
     pub mark: bool,
+    pub offset: i32,
 }
 
 impl Time {

@@ -10,7 +10,7 @@ use Rattle.lines.proofs.row_for.Tie as tie
 returns : tie.Need-returns
 returns c = let t = c .before .before .a .given .0 .0 in
     rw (c .before .before .a .given .1)
-    (λ i. record { number = 0; seconds = back w64 (t .seconds) (c .struct-told .given .0 .1) i; offset = back w32 (t .offset) (c .struct-told .given .1 .0 .1) i })
+    (λ i. record { number = 0; seconds = back w64 (t .seconds) (c .struct-told .given .0 .1) i; offset = back w32 (t .offset) (c .struct-told .given .1 .1 .0 .1) i })
 
 returns-2 : tie.Need-returns-2
 returns-2 c = rw (c .before .before .a2 .given .1) (λ i. record { number = c .number-of .ensures i; seconds = pos 0; offset = pos 0 })

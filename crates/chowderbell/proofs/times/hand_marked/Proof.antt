@@ -12,7 +12,7 @@ returns c =
     let at-offset = c .before in
     rw (at-offset .before .before .before .a .given .1)
     (record {
-      handed-out = record { number-is = refl; seconds-is = back w64 _ (at-offset .before .struct-told .given .0 .1); offset-is = back w32 _ (at-offset .struct-told2 .given .1 .0 .1) };
+      handed-out = record { number-is = refl; seconds-is = back w64 _ (at-offset .before .struct-told .given .0 .1); offset-is = back w32 _ (at-offset .struct-told2 .given .1 .1 .0 .1) };
       mark-is = c .mark-byte .ensures;
     })
 

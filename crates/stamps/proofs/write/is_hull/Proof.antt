@@ -18,7 +18,7 @@ returns c =
     let at-key = c .before .before in
     let at-path = at-key .before in
     let time = at-path .before .before .before .args .time in
-    let offset-is = back w32 (time .offset) (c .before .struct-told .given .1 .0 .1) in
+    let offset-is = back w32 (time .offset) (c .before .struct-told .given .1 .1 .0 .1) in
     let whole-is = c .is-whole .ensures ∙ ap (λ (o : ℤ). isWholeMinutes o && ltb (natAbs o) 360000) offset-is in
     λ i. at-path .is-path .ensures i && at-key .is-key .ensures i && whole-is i
 

@@ -25,7 +25,7 @@ width-is c =
     let start = at-seconds .before .before .before .before .before in
     let t = start .args .current in
     let seconds-is = back w64 (t .seconds) (at-seconds .before .struct-told .given .0 .1) in
-    let offset-is = toZ-ofZ {w = w64} {z = at-cast .as-i64 .result} (sfits-of (at-cast .as-i64 .ok)) ∙ at-cast .as-i64 .ensures ∙ back w32 (t .offset) (at-cast .before .struct-told2 .given .1 .0 .1) in
+    let offset-is = toZ-ofZ {w = w64} {z = at-cast .as-i64 .result} (sfits-of (at-cast .as-i64 .ok)) ∙ at-cast .as-i64 .ensures ∙ back w32 (t .offset) (at-cast .before .struct-told2 .given .1 .1 .0 .1) in
     omega (arith, length-ended-sinceLine (start .args .text .now) t, at-seconds .signed-width .ensures .0, c .signed-width2 .ensures .0, ap (λ (z : ℤ). length (signed z)) seconds-is, ap (λ (z : ℤ). length (signed z)) offset-is)
 
 returns : tie.Need-returns

@@ -38,7 +38,7 @@ seconds-is : (c : tie.After-struct-told) → let t = from-text (c .before .befor
 seconds-is c = back w64 _ (c .struct-told .given .0 .1)
 
 offset-is : (c : tie.After-as-i64) → toZ w64 (ofZ w64 (c .as-i64 .result)) ≡ from-seconds (c .before .before .before .before) .args .current .offset
-offset-is c = toZ-ofZ {w = w64} {z = c .as-i64 .result} (sfits-of (c .as-i64 .ok)) ∙ c .as-i64 .ensures ∙ back w32 _ (c .before .struct-told2 .given .1 .0 .1)
+offset-is c = toZ-ofZ {w = w64} {z = c .as-i64 .result} (sfits-of (c .as-i64 .ok)) ∙ c .as-i64 .ensures ∙ back w32 _ (c .before .struct-told2 .given .1 .1 .0 .1)
 
 -- what is put by then
 since-put : (c : tie.After-put-part) → Front (bytes "since") (from-since c .args .room .now) (c .put-part .last .1 .1 .0) (c .put-part .result)

@@ -20,7 +20,7 @@ cut-is c =
     let start = c .before .before .before .before in
     back w32 (c .cut-to-minutes .result) (c .cut-to-minutes .ok)
     ∙ c .cut-to-minutes .ensures
-    ∙ ap cutToMinutes (back w32 (start .args .self .offset) (c .before .struct-told .given .1 .0 .1))
+    ∙ ap cutToMinutes (back w32 (start .args .self .offset) (c .before .struct-told .given .1 .1 .0 .1))
 
 -- the line of the time that is shown
 line-is : (c : tie.After-line-of) → c .line-of .result ≡ lineInstant (shown (c .before .before .before .before .before .before .before .args .self))

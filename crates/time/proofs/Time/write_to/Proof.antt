@@ -12,7 +12,7 @@ use Rattle.time.proofs.Time.write_to.Tie as tie
 
 -- the size of the offset, as it was measured
 wide-is : (c : tie.After-offset-size) → c .offset-size .result ≡ natAbs (c .before .before .before .before .args .self .offset)
-wide-is c = c .offset-size .ensures ∙ ap natAbs (back w32 (c .before .before .before .before .args .self .offset) (c .before .struct-told2 .given .1 .0 .1))
+wide-is c = c .offset-size .ensures ∙ ap natAbs (back w32 (c .before .before .before .before .args .self .offset) (c .before .struct-told2 .given .1 .1 .0 .1))
 
 returns : tie.Need-returns
 returns c = let start = c .before .before .before .before .before in

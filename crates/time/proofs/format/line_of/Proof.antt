@@ -19,7 +19,7 @@ use Rattle.time.proofs.format.line_of.Tie as tie
 wide-is : (c : tie.After-struct-told) {t : Bool} → (leZ (toZ w32 (ofZ w32 (c .before .args .t .offset))) (negsuc 86399) || leZ (pos 86400) (toZ w32 (ofZ w32 (c .before .args .t .offset)))) ≡ t → leb 86400 (natAbs (c .before .args .t .offset)) ≡ t
 wide-is c e =
     let o : ℤ = c .before .args .t .offset in
-    sym (wide-of-tests o) ∙ sym (ap (λ (z : ℤ). leZ z (negsuc 86399) || leZ (pos 86400) z) (back w32 o (c .struct-told .given .1 .0 .1))) ∙ e
+    sym (wide-of-tests o) ∙ sym (ap (λ (z : ℤ). leZ z (negsuc 86399) || leZ (pos 86400) z) (back w32 o (c .struct-told .given .1 .1 .0 .1))) ∙ e
 
 returns : tie.Need-returns
 returns c = (lineInstant-of-wide _ (leb-true 86400 _ (wide-is (c .before) (c .if1 .taken))), tt)

@@ -17,7 +17,7 @@ seconds-test : (c : tie.After-offset-in-range) → c .before .seconds-in-range .
 seconds-test c = c .before .seconds-in-range .ensures ∙ ap secondsInRange (back w64 (c .before .before .before .before .args .t .seconds) (c .before .before .before .struct-told .given .0 .1))
 
 offset-test : (c : tie.After-offset-in-range) → c .offset-in-range .result ≡ offsetInRange (c .before .before .before .before .args .t .offset)
-offset-test c = c .offset-in-range .ensures ∙ ap offsetInRange (back w32 (c .before .before .before .before .args .t .offset) (c .before .before .struct-told2 .given .1 .0 .1))
+offset-test c = c .offset-in-range .ensures ∙ ap offsetInRange (back w32 (c .before .before .before .before .args .t .offset) (c .before .before .struct-told2 .given .1 .1 .0 .1))
 
 seconds-in : (c : tie.Then1) → In leastSeconds mostSeconds (c .before .before .before .before .before .args .t .seconds)
 seconds-in c = seconds-of-test (c .before .before .before .before .before .args .t) (seconds-test (c .before)) (offset-test (c .before)) (c .if1 .taken)

@@ -23,13 +23,13 @@ returns : tie.Need-returns
 unfolding headerSign
 returns c =
     let t = c .before .before .args .t in
-    rw (sym (test-is t (record { sfits = c .before .struct-told .given .1 .0 .1 })) ∙ c .if1 .taken)
+    rw (sym (test-is t (record { sfits = c .before .struct-told .given .1 .1 .0 .1 })) ∙ c .if1 .taken)
 
 returns-2 : tie.Need-returns-2
 unfolding headerSign
 returns-2 c =
     let t = c .before .before .before .args .t in
-    let f = c .before .before .struct-told .given .1 .0 .1 in
+    let f = c .before .before .struct-told .given .1 .1 .0 .1 in
     rw (sym (test-is t (record { sfits = f })) ∙ c .before .if1 .left) (c .sign-byte .ensures ∙ ap signByte (back w32 (t .offset) f))
 
 pub header-sign-spec : {M : Type 1} → statement M
