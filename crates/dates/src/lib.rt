@@ -80,14 +80,15 @@ fn parse_at(s: &[u8], rule: Rule) -> Answer
 }
 
 // Reads what follows `@`: as a raw date, or else as any number of 64 signed bits. The answer is taken
-// apart and made anew: passed on whole, it would be copied by way of memory.
+// apart and made anew: passed on whole, it would be copied by way of memory, byte by byte where a time
+// has bytes that no field uses.
 fn parse_marked(s: &[u8], rule: Rule) -> Answer
     ensures { λ r. ⌜ r ≡ markedOf (limitsOf rule) (now (s .entry)) ⌝ }
 {
     let date = raw::parse_raw_by(s, rule);
     match date {
         Answer::Time(t) => {
-            return Answer::Time(t);
+            return Answer::Time(Time::with_mark(t.seconds, t.offset, t.mark));
         }
         Answer::Refused(r) => {
             if settles(r) {
