@@ -15,8 +15,9 @@ use Rattle.stamps.specs.declared.book.Checked.{Checked}
 use Rattle.stamps.specs.declared.book.Copied.{Copied}
 use Rattle.dates.specs.Contracts.{OneAnswer, OneAnswerAnd}
 use Rattle.dates.proofs.Contracts.{one-answer}
-use Rattle.chowderbell.specs.Entries.{HandedOut, HandedLength, HandedCheck, HandedCopy}
+use Rattle.chowderbell.specs.Entries.{HandedOut, HandedMarked, HandedLength, HandedCheck, HandedCopy}
 use Rattle.time.proofs.Time.new.Reads as time-new
+use Rattle.time.proofs.Time.with_mark.Reads as time-with-mark
 use Rattle.time.proofs.Time.smallest.Reads as smallest
 use Rattle.time.proofs.Time.largest.Reads as largest
 use Rattle.time.proofs.Time.size.Reads as time-size
@@ -59,15 +60,19 @@ use Rattle.stamps.proofs.book.list_with.Reads as book-list-with
 use Rattle.compact.proofs.compact.Reads as book-compact
 use Rattle.compact.proofs.compact_with.Reads as book-compact-with
 use Rattle.chowderbell.proofs.times.chowderbell_header.Reads as chowderbell-header
+use Rattle.chowderbell.proofs.times.chowderbell_header_marked.Reads as chowderbell-header-marked
 use Rattle.chowderbell.proofs.times.chowderbell_raw.Reads as chowderbell-raw
 use Rattle.chowderbell.proofs.times.chowderbell_raw_by.Reads as chowderbell-raw-by
+use Rattle.chowderbell.proofs.times.chowderbell_raw_marked.Reads as chowderbell-raw-marked
 use Rattle.chowderbell.proofs.times.chowderbell_iso.Reads as chowderbell-iso
 use Rattle.chowderbell.proofs.times.chowderbell_relative.Reads as chowderbell-relative
 use Rattle.chowderbell.proofs.times.chowderbell_relative_turns.Reads as chowderbell-relative-turns
 use Rattle.chowderbell.proofs.times.chowderbell_any.Reads as chowderbell-any
 use Rattle.chowderbell.proofs.times.chowderbell_any_by.Reads as chowderbell-any-by
+use Rattle.chowderbell.proofs.times.chowderbell_any_marked.Reads as chowderbell-any-marked
 use Rattle.chowderbell.proofs.times.chowderbell_size.Reads as chowderbell-size
 use Rattle.chowderbell.proofs.times.chowderbell_write_header.Reads as chowderbell-write-header
+use Rattle.chowderbell.proofs.times.chowderbell_write_header_marked.Reads as chowderbell-write-header-marked
 use Rattle.chowderbell.proofs.times.chowderbell_write_iso.Reads as chowderbell-write-iso
 use Rattle.chowderbell.proofs.book.chowderbell_book_check.Reads as chowderbell-book-check
 use Rattle.chowderbell.proofs.book.chowderbell_book_list.Reads as chowderbell-book-list
@@ -84,6 +89,9 @@ use Rattle.text.proofs.number.leading_integer.Reads as leading-integer
 -- ---- a time, its size, the number of a refusal, a buffer by value, the range
 pub time-new-unique : OneAnswer time-new.Post
 time-new-unique κ a r s e f = one-answer
+
+pub time-with-mark-unique : OneAnswer time-with-mark.Post
+time-with-mark-unique κ a r s e f = one-answer
 
 pub smallest-unique : OneAnswer smallest.Post
 smallest-unique κ a r s e f = one-answer
@@ -240,6 +248,21 @@ chowderbell-any-unique κ a r s e f = HandedOut-unique
 pub chowderbell-any-by-unique : OneAnswerAnd chowderbell-any-by.Post (ℤ × ℤ) (λ κ e. (now (e .1 .1 .1 .1 .1 .0), now (e .1 .1 .1 .1 .1 .1 .0)))
 chowderbell-any-by-unique κ a r s e f = HandedOut-unique
 
+-- with the mark stored too
+HandedMarked-unique : {a : Answer} {n m k l : ℕ} {s t o u : ℤ} → HandedMarked a n s o k → HandedMarked a m t u l → (n ≡ m) × _≡_ {A = (ℤ × ℤ) × ℕ} ((s, o), k) ((t, u), l)
+HandedMarked-unique p q =
+    let h = HandedOut-unique (p .handed-out) (q .handed-out) in
+    (h .0, λ i. (h .1 i, one-answer (p .mark-is) (q .mark-is) i))
+
+pub chowderbell-header-marked-unique : OneAnswerAnd chowderbell-header-marked.Post ((ℤ × ℤ) × ℕ) (λ κ e. ((now (e .1 .0), now (e .1 .1 .0)), now (e .1 .1 .1 .0)))
+chowderbell-header-marked-unique κ a r s e f = HandedMarked-unique
+
+pub chowderbell-raw-marked-unique : OneAnswerAnd chowderbell-raw-marked.Post ((ℤ × ℤ) × ℕ) (λ κ e. ((now (e .1 .1 .0), now (e .1 .1 .1 .0)), now (e .1 .1 .1 .1 .0)))
+chowderbell-raw-marked-unique κ a r s e f = HandedMarked-unique
+
+pub chowderbell-any-marked-unique : OneAnswerAnd chowderbell-any-marked.Post ((ℤ × ℤ) × ℕ) (λ κ e. ((now (e .1 .1 .1 .1 .1 .0), now (e .1 .1 .1 .1 .1 .1 .0)), now (e .1 .1 .1 .1 .1 .1 .1 .0)))
+chowderbell-any-marked-unique κ a r s e f = HandedMarked-unique
+
 -- ---- the size and the writers for C: the number returned, the length stored, and every byte of the room
 written-unique : {w : Written} {n m k l : ℕ} {t u b : List ℕ} → HandedLength w n k × (t ≡ b) → HandedLength w m l × (u ≡ b) → (n ≡ m) × _≡_ {A = ℕ × List ℕ} (k, t) (l, u)
 written-unique p q =
@@ -250,6 +273,9 @@ chowderbell-size-unique κ a r s e f = one-answer
 
 pub chowderbell-write-header-unique : OneAnswerAnd chowderbell-write-header.Post (ℕ × List ℕ) (λ κ e. (now (e .1 .1 .1 .0), now (e .1 .1 .0)))
 chowderbell-write-header-unique κ a r s e f = written-unique
+
+pub chowderbell-write-header-marked-unique : OneAnswerAnd chowderbell-write-header-marked.Post (ℕ × List ℕ) (λ κ e. (now (e .1 .1 .1 .1 .0), now (e .1 .1 .1 .0)))
+chowderbell-write-header-marked-unique κ a r s e f = written-unique
 
 pub chowderbell-write-iso-unique : OneAnswerAnd chowderbell-write-iso.Post (ℕ × List ℕ) (λ κ e. (now (e .1 .1 .1 .0), now (e .1 .1 .0)))
 chowderbell-write-iso-unique κ a r s e f = written-unique

@@ -7,7 +7,7 @@
 // the call from the other entry then passes it in registers. Without either, every call is slower (docs/SPEED.md).
 ghost use mathlib.Core.Path.{_≡_};
 ghost use Rattle.text.specs.Room.{roomAfter};
-ghost use Rattle.time.specs.Answers.{timeAt, timeMarked, isWritten};
+ghost use Rattle.time.specs.Answers.{timeAt, timeMarked, answerTime, isWritten};
 ghost use Rattle.time.specs.Header.{sizeOf, headerBytes, headerWritten};
 ghost use Rattle.time.specs.Iso.{isoBytes, isoWritten};
 ghost use Rattle.header.specs.Header.{headerOf};
@@ -355,25 +355,20 @@ fn hand_out(a: Answer, seconds: &mut i64, offset: &mut i32) -> u8
 fn hand_marked(a: Answer, seconds: &mut i64, offset: &mut i32, mark: &mut u8) -> u8
     ensures { λ r. ⌜ HandedMarked a r (now (seconds .exit)) (now (offset .exit)) (now (mark .exit)) ⌝ }
 {
+    *mark = mark_of(a);
+    hand_out(a, seconds, offset)
+}
+
+// The mark of an answer, as a byte.
+fn mark_of(a: Answer) -> u8
+    ensures { λ r. ⌜ r ≡ markByte (answerTime a .mark) ⌝ }
+{
     match a {
-        Answer::Time(t) => {
-            let s = t.seconds;
-            let o = t.offset;
-            *seconds = s;
-            *offset = o;
-            *mark = mark_byte(t.mark);
-            SUCCESS
-        }
-        Answer::Refused(r) => {
-            *seconds = 0;
-            *offset = 0;
-            *mark = CLEAR;
-            time::number_of(r)
-        }
+        Answer::Time(t) => mark_byte(t.mark),
+        Answer::Refused(_) => CLEAR,
     }
 }
 
-// A mark as a byte.
 fn mark_byte(mark: bool) -> u8
     ensures { λ r. ⌜ r ≡ markByte mark ⌝ }
 {

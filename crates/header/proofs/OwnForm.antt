@@ -34,7 +34,7 @@ use Rattle.header.proofs.ReadBack.{fieldsAre, offsetOf-fieldsAre, heade
 abbrev signOf : Bool → ℕ
 signOf minus = cond minus (code "-") (code "+")
 
-abbrev behind : Bool → ℕ → ℤ
+abbrev pub behind : Bool → ℕ → ℤ
 behind minus n = cond minus (negℤ (pos n)) (pos n)
 
 isSign-signOf : (minus : Bool) → isSign (signOf minus) ≡ true
@@ -47,11 +47,11 @@ eqb-signOf true = refl
 eqb-signOf false = refl
 
 -- its time has that sign again, and that size
-timeBehind : ℤ → Bool → ℕ → Time
+abbrev pub timeBehind : ℤ → Bool → ℕ → Time
 timeBehind z minus n = timeMarked z (behind minus n) (minus && eqZ (behind minus n) (pos 0))
 
 headerSign-behind : (z : ℤ) (minus : Bool) (n : ℕ) → headerSign (timeBehind z minus n) ≡ signOf minus
-unfolding timeBehind headerSign signByte
+unfolding headerSign signByte
 headerSign-behind z true zero = refl
 headerSign-behind z true (suc n) = refl
 headerSign-behind z false n = refl
@@ -63,24 +63,23 @@ natAbs-behind false n = refl
 
 -- ---- read, and written again
 module _ (s : List ℕ) (o : OwnForm s) where
-  abbrev size : ℕ
+  abbrev pub size : ℕ
   size = o .hours * 3600 + o .minutes * 60
 
-  abbrev time : Time
+  abbrev pub time : Time
   time = timeBehind (o .seconds) (o .minus) size
 
   readTime-is : readTime (o .seconds) (fieldsAre (eqb (signOf (o .minus)) 45) (o .hours) (o .minutes) 0) ≡ time
-  unfolding timeBehind
   readTime-is = rw (eqb-signOf (o .minus), offsetOf-fieldsAre (o .minus) (o .hours) (o .minutes) 0 size (omega arith))
 
-  own-form-read : headerOf s ≡ At time
+  pub own-form-read : headerOf s ≡ At time
   own-form-read =
       ap headerOf (o .bytes-are)
       ∙ headerOf-word (signOf (o .minus)) (o .hours) (o .minutes) (isSign-signOf (o .minus)) (o .hours-lt) (omega (arith, o .minutes-lt)) (o .seconds) (o .seconds-in)
       ∙ ap At readTime-is
 
   own-form-written : headerBytes time ≡ s
-  unfolding headerBytes wholeMinutes timeBehind
+  unfolding headerBytes wholeMinutes
   own-form-written =
       let n : natAbs (behind (o .minus) size) ≡ size = natAbs-behind (o .minus) size in
       let h : natAbs (behind (o .minus) size) / 60 / 60 ≡ o .hours = omega (arith, n, o .minutes-lt) in
@@ -88,7 +87,6 @@ module _ (s : List ℕ) (o : OwnForm s) where
       (λ i. signedBefore (o .seconds) (space ∷ headerSign-behind (o .seconds) (o .minus) size i ∷ twoBefore (h i) (twoBefore (m i) []))) ∙ sym (o .bytes-are)
 
   pub own-form-again : (t : Time) → headerOf s ≡ At t → (natAbs (t .offset) < 360000) × (headerBytes t ≡ s)
-  unfolding timeBehind
   own-form-again t e =
       let k : At time ≡ At t = sym own-form-read ∙ e in
       let same : time ≡ t = cc in

@@ -68,14 +68,14 @@ fn header_time(n: FittedInteger, p: Parsed) -> Answer
     match n {
         FittedInteger::Is(z) => match p {
             Parsed::Offset(f) => Answer::Time(offset::read_time(z, f)),
-            Parsed::Nothing => without_offset(Time::new(z, 0)),
+            Parsed::Nothing => without_offset(Time::with_mark(z, 0, false)),
         },
         FittedInteger::TooLarge => Answer::Refused(Refusal::TooLarge),
         FittedInteger::Nothing => Answer::Refused(Refusal::Form),
     }
 }
 
-// A header without an offset is not refused (RULES 5.4). It is the time t, at offset 0.
+// A header without an offset is not refused (RULES 5.4). It is the time t, at offset 0 without the mark.
 fn without_offset(t: Time) -> Answer
     ensures { λ r. ⌜ r ≡ At t ⌝ }
 {

@@ -22,7 +22,7 @@ returns-2 : tie.Need-returns-2
 returns-2 c =
     let at-z = c .before .before .before .before in
     let z = back w64 (at-z .before .n .given .0 .0) (at-z .known-told .given .0 .1) in
-    rw (at-z .before .n .given .1, c .before .before .enum-told .given .1, c .without-offset .ensures) (ap Time (rw z at (c .before .new .ensures)))
+    rw (at-z .before .n .given .1, c .before .before .enum-told .given .1, c .without-offset .ensures) (ap Time (rw z at (c .before .with-mark .ensures)))
 
 -- no number, or one that is too large
 returns-3 : tie.Need-returns-3
