@@ -1,17 +1,17 @@
 #!/usr/bin/env python3
 """Judges, checks, lists and compacts a book of stamps: a reference that shares no code with the library.
 
-It was written from the words of docs/RULES.md (2.4, 3, 4.1, 7, 9.1; 13.15 and 13.16 for compacting), and for the rest of the
-book from those that section 13 was made from.
+It was written from the words of docs/RULES.md (1.4, 2.4, 3, 4.1, 7, 9.1; 13.5 for the mark of a stamp, 13.15 and 13.16 for
+compacting), and for the rest of the book from those that section 13 was made from.
 Every number is a Python integer, so nothing here can overflow.
 
 Usage: book.py list < BOOK      the number, the line and the length, then the listing
        book.py compact < BOOK   the number, the line and the length, then the compacted book
        book.py judge < BOOK     each line of the book judged alone: `hull` and its seconds, `since` and its cut-off, or `bad`
        book.py selftest [FOLDER]
-                                the cases at the end of this file, the laws of compacting for all small books, the
-                                calendar, the example beside this file, and the relative dates among the vectors in FOLDER;
-                                exit status 1 if anything differs
+                                the cases at the end of this file, all offsets of a sign and four digits, the laws of
+                                compacting for all small books, the calendar, the example beside this file, and the relative
+                                dates among the vectors in FOLDER; exit status 1 if anything differs
 
 The book is read from standard input. In the output of `judge` the last line is marked if it has no newline.
 """
@@ -213,6 +213,7 @@ class Rules:
         """The seconds of a time, if the text is exactly what the header writer gives for some time at a whole-minute offset.
 
         The text is read as loosely as Python reads numbers; what decides is that the time found is written as the same bytes.
+        Whether it has the mark is not read from the text: it is written both ways.
         """
         seconds, space, offset = text.partition(b" ")
         if not space or len(offset) != 5:
@@ -222,7 +223,7 @@ class Rules:
         except ValueError:
             return None
         offset = (3600 * hours + 60 * minutes) * (-1 if offset[:1] == b"-" else 1)
-        if not self.is_time(seconds, offset) or self.header(seconds, offset) != text:
+        if not self.is_time(seconds, offset) or not any(self.header(seconds, offset, mark) == text for mark in (False, True)):
             return None
         return seconds
 
@@ -230,10 +231,10 @@ class Rules:
         """64-bit seconds, a 32-bit offset of whole minutes which the header writer does not refuse."""
         return fits(seconds, 64) and offset % 60 == 0 and abs(offset) < self.WIDEST_OFFSET
 
-    def header(self, seconds, offset):
-        """RULES 9.1: what the header writer writes."""
+    def header(self, seconds, offset, mark):
+        """RULES 9.1: what the header writer writes. The mark tells the sign of offset 0, and of no other."""
         hours, minutes = divmod(abs(offset) // 60, 60)
-        return b"%d %c%02d%02d" % (seconds, b"-" if offset < 0 else b"+", hours, minutes)
+        return b"%d %c%02d%02d" % (seconds, b"-" if offset < 0 or (offset == 0 and mark) else b"+", hours, minutes)
 
     def plain_number(self, text, bits):
         """A number that stands as the header writer prints seconds: plain decimal, `-` only below 0, no leading zero."""
@@ -353,7 +354,7 @@ NOON = b"1622462400"
 
 CASES = [
     # the rows of the table of open readings
-    bad("1a: `-0000` comes from no whole-minute offset", H(b"0 -0000")),
+    good_line("1a: `-0000` is offset 0 with the mark", H(b"0 -0000")),
     ("1b: a good line without its newline", H(b"5 +0000"), 10, 1, b""),
     ("1b: also behind a good line", book(H(b"5 +0000")) + H(b"5 +0000"), 10, 2, b""),
     good_line("1c: the numbers of the text are its own", S(b"007 days ago")),
@@ -375,6 +376,7 @@ CASES = [
     good("hulls above the since are not cut", H(b"5 +0000"), S(b"now", b"9"), H(b"8 +0000"), listed=[1]),
     good("at the cut-off, before it, after it", S(b"now", b"9"), H(b"9 +0000"), H(b"8 +0000"), H(b"10 +0000"), listed=[2, 4]),
     good("the offset of a hull does not count", S(b"now", b"0"), H(b"0 +9959"), H(b"0 -9959"), H(b"-1 +9959"), listed=[2, 3]),
+    good("nor does its mark", S(b"now", b"9"), H(b"9 -0000"), H(b"8 -0000"), H(b"9 +0000"), H(b"8 +0000"), listed=[2, 4]),
     good("the offset of a since moves no `now`", S(b"now", b"5", b"93599"), H(b"5 +0000"), H(b"4 +0000"), listed=[2]),
     good("since lines alone list nothing", S(b"now"), S(b"yesterday"), listed=[]),
     bad("the first bad line is named", H(b"5 +0000"), S(b"now"), H(b"05 +0000"), b"", line=3),
@@ -417,6 +419,7 @@ CASES = [
     bad("a missing current time", S(b"now", b"-", b"-")),
     bad("offset `+0`", S(b"now", b"0", b"+0")),
     bad("offset `-0`", S(b"now", b"0", b"-0")),
+    bad("offset `-0000`, which is for hulls", S(b"now", b"0", b"-0000")),
     bad("offset `007`", S(b"now", b"0", b"007")),
     bad("offset as a header has it", S(b"now", b"0", b"+0100")),
     bad("a fifth field", S(b"now") + b"\t"),
@@ -445,6 +448,25 @@ CASES = [
     bad("minus zero", H(b"-0 +0000")),
     bad("a leading zero", H(b"05 +0000")),
     bad("a sign", H(b"+5 +0000")),
+    # the mark lets `-0000` in, and nothing like it: what the header reader also takes for offset 0 is never written
+    good_line("the mark", H(b"1745582210 -0000")),
+    good_line("the mark, below zero", H(b"-1 -0000")),
+    good_line("the mark, 2^63 - 1", H(b"9223372036854775807 -0000")),
+    good_line("the mark, -2^63", H(b"-9223372036854775808 -0000")),
+    bad("the mark, 2^63", H(b"9223372036854775808 -0000")),
+    bad("the mark, minus zero", H(b"-0 -0000")),
+    bad("the mark, a leading zero", H(b"05 -0000")),
+    bad("the mark, a sign", H(b"+5 -0000")),
+    bad("the mark, minute 60", H(b"5 -0060")),
+    bad("the mark, seconds", H(b"5 -000000")),
+    bad("the mark, seconds that add up to 0", H(b"5 -00-160")),
+    bad("the mark, signs inside", H(b"5 -+0+0")),
+    bad("the mark, three digits", H(b"5 -000")),
+    bad("the mark, a colon", H(b"5 -00:00")),
+    bad("the mark, two signs", H(b"5 --0000")),
+    bad("the mark, a word behind", H(b"5 -0000 x")),
+    bad("the mark, a space behind", H(b"5 -0000 ")),
+    bad("the mark, no space", H(b"5-0000")),
     good_line("the widest offset", H(b"5 +9959")),
     good_line("also west", H(b"5 -9959")),
     bad("minute 60", H(b"5 +0160")),
@@ -507,6 +529,9 @@ COMPACT_CASES = [
     # keys and times do not count
     stays("the same path with another key", H(b"5 +0000", b"a", b"0" * 16), H(b"5 +0000", b"a", b"f" * 16), stay=[2]),
     stays("the same path with another time", H(b"5 +0000"), H(b"5 +0130"), stay=[2]),
+    stays("the same path and seconds, then with the mark", H(b"5 +0000"), H(b"5 -0000"), stay=[2]),
+    stays("the same path and seconds, then without", H(b"5 -0000"), H(b"5 +0000"), stay=[2]),
+    stays("other paths, with the mark and without", H(b"5 -0000", b"a"), H(b"5 +0000", b"b"), stay=[1, 2]),
     stays("other paths with the same key and time", H(b"5 +0000", b"a"), H(b"5 +0000", b"b"), stay=[1, 2]),
     stays("the path is as the key", H(b"5 +0000", K), H(b"5 +0000", b"a"), H(b"5 +0000", K), stay=[2, 3]),
     stays("the path is as the time", H(b"5 +0000", b"5 +0000"), H(b"5 +0000", b"5 +0001"), stay=[1, 2]),
@@ -539,7 +564,7 @@ COMPACT_CASES = [
     stays("4,681 since lines, all the same", *[S(b"now")] * 4681, stay=range(1, 4682)),
     # books that are not good
     ("a bad line between", book(A1, b"", A2), 10, 2, b""),
-    ("a bad line that would go", book(H(b"5 -0000", b"a"), A2), 10, 1, b""),
+    ("a bad line that would go", book(H(b"5 -000000", b"a"), A2), 10, 1, b""),
     ("a bad last line", book(A1, A2, b"x"), 10, 3, b""),
     ("the last line lacks its newline", book(A1) + A2, 10, 2, b""),
     ("two bad lines: the first", book(A1, b"x", A2, b"y"), 10, 2, b""),
@@ -626,12 +651,24 @@ def broken_laws(rules, text, more):
 
 def differing_laws(rules):
     """The laws for all books of up to four lines over seven, with each of the seven behind them."""
-    lines = [A1, A3, with_path(b"ab", 2), with_path(b"now", 9), S(b"now", b"2"), S(b"now", b"9"), B1]
+    lines = [A1, A3, with_path(b"ab", 2), with_path(b"now", 9), S(b"now", b"2"), S(b"now", b"9"), H(b"1 -0000", b"b")]
     for count in range(5):
         for chosen in product(lines, repeat=count):
             for more in lines:
                 for law in broken_laws(rules, book(*chosen), more):
                     yield f"{law}: {book(*chosen)!r}, {more!r}"
+
+
+def differing_stamps(rules):
+    """RULES 12.9: a sign and four digits are the offset of a stamp exactly if the minutes are below 60."""
+    written = {rules.header(5, 60 * minutes, mark) for minutes in range(-5999, 6000) for mark in (False, True)}
+    for sign, digits in product(b"+-", range(10000)):
+        text = b"5 %c%04d" % (sign, digits)
+        wanted = digits % 100 < 60
+        if (rules.stamp(text) is not None) != wanted or (text in written) != wanted:
+            yield f"{text!r} is {'a stamp' if wanted else 'no stamp'}"
+    if len(written) != 12000:
+        yield f"{len(written)} offsets of stamps, wanted 12000"
 
 
 def differing_days():
@@ -682,7 +719,8 @@ def differing_example(rules):
 
 def selftest(folder):
     rules = Rules()
-    differences = [*differing_cases(rules), *differing_laws(rules), *differing_days(), *differing_example(rules)]
+    differences = [*differing_cases(rules), *differing_stamps(rules), *differing_laws(rules), *differing_days()]
+    differences += differing_example(rules)
     vectors = ""
     if folder is not None:
         differences += differing_vectors(rules, folder)
@@ -690,7 +728,8 @@ def selftest(folder):
     for difference in differences:
         print(difference)
     cases = f"{len(CASES)} cases, {len(COMPACT_CASES) + len(ROOM_CASES)} of compacting"
-    print(f"book: {cases}{vectors}, the laws of compacting, the example, the calendar: {len(differences)} differ")
+    rest = "the offsets of stamps, the laws of compacting, the example, the calendar"
+    print(f"book: {cases}{vectors}, {rest}: {len(differences)} differ")
     return 1 if differences else 0
 
 

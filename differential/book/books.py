@@ -46,17 +46,28 @@ def spellings(number):
             plain + b"\r", plain + b"e0", size + b"-", b"--" + size, plain + b"\0", plain[:-1], plain + b"0", plain + b"_0"]
 
 
-SPELLINGS = [spelling for number in NUMBERS for spelling in spellings(number)] + [b"", b"-", b"+", b"0x5", b"\xb2", b"now"]
+SPELLINGS = [spelling for number in NUMBERS for spelling in spellings(number)]
+SPELLINGS += [b"", b"-", b"+", b"0x5", b"\xb2", b"now", b"+0000", b"-0000", b"-000000"]
 
 OFFSETS = [b"+0000", b"-0000", b"+0001", b"-0001", b"+0059", b"+0060", b"+0130", b"-0800", b"+0099", b"+0100", b"+0160", b"-0160",
            b"+9959", b"-9959", b"+9960", b"-9960", b"+9999", b"+2400", b"", b"+", b"+1", b"+01", b"+013", b"+01300", b"+013000",
            b"-013030", b"0000", b"00000", b" 0000", b"++1+3", b"+-1-3", b"+01-5", b"-00-5", b"+01:30", b"Z", b"+ 130", b"+0130 ", b"+0130\r",
            b"+013\0", b"+0 30", b"*0130", b"+0a00", b"+000\xb2"]
+# What is nearly `-0000`, and what the header reader, the raw reader or a loose one would take for it.
+OFFSETS += [b"-", b"-0", b"-00", b"-000", b"-00000", b"-000000", b"-0000000", b"-000001", b"-000030", b"-000059", b"-000060", b"-00-160",
+            b"-0060", b"-0099", b"-00-0", b"-0-00", b"-+0+0", b"--0-0", b"-00+0", b"--0000", b"+-0000", b"-+0000", b" -0000", b"-0000 ",
+            b"-0000x", b"-0000\r", b"-0000\0", b"-000\0", b"-00:00", b"-00 00", b"- 000", b"-0 00", b"-0x00", b"-00O0", b"\xad0000",
+            b"\xe2\x88\x920000", b"-000\xb2", b"0000-", b"-0000+0000", b"-0000-0000", b"-Z", b"-00.0", b"-0e00", b"-0_00"]
 
-TIMES = [b"%d %s" % (5, offset) for offset in OFFSETS] + [spelling + b" +0000" for spelling in SPELLINGS]
+# All spellings of the seconds stand in front of both zeros.
+ZEROS = [b"+0000", b"-0000"]
+TIMES = [b"%d %s" % (5, offset) for offset in OFFSETS] + [spelling + b" " + zero for zero in ZEROS for spelling in SPELLINGS]
 TIMES += [b"%d -9959" % number for number in NUMBERS]
-TIMES += [b"", b" ", b"5", b"5 ", b" +0000", b"5+0000", b"5  +0000", b"5\t+0000", b"5\n+0000", b"5\r+0000", b"5\x0b+0000", b"5 +0000 x",
-          b"5 +0000 +0000", b"@5 +0000", b"5:00 +0000", b"now", b"12abc +0100", b"1 5 +0000", b"5\0+0000", b"5 +0000\0"]
+TIMES += [b"", b" ", b"5", b"5 ", b"now", b"12abc +0100"]
+TIMES += [time.replace(b"+0000", zero) for zero in ZEROS for time in (
+    b" +0000", b"5+0000", b"5  +0000", b"5\t+0000", b"5\n+0000", b"5\r+0000", b"5\x0b+0000", b"5 +0000 x", b"5 +0000 +0000", b"@5 +0000",
+    b"5:00 +0000", b"1 5 +0000", b"5\0+0000", b"5 +0000\0", b"12abc +0000", b"5 +0000 5", b"5 5 +0000", b"+0000", b"+0000 5")]
+TIMES += [b"5 +0000 -0000", b"5 -0000 +0000"]
 
 UNITS = [b"second", b"minute", b"hour", b"day", b"week", b"month", b"year"]
 UNITS += [unit + b"s" for unit in UNITS] + [b"Day", b"DAYS", b"mOnThS", b"days"]
@@ -150,7 +161,7 @@ def settings(rng, number):
 
 def changed_bytes(rng, number):
     """Every byte put at every place of a few lines, in place of the old one and beside it; every byte removed, or moved by one."""
-    for line in GOOD + [H(b"9223372036854775807 +9959"), S(b"now", b"-377705023201", b"-93599"), S(b"3 Ago 2 x ago", b"7")]:
+    for line in GOOD + [H(b"5 -0000"), H(b"9223372036854775807 +9959"), S(b"now", b"-377705023201", b"-93599"), S(b"3 Ago 2 x ago", b"7")]:
         line += b"\n"
         for place in range(len(line)):
             front, behind = line[:place], line[place + 1:]
@@ -164,7 +175,7 @@ def changed_bytes(rng, number):
 
 def orders(rng, number):
     """Every book of up to five lines over eight: two cut-offs, one of them by months, and hulls around them."""
-    pool = [S(b"yesterday", b"86409"), S(b"1 month ago", b"2678405", b"0"), H(b"8 +0000"), H(b"9 +0130"), H(b"10 -0800"), H(b"4 +0000"),
+    pool = [S(b"yesterday", b"86409"), S(b"1 month ago", b"2678405", b"0"), H(b"8 -0000"), H(b"9 +0130"), H(b"10 -0800"), H(b"4 +0000"),
             H(b"5 -0001"), H(b"-9 +9959")]
     for count in range(6):
         for chosen in product(pool, repeat=count):
@@ -172,25 +183,30 @@ def orders(rng, number):
 
 
 def offsets(rng, number):
-    """Every offset of a sign and four digits, and every one of five bytes over eight; every seconds of up to four bytes over seven."""
+    """Every offset of a sign and four digits; of five bytes over eight; of up to eight over three; seconds of up to four over seven."""
     for sign, digits in product(b"+-", range(10000)):
         yield book(H(b"5 %c%04d" % (sign, digits)))
     for offset in product(b"+-0169 :", repeat=5):
         yield book(H(b"5 " + bytes(offset)))
+    for count in range(9):
+        for offset in product(b"+-0", repeat=count):
+            yield book(H(b"5 " + bytes(offset)))
+            yield book(S(b"now", b"5", bytes(offset)))
     for count in range(5):
         for seconds in product(b"+-0159 ", repeat=count):
-            yield book(H(bytes(seconds) + b" +0000"))
+            for zero in ZEROS:
+                yield book(H(bytes(seconds) + b" " + zero))
             yield book(S(b"now", bytes(seconds), b"0"))
             yield book(S(b"now", b"0", bytes(seconds)))
 
 
 def beside(seconds, offset, text):
-    """A book with one cut-off, if the text has one, and hulls one second before it and at it."""
+    """A book with one cut-off, if the text has one, and hulls one second before it, at it and one second after it."""
     since = S(text, b"%d" % seconds, b"%d" % offset)
     number, cut_off = RULES.relative(text, seconds, offset)
     if number != 0:
         return book(H(b"5 +0000"), since)
-    return book(since, H(b"%d +0000" % (cut_off - 1)), H(b"%d -0330" % cut_off), H(b"%d +0000" % (cut_off + 1)))
+    return book(since, *(H(b"%d %s" % (cut_off + distance, end)) for distance in (-1, 0, 1) for end in (*ZEROS, b"-0330")))
 
 
 def month_ends(rng, number):
@@ -220,7 +236,7 @@ def ends_of_range(rng, number):
 def long_books(rng, number):
     """Books around the longest length, good or with one fault somewhere, and lines that are very long."""
     hull, since = book(H(b"1622462400 +0200", b"ships/%s.obj" % (b"x" * 25))), book(S(b"2 weeks ago", b"1622462400", b"7200"))
-    for unit in (hull, hull * 9 + since, since, book(H(b"5 +0000")), book(S(b"1 month", b"5"))):
+    for unit in (hull, hull * 9 + since, since, book(H(b"5 -0000")), book(S(b"1 month", b"5"))):
         whole = unit * (65536 // len(unit))
         left = 65536 - len(whole)
         for fill in range(left - 2, left + 3):
@@ -259,8 +275,8 @@ LONGEST = RULES.LONGEST_BOOK
 
 
 def keyed(items):
-    """A book of since lines, as they are, and of hulls, given as paths; keys and times go with the place."""
-    return book(*(item if item.startswith(b"since\t") else H(b"%d +0000" % (4 + place % 3), item, b"%016x" % place)
+    """A book of since lines, as they are, and of hulls, given as paths; keys and times, with the mark or not, go with the place."""
+    return book(*(item if item.startswith(b"since\t") else H(b"%d %s" % (4 + place % 3, ZEROS[place % 2]), item, b"%016x" % place)
                   for place, item in enumerate(items)))
 
 
@@ -451,7 +467,8 @@ def full_books(rng, number):
     """Full books: one path 2,048 times, as many different paths as fit, each some times, since lines between; also with a fault."""
     since = S(b"now", b"5")
     most = that_fit(shortest_paths())
-    books = [book(*[H(b"5 +0000")] * 2048), keyed([b"a"] * 2048), keyed([b"a"] * 2047 + [b"b"]), keyed([b"b"] + [b"a"] * 2047)]
+    books = [book(*[H(b"5 " + zero)] * 2048) for zero in ZEROS]
+    books += [keyed([b"a"] * 2048), keyed([b"a"] * 2047 + [b"b"]), keyed([b"b"] + [b"a"] * 2047)]
     books += [keyed(most), keyed(most[::-1]), keyed(shuffled(rng, most)), keyed(most[1:] + most[-1:]), keyed(most[:-1] + most[:1])]
     # paths that come again below many others, and paths that many others come below
     for count in (1, 40, 400, 900):
@@ -523,6 +540,8 @@ def some_text(rng):
 
 
 def some_stamp(rng, seconds):
+    if rng.random() < 0.15:
+        return b"%d %s" % (seconds, rng.choice(ZEROS))
     hours = rng.choice((0, 1, 2, 8, 23, 24, 99, rng.randint(0, 99)))
     minutes = rng.choice((0, 30, 59, rng.randint(0, 60)))
     return b"%d %c%02d%02d" % (seconds, rng.choice(b"+-"), hours, minutes)
@@ -625,13 +644,14 @@ def like(rng, path):
 
 def few_paths(rng):
     """Lines with few paths, which are like one another or like other fields, and since lines, some of them with a path as their text."""
-    paths = [rng.choice((some_good_path(rng), b"hull", b"since", K, b"now", b"5 +0000", b"2 weeks ago"))]
+    paths = [rng.choice((some_good_path(rng), b"hull", b"since", K, b"now", b"5 +0000", b"5 -0000", b"2 weeks ago"))]
     while len(paths) < rng.choice((1, 2, 3, 4, 6, 10)):
         paths.append(like(rng, rng.choice(paths)) if rng.random() < 0.8 else some_good_path(rng))
     lines = []
     for path in paths:
         for _ in range(rng.choice((1, 1, 2, 3))):
-            lines.append(H(b"%d +%02d00" % (rng.randint(-3, 3), rng.randrange(100)), path, rng.choice((K, some_key(rng)))))
+            offset = rng.choice((*ZEROS, b"%c%02d00" % (rng.choice(b"+-"), rng.randrange(100))))
+            lines.append(H(b"%d %s" % (rng.randint(-3, 3), offset), path, rng.choice((K, some_key(rng)))))
     for text in (b"now", b"0 days", b"2 weeks ago", *paths):
         since = S(text, b"%d" % rng.randint(-3, 3))
         if rng.random() < 0.5 and RULES.judge_alone(since) is not None:

@@ -80,7 +80,7 @@ clean() {
 # The book of each case, and what it is compacted to.
 old='hull\toak.hull\t0123456789abcdef\t5 +0000\n'
 since='since\t1 week ago\t1745582210\t7200\n'
-new='hull\toak.hull\tfedcba9876543210\t6 +0000\n'
+new='hull\toak.hull\tfedcba9876543210\t6 -0000\n'
 book="$old$since$new"
 compacted="$since$new"
 report='3 lines, 111 bytes before; 2 lines, 72 bytes after\n'

@@ -315,10 +315,73 @@ class NoSpaces(Rules):
     SMALLEST_IN_PATH = 33
 
 
-class MinusZeroOffset(Rules):
-    """a time may end in `-0000`"""
+class MarkRefused(Rules):
+    """a time may not end in `-0000`"""
+    def header(self, seconds, offset, mark):
+        return super().header(seconds, offset, False)
+
+
+class PlusRefused(Rules):
+    """a time may not end in `+0000`, since `-0000` is taken"""
+    def header(self, seconds, offset, mark):
+        return super().header(seconds, offset, True)
+
+
+class MarkRefusedBelowZero(Rules):
+    """a time below 0 may not end in `-0000`"""
+    def header(self, seconds, offset, mark):
+        return super().header(seconds, offset, mark and seconds >= 0)
+
+
+class MarkAndSeconds(Rules):
+    """a time may end in `-000000`, since `-0000` is taken"""
     def stamp(self, text):
-        return super().stamp(text[:-5] + b"+0000" if text.endswith(b" -0000") else text)
+        return super().stamp(text[:-2] if text.endswith(b" -000000") else text)
+
+
+class MarkAndMinutes(Rules):
+    """a time may end in `-0060` to `-0099`, since `-0000` is taken"""
+    def stamp(self, text):
+        return super().stamp(text[:-2] + b"00" if re.search(rb" -00[6-9][0-9]$", text) else text)
+
+
+class MarkAndSigns(Rules):
+    """a time may end in `-+0+0`, since raw dates have the mark with it"""
+    def stamp(self, text):
+        return super().stamp(text.replace(b" -+0+0", b" -0000"))
+
+
+class MarkAndMinusZero(Rules):
+    """`-0000` may stand behind `-0` seconds"""
+    def stamp(self, text):
+        return super().stamp(b"0 -0000" if text == b"-0 -0000" else text)
+
+
+class MarkOfCurrent(Rules):
+    """a current offset may be `-0000`"""
+    def plain_number(self, text, bits):
+        return super().plain_number(b"0" if text == b"-0000" else text, bits)
+
+
+class MarkIsEarlier(Rules):
+    """a hull with `-0000` lies before one with `+0000` and the same seconds"""
+    def judge_alone(self, line):
+        judgement = super().judge_alone(line)
+        return ("hull", judgement[1] - 1) if judgement is not None and line.endswith(b" -0000") else judgement
+
+
+class MarkIsListed(Rules):
+    """a hull with `-0000` is listed below every cut-off"""
+    def judge_alone(self, line):
+        judgement = super().judge_alone(line)
+        return ("hull", self.MAX_SECONDS) if judgement is not None and line.endswith(b" -0000") else judgement
+
+
+class MarkListedAsPlus(Rules):
+    """a hull with `-0000` is listed with `+0000`"""
+    def answer(self, book):
+        number, line, listing, need = super().answer(book)
+        return number, line, listing.replace(b" -0000\n", b" +0000\n"), need
 
 
 class Minute60(Rules):
@@ -730,6 +793,27 @@ class WholeLine(Rules):
     """compact: only equal lines go"""
     def places_that_stay(self, lines):
         return last_of_each(lines, lambda hull: hull)
+
+
+class PathAndMark(Rules):
+    """compact: hulls with `+0000` and with `-0000` do not take each other's place"""
+    def places_that_stay(self, lines):
+        return last_of_each(lines, lambda hull: (path_of(hull), hull.endswith(b" -0000")))
+
+
+class MarkGoes(Rules):
+    """compact: a hull with `-0000` goes if one with `+0000` was above"""
+    def places_that_stay(self, lines):
+        above = [{path_of(other) for other in lines[:place] if other.endswith(b" +0000")} for place in range(len(lines))]
+        return [place for place in super().places_that_stay(lines)
+                if not lines[place].endswith(b" -0000") or path_of(lines[place]) not in above[place]]
+
+
+class MarkCompactedAsPlus(Rules):
+    """compact: a hull with `-0000` is written with `+0000`"""
+    def compact(self, book):
+        number, line, compacted, need = super().compact(book)
+        return number, line, compacted.replace(b" -0000\n", b" +0000\n"), need
 
 
 class BucketIsPath(Rules):

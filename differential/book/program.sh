@@ -38,6 +38,7 @@ expect() {
 }
 
 hull='hull\toak.hull\t0123456789abcdef\t5 +0000\n'
+marked='hull\toak.hull\t0123456789abcdef\t5 -0000\n'
 printf "$hull" > good
 printf "$hull" > input
 : > empty
@@ -45,6 +46,8 @@ printf "$hull${hull}hull\toak.hull\t0123456789abcde\t5 +0000\n" > bad
 printf "$hull" | tr -d '\n' > open
 printf "$hull" | sed 's/$/\r/' > returns
 printf "$hull\n" > blank
+printf "$hull$marked" > marked
+printf "${marked}hull\toak.hull\t0123456789abcdef\t5 -000000\n" > seconds
 head -c 65537 /dev/zero | tr '\0' '\n' > long
 printf "$hull" > ./-odd
 mkdir folder
@@ -57,6 +60,8 @@ expect 'a bad third line' '' 'bad:3: bad line\n' bad
 expect 'a last line without its newline' '' 'open:1: bad line\n' open
 expect 'a carriage return' '' 'returns:1: bad line\n' returns
 expect 'an empty line' '' 'blank:2: bad line\n' blank
+expect 'a time that ends in -0000' "$hull$marked" '' marked
+expect 'a time that ends in -000000' '' 'seconds:2: bad line\n' seconds
 expect 'too long' '' 'long: too long: more than 65,536 bytes\n' long
 expect 'a name that begins with -' "$hull" '' ./-odd
 expect 'a missing file' '' 'stamplist: nowhere: No such file or directory\n' nowhere

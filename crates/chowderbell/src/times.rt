@@ -355,8 +355,9 @@ fn hand_out(a: Answer, seconds: &mut i64, offset: &mut i32) -> u8
 fn hand_marked(a: Answer, seconds: &mut i64, offset: &mut i32, mark: &mut u8) -> u8
     ensures { λ r. ⌜ HandedMarked a r (now (seconds .exit)) (now (offset .exit)) (now (mark .exit)) ⌝ }
 {
+    let number = hand_out(a, seconds, offset);
     *mark = mark_of(a);
-    hand_out(a, seconds, offset)
+    number
 }
 
 // The mark of an answer, as a byte.
