@@ -5,7 +5,7 @@ use std::io::{IsTerminal, Write as _};
 use std::time::{Duration, Instant};
 
 use crate::fence::Fence;
-use crate::oracle::{self, Answer, By, Bytes, FORMS, Form, MAX_TURNS, Now, Writer};
+use crate::oracle::{self, Answer, By, Bytes, FORMS, Form, MARKS, MAX_TURNS, Now, Writer};
 use crate::side::Side;
 
 /// The longest text that is asked.
@@ -22,18 +22,21 @@ const LEAST_REPEATS: usize = 64;
 /// What outputs and rooms hold before a call, so that a byte that was written can be recognised.
 const SECONDS_BEFORE: i64 = 0x5a5a_5a5a_5a5a_5a5a;
 const OFFSET_BEFORE: i32 = 0x5a5a_5a5a;
+const MARK_BEFORE: u8 = 0x5a;
 const LENGTH_BEFORE: usize = 0x5a5a;
 const ROOM_BEFORE: u8 = 0xa5;
 /// Numbers that name no rule. A text is asked by one of them, by its length.
 const NO_RULES: [u32; 4] = [0, 3, 4, u32::MAX];
 
-/// What a side was asked. `Alike` asks whether both readers of relative dates answer alike.
+/// What a side was asked. `Alike` asks whether both readers of relative dates answer alike, `Back` for a header that was
+/// written with this byte for the mark.
 #[derive(Clone, PartialEq, Eq)]
 pub enum Question {
     Read { form: Form, text: Vec<u8>, now: Option<(i64, i32)> },
     Alike { text: Vec<u8>, now: Option<(i64, i32)> },
     Size { seconds: i64, offset: i32 },
     Write { writer: Writer, seconds: i64, offset: i32, room: usize },
+    Back { seconds: i64, offset: i32, mark: u8 },
 }
 
 impl Question {
@@ -48,6 +51,7 @@ impl Question {
             Question::Write { seconds, offset, room, .. } => {
                 (*room, seconds.unsigned_abs(), offset.unsigned_abs(), Vec::new())
             }
+            Question::Back { seconds, offset, mark } => (0, seconds.unsigned_abs(), offset.unsigned_abs(), vec![*mark]),
         }
     }
 }
@@ -68,7 +72,10 @@ impl fmt::Display for Question {
             }
             Question::Size { seconds, offset } => write!(f, "size of {seconds} {offset}"),
             Question::Write { writer, seconds, offset, room } => {
-                write!(f, "{}, {seconds} {offset}, room of {room}", writer.name())
+                write!(f, "{writer}, {seconds} {offset}, room of {room}")
+            }
+            Question::Back { seconds, offset, mark } => {
+                write!(f, "header of {seconds} {offset} and mark {mark}, written and read back")
             }
         }
     }
@@ -94,6 +101,8 @@ pub struct Row {
     pub compared: u64,
     /// Answered 0.
     pub accepted: u64,
+    /// Answered with the mark set.
+    pub marked: u64,
     /// Answers that follow from the rules alone, see [`By::Rules`].
     pub by_rules: u64,
     pub differ: u64,
@@ -101,13 +110,18 @@ pub struct Row {
 }
 
 /// The rows of the summary. A reader by a rule has one for each rule, and one for all numbers that name none. In the row
-/// "turns as first" the second reader of relative dates is compared with the first, and gix-date is not asked.
-const ROW_NAMES: [&str; 16] = [
+/// "turns as first" the second reader of relative dates is compared with the first, and in the row "read back" what was
+/// written is read; gix-date is not asked for either.
+const ROW_NAMES: [&str; 25] = [
     "header",
+    "header with mark",
     "raw",
     "raw by 1",
     "raw by 2",
     "raw by no rule",
+    "raw with mark by 1",
+    "raw with mark by 2",
+    "raw with mark by none",
     "iso",
     "relative",
     "relative turns",
@@ -116,29 +130,51 @@ const ROW_NAMES: [&str; 16] = [
     "any by 1",
     "any by 2",
     "any by no rule",
+    "any with mark by 1",
+    "any with mark by 2",
+    "any with mark by none",
     "size",
     "header writer",
+    "writer with mark",
+    "read back",
     "ISO writer",
 ];
 const ROWS: usize = ROW_NAMES.len();
-const ALIKE_ROW: usize = 8;
-const SIZE_ROW: usize = 13;
+const ALIKE_ROW: usize = 12;
+const SIZE_ROW: usize = 20;
+const BACK_ROW: usize = 23;
 
 /// The row of a reader.
 fn row_of(form: Form) -> usize {
     match form {
         Form::Header => 0,
-        Form::Raw => 1,
-        Form::RawBy(1) => 2,
-        Form::RawBy(2) => 3,
-        Form::RawBy(_) => 4,
-        Form::Iso => 5,
-        Form::Relative => 6,
-        Form::Turns => 7,
-        Form::Any => 9,
-        Form::AnyBy(1) => 10,
-        Form::AnyBy(2) => 11,
-        Form::AnyBy(_) => 12,
+        Form::HeaderMarked => 1,
+        Form::Raw => 2,
+        Form::RawBy(1) => 3,
+        Form::RawBy(2) => 4,
+        Form::RawBy(_) => 5,
+        Form::RawMarked(1) => 6,
+        Form::RawMarked(2) => 7,
+        Form::RawMarked(_) => 8,
+        Form::Iso => 9,
+        Form::Relative => 10,
+        Form::Turns => 11,
+        Form::Any => 13,
+        Form::AnyBy(1) => 14,
+        Form::AnyBy(2) => 15,
+        Form::AnyBy(_) => 16,
+        Form::AnyMarked(1) => 17,
+        Form::AnyMarked(2) => 18,
+        Form::AnyMarked(_) => 19,
+    }
+}
+
+/// The row of a writer.
+fn writer_row(writer: Writer) -> usize {
+    match writer {
+        Writer::Header => 21,
+        Writer::HeaderMarked(_) => 22,
+        Writer::Iso => 24,
     }
 }
 
@@ -219,13 +255,17 @@ impl<'a> Ledger<'a> {
     }
 
     /// Asks the reader of a form. Raw and "any" are also asked by rule 1, by rule 2 and by a number that names no rule.
-    /// A relative date is also asked of the second reader, and held to the same answer of gix-date.
+    /// Where there is a reader of the form with its mark, it is asked too, and held to the same answer of gix-date; so is
+    /// the second reader of a relative date.
     pub fn ask(&mut self, form: Form, text: &[u8], now: &Now) {
         if self.is_over() {
             return;
         }
         let wanted = oracle::wanted(form, text, now);
         self.ask_one(form, text, now, wanted);
+        if let Some(with_mark) = form.with_mark() {
+            self.ask_one(with_mark, text, now, oracle::marked(with_mark, text, wanted));
+        }
         let by: fn(u32) -> Form = match form {
             Form::Raw => Form::RawBy,
             Form::Any => Form::AnyBy,
@@ -233,13 +273,12 @@ impl<'a> Ledger<'a> {
             _ => return,
         };
         for rule in [1, 2, NO_RULES[text.len() % NO_RULES.len()]] {
-            if !self.is_over() {
-                self.ask_one(by(rule), text, now, oracle::wanted(by(rule), text, now));
-            }
+            self.ask(by(rule), text, now);
         }
     }
 
-    /// Asks one reader, and compares number, seconds and offset. On a refusal seconds and offset must be 0.
+    /// Asks one reader, and compares number, seconds, offset and the mark if there is one. On a refusal all but the number
+    /// must be 0.
     fn ask_one(&mut self, form: Form, text: &[u8], now: &Now, (wanted, by): (Answer, By)) {
         if self.is_over() {
             return;
@@ -248,10 +287,11 @@ impl<'a> Ledger<'a> {
         let row = &mut self.rows[row_of(form)];
         row.compared += 1;
         row.accepted += u64::from(wanted.number == 0);
+        row.marked += u64::from(wanted.mark);
         row.by_rules += u64::from(by == By::Rules);
         if got != wanted {
             let question = Question::Read { form, text: text.to_vec(), now: now.time };
-            self.note(row_of(form), question, shown(wanted), shown(got));
+            self.note(row_of(form), question, shown(form, wanted), shown(form, got));
         }
         self.tick();
     }
@@ -267,7 +307,7 @@ impl<'a> Ledger<'a> {
         row.accepted += u64::from(wanted.number == 0);
         if got != wanted {
             let question = Question::Alike { text: text.to_vec(), now: now.time };
-            self.note(ALIKE_ROW, question, shown(wanted), shown(got));
+            self.note(ALIKE_ROW, question, shown(Form::Turns, wanted), shown(Form::Turns, got));
         }
         self.tick();
     }
@@ -305,12 +345,20 @@ impl<'a> Ledger<'a> {
         }
     }
 
-    /// Asks a writer, and compares number, length and every byte of the room and in front of it.
+    /// Asks a writer. The header writer is also asked with one of [`MARKS`], by the length of the room.
     pub fn ask_write(&mut self, writer: Writer, seconds: i64, offset: i32, room: usize) {
+        self.ask_one_write(writer, seconds, offset, room);
+        if writer == Writer::Header {
+            self.ask_one_write(Writer::HeaderMarked(MARKS[room % MARKS.len()]), seconds, offset, room);
+        }
+    }
+
+    /// Asks one writer, and compares number, length and every byte of the room and in front of it.
+    fn ask_one_write(&mut self, writer: Writer, seconds: i64, offset: i32, room: usize) {
         if self.is_over() {
             return;
         }
-        let at_row = SIZE_ROW + 1 + writer as usize;
+        let at_row = writer_row(writer);
         let (mut bytes, mut number, mut length) = ([ROOM_BEFORE; 64], 0, 0);
         match oracle::written(writer, seconds, offset) {
             Bytes::Refused(refusal) => number = refusal,
@@ -336,16 +384,39 @@ impl<'a> Ledger<'a> {
         self.tick();
     }
 
+    /// Has a header written with this byte for the mark and read back, at an offset that is written.
+    pub fn ask_back(&mut self, seconds: i64, offset: i32, mark: u8) {
+        if self.is_over() {
+            return;
+        }
+        let wanted = oracle::read_back(seconds, offset, mark);
+        let (mut room, mut length) = ([0; 32], 0);
+        let number = self.side.write(Writer::HeaderMarked(mark), seconds, offset, &mut room, &mut length);
+        let got = match number {
+            0 => self.read(Form::HeaderMarked, &room[..length.min(room.len())], &Now::missing()),
+            _ => Answer { number, seconds: 0, offset: 0, mark: 0 },
+        };
+        let row = &mut self.rows[BACK_ROW];
+        row.compared += 1;
+        row.accepted += 1;
+        row.marked += u64::from(wanted.mark);
+        if got != wanted {
+            let [wanted, got] = [wanted, got].map(|answer| shown(Form::HeaderMarked, answer));
+            self.note(BACK_ROW, Question::Back { seconds, offset, mark }, wanted, got);
+        }
+        self.tick();
+    }
+
     /// What the side answers. The text lies next to a fence, and the call must not change it.
     fn read(&mut self, form: Form, text: &[u8], now: &Now) -> Answer {
         let at_last = &mut self.at_last[row_of(form)];
         *at_last = !*at_last;
         let memory = if *at_last { self.fence.last(text.len()) } else { self.fence.first(text.len()) };
         memory.copy_from_slice(text);
-        let (mut seconds, mut offset) = (SECONDS_BEFORE, OFFSET_BEFORE);
-        let number = self.side.read(form, memory, now, &mut seconds, &mut offset);
+        let (mut seconds, mut offset, mut mark) = (SECONDS_BEFORE, OFFSET_BEFORE, MARK_BEFORE);
+        let number = self.side.read(form, memory, now, &mut seconds, &mut offset, &mut mark);
         assert!(memory == text, "{form} changed its text \"{}\"", text.escape_ascii());
-        Answer { number, seconds, offset }
+        Answer { number, seconds, offset, mark: if form.has_mark() { mark } else { 0 } }
     }
 
     /// Counts a difference, keeps it if it is the smallest so far, and prints it if it is among the first.
@@ -405,11 +476,12 @@ impl<'a> Ledger<'a> {
         let current = now.map_or(Now::missing(), |(seconds, offset)| Now::at(seconds, offset));
         let text = self.cut_down(form, text, &current);
         let (wanted, got) = self.answers(form, &text, &current);
+        let [wanted, got] = [wanted, got].map(|answer| shown(form.unwrap_or(Form::Turns), answer));
         let question = match form {
             Some(form) => Question::Read { form, text, now },
             None => Question::Alike { text, now },
         };
-        Some(Difference { question, wanted: shown(wanted), got: shown(got) })
+        Some(Difference { question, wanted, got })
     }
 
     /// What the reader of a form should answer, and what it does answer. Without a form, the same of [`Self::both`].
@@ -457,25 +529,31 @@ impl<'a> Ledger<'a> {
     pub fn summary(&mut self) {
         println!();
         println!(
-            "{:<14} {:>14} {:>14} {:>14} {:>16} {:>8}",
-            "", "compared", "accepted", "refused", "rules alone", "differ"
+            "{:<21} {:>14} {:>14} {:>14} {:>14} {:>14} {:>8}",
+            "", "compared", "accepted", "refused", "mark set", "rules alone", "differ"
         );
         for (name, row) in ROW_NAMES.iter().zip(&self.rows) {
             println!(
-                "{name:<14} {:>14} {:>14} {:>14} {:>16} {:>8}",
+                "{name:<21} {:>14} {:>14} {:>14} {:>14} {:>14} {:>8}",
                 grouped(row.compared),
                 grouped(row.accepted),
                 grouped(row.compared - row.accepted),
+                grouped(row.marked),
                 grouped(row.by_rules),
                 grouped(row.differ)
             );
         }
-        println!("{:<14} {:>14} {:>62}", "all", grouped(self.compared()), grouped(self.differ()));
+        println!("{:<21} {:>14} {:>68}", "all", grouped(self.compared()), grouped(self.differ()));
         println!(
             "\"rules alone\": answers that gix-date cannot give (4; 2 by a number that names no rule), or that differ"
         );
         println!("from its own on purpose (1; 5; 2 by turns for a text of more than {MAX_TURNS} bytes). By rule 2 the");
-        println!("others are gix-date's with the limits of that rule. \"turns as first\" does not ask gix-date.");
+        println!(
+            "others are gix-date's with the limits of that rule. gix-date has no mark: that is held to the rules, and"
+        );
+        println!(
+            "number, seconds and offset beside it to gix-date. \"turns as first\" and \"read back\" do not ask gix-date."
+        );
         for (row, name) in ROW_NAMES.iter().enumerate() {
             if let Some(difference) = self.smallest_of(row) {
                 println!("\nsmallest of {name}: {difference}");
@@ -484,8 +562,10 @@ impl<'a> Ledger<'a> {
     }
 }
 
-fn shown(answer: Answer) -> String {
-    format!("{} {} {}", answer.number, answer.seconds, answer.offset)
+/// The answer of a reader of this form.
+fn shown(form: Form, answer: Answer) -> String {
+    let mark = if form.has_mark() { format!(" mark {}", answer.mark) } else { String::new() };
+    format!("{} {} {}{mark}", answer.number, answer.seconds, answer.offset)
 }
 
 /// A text in quotes. In long texts, repeats are printed as in Python: `"now" + " " * 4094`.

@@ -10,6 +10,10 @@
 //!
 //! gix-date reads raw dates by rule 1 (RULES 5.7). By rule 2 the answers are those of its own code with the two limits
 //! of that rule.
+//!
+//! gix-date has no mark. Readers that give one are held to gix-date in number, seconds and offset, like those that do not,
+//! and in the mark to RULES 5.10, by `mark`. The header writer that takes one is held to gix-date but for offset 0 with the
+//! mark, which is `-0000` (RULES 9.1).
 
 use std::fmt;
 use std::num::IntErrorKind;
@@ -19,6 +23,8 @@ use gix_date::parse::visible;
 use gix_date::time::format::ISO8601_STRICT;
 use jiff::tz::{Offset, OffsetRound};
 use jiff::{RoundMode, Unit, Zoned};
+
+use crate::mark;
 
 /// The smallest and the largest second in range.
 pub const MIN_SECONDS: i64 = -377705023201;
@@ -36,9 +42,13 @@ pub const LEAST_PLAIN: i64 = 100_000_000;
 #[derive(Clone, Copy, PartialEq, Eq, Debug)]
 pub enum Form {
     Header,
+    /// A header with its mark.
+    HeaderMarked,
     Raw,
     /// A raw date by the rule with this number.
     RawBy(u32),
+    /// The same with its mark.
+    RawMarked(u32),
     Iso,
     Relative,
     /// A relative date by the second reader, which takes turns (RULES 7.11).
@@ -46,6 +56,8 @@ pub enum Form {
     Any,
     /// A date in any form, with raw dates by the rule with this number.
     AnyBy(u32),
+    /// The same with its mark.
+    AnyMarked(u32),
 }
 
 /// The forms that a line of `whenread` can name. Their readers take no rule, and relative dates have the first reader.
@@ -56,13 +68,16 @@ impl fmt::Display for Form {
     fn fmt(&self, f: &mut fmt::Formatter<'_>) -> fmt::Result {
         match self {
             Form::Header => f.write_str("header"),
+            Form::HeaderMarked => f.write_str("header with mark"),
             Form::Raw => f.write_str("raw"),
             Form::RawBy(rule) => write!(f, "raw by rule {rule}"),
+            Form::RawMarked(rule) => write!(f, "raw with mark by rule {rule}"),
             Form::Iso => f.write_str("iso"),
             Form::Relative => f.write_str("relative"),
             Form::Turns => f.write_str("relative by turns"),
             Form::Any => f.write_str("any"),
             Form::AnyBy(rule) => write!(f, "any by rule {rule}"),
+            Form::AnyMarked(rule) => write!(f, "any with mark by rule {rule}"),
         }
     }
 }
@@ -70,7 +85,22 @@ impl fmt::Display for Form {
 impl Form {
     /// Whether its reader takes the current time.
     pub fn takes_now(self) -> bool {
-        matches!(self, Form::Relative | Form::Turns | Form::Any | Form::AnyBy(_))
+        matches!(self, Form::Relative | Form::Turns | Form::Any | Form::AnyBy(_) | Form::AnyMarked(_))
+    }
+
+    /// The same form with its mark, if there is a reader that gives it.
+    pub fn with_mark(self) -> Option<Form> {
+        match self {
+            Form::Header => Some(Form::HeaderMarked),
+            Form::RawBy(rule) => Some(Form::RawMarked(rule)),
+            Form::AnyBy(rule) => Some(Form::AnyMarked(rule)),
+            _ => None,
+        }
+    }
+
+    /// Whether its reader gives the mark.
+    pub fn has_mark(self) -> bool {
+        matches!(self, Form::HeaderMarked | Form::RawMarked(_) | Form::AnyMarked(_))
     }
 }
 
@@ -80,15 +110,17 @@ pub struct Answer {
     pub number: u8,
     pub seconds: i64,
     pub offset: i32,
+    /// 1 if the mark is set, and 0 if it is clear or if the reader gives none.
+    pub mark: u8,
 }
 
 impl Answer {
     fn read(time: Time) -> Answer {
-        Answer { number: 0, seconds: time.seconds, offset: time.offset }
+        Answer { number: 0, seconds: time.seconds, offset: time.offset, mark: 0 }
     }
 
     fn refused(number: u8) -> Answer {
-        Answer { number, seconds: 0, offset: 0 }
+        Answer { number, seconds: 0, offset: 0, mark: 0 }
     }
 }
 
@@ -104,6 +136,7 @@ pub enum By {
 }
 
 /// What depends on the rule of raw dates: gix-date's readers of these and of "any".
+#[derive(Clone, Copy)]
 struct Readers {
     raw: fn(&str) -> Option<Time>,
     any: fn(&str, Option<Zoned>) -> Option<Time>,
@@ -161,8 +194,10 @@ pub fn wanted(form: Form, text: &[u8], now: &Now) -> (Answer, By) {
     };
     match form {
         Form::Header => plain(gix_date::parse_header(text), || header_refusal(text)),
+        Form::HeaderMarked => marked(form, text.as_bytes(), wanted(Form::Header, text.as_bytes(), now)),
         Form::Raw => raw(BY_RULE_1, text),
         Form::RawBy(rule) => readers_by(rule).map_or(NO_RULE, |readers| raw(readers, text)),
+        Form::RawMarked(rule) => marked(form, text.as_bytes(), wanted(Form::RawBy(rule), text.as_bytes(), now)),
         Form::Iso => plain(visible::iso(text), || 2),
         Form::Relative => match visible::relative(text, now.zoned()) {
             None => (Answer::refused(2), By::Rust),
@@ -173,7 +208,29 @@ pub fn wanted(form: Form, text: &[u8], now: &Now) -> (Answer, By) {
         Form::Turns => by_turns(text.as_bytes(), wanted(Form::Relative, text.as_bytes(), now)),
         Form::Any => any(BY_RULE_1, text, now),
         Form::AnyBy(rule) => readers_by(rule).map_or(NO_RULE, |readers| any(readers, text, now)),
+        Form::AnyMarked(rule) => marked(form, text.as_bytes(), wanted(Form::AnyBy(rule), text.as_bytes(), now)),
     }
+}
+
+/// The right answer of a reader that gives the mark, given that of the reader of the same form that gives none: the same,
+/// with the mark of RULES 5.10. A refusal has none.
+pub fn marked(form: Form, text: &[u8], plain: (Answer, By)) -> (Answer, By) {
+    let (answer, by) = plain;
+    // most texts end here: without a `-` or with another offset there is no mark
+    if answer.number != 0 || answer.offset != 0 || !text.contains(&b'-') {
+        return plain;
+    }
+    let text = std::str::from_utf8(text).expect("a text that is read is ASCII");
+    let is_set = match form {
+        Form::HeaderMarked => mark::of_header(text, answer.offset),
+        Form::RawMarked(_) => mark::of_raw(text, answer.offset),
+        Form::AnyMarked(rule) => {
+            let readers = readers_by(rule).expect("what is read is read by a rule");
+            read_as_raw(readers, text).is_some_and(|raw| mark::of_raw(raw, answer.offset))
+        }
+        _ => false,
+    };
+    (Answer { mark: u8::from(is_set), ..answer }, by)
 }
 
 /// The right answer of the second reader of relative dates, given that of the first: the same, or 2 if the text is too
@@ -183,7 +240,7 @@ pub fn by_turns(text: &[u8], first: (Answer, By)) -> (Answer, By) {
 }
 
 /// The answer to every ASCII text if the number of the rule names none.
-const NO_RULE: (Answer, By) = (Answer { number: 2, seconds: 0, offset: 0 }, By::Rules);
+const NO_RULE: (Answer, By) = (Answer { number: 2, seconds: 0, offset: 0, mark: 0 }, By::Rules);
 
 /// The answer of a reader that needs no current time. `refusal` is the number of a text that it does not read.
 fn plain(time: Option<Time>, refusal: impl FnOnce() -> u8) -> (Answer, By) {
@@ -250,7 +307,7 @@ fn unread(now: &Now) -> (Answer, By) {
 }
 
 fn landed(zoned: &Zoned) -> Answer {
-    Answer { number: 0, seconds: zoned.timestamp().as_second(), offset: zoned.offset().seconds() }
+    Answer { number: 0, seconds: zoned.timestamp().as_second(), offset: zoned.offset().seconds(), mark: 0 }
 }
 
 /// Whether a relative text has more pairs than are read. The shortest such text is 33 times `1 x`, with a byte between.
@@ -261,26 +318,44 @@ fn has_too_many_pairs(text: &str) -> bool {
 
 /// Whether "any" gets as far as the relative form. Only used for texts with many pairs.
 fn is_read_as_relative(readers: Readers, text: &str) -> bool {
+    !is_read_before_relative(readers, text) && visible::relative(text, None).is_some()
+}
+
+/// Whether one of the forms that "any" tries before the relative one reads the text (RULES 8).
+fn is_read_before_relative(readers: Readers, text: &str) -> bool {
     let at = text.strip_prefix('@').is_some_and(|rest| (readers.raw)(rest).is_some() || rest.parse::<i64>().is_ok());
     let number = text.parse::<i64>().is_ok_and(|number| number >= LEAST_PLAIN);
-    !at && !number && visible::iso(text).is_none() && visible::relative(text, None).is_some()
+    at || number || visible::iso(text).is_some()
+}
+
+/// The raw date that "any" reads in the text, if it reads one: what follows an `@`, or as the last form the whole text.
+fn read_as_raw(readers: Readers, text: &str) -> Option<&str> {
+    let behind_at = text.strip_prefix('@').filter(|rest| (readers.raw)(rest).is_some());
+    let is_last = || !is_read_before_relative(readers, text) && visible::relative(text, None).is_none();
+    behind_at.or_else(|| (is_last() && (readers.raw)(text).is_some()).then_some(text))
 }
 
 /// A form that is written.
 #[derive(Clone, Copy, PartialEq, Eq, PartialOrd, Ord, Debug)]
 pub enum Writer {
     Header,
+    /// The header writer that takes the mark, with this byte for it.
+    HeaderMarked(u8),
     Iso,
 }
 
-impl Writer {
-    pub fn name(self) -> &'static str {
+impl fmt::Display for Writer {
+    fn fmt(&self, f: &mut fmt::Formatter<'_>) -> fmt::Result {
         match self {
-            Writer::Header => "header writer",
-            Writer::Iso => "ISO writer",
+            Writer::Header => f.write_str("header writer"),
+            Writer::HeaderMarked(mark) => write!(f, "header writer, mark {mark}"),
+            Writer::Iso => f.write_str("ISO writer"),
         }
     }
 }
+
+/// Bytes for the mark. A writer takes any but 0 for set.
+pub const MARKS: [u8; 5] = [0, 1, 2, 128, 255];
 
 /// The bytes of a time and how many they are, or the number of the refusal. The room is not considered.
 pub enum Bytes {
@@ -289,6 +364,8 @@ pub enum Bytes {
 }
 
 /// What the writer must write for a time.
+///
+/// A header with the mark is what gix-date writes, but for the sign of offset 0 (RULES 9.1).
 ///
 /// An ISO line is what gix-date's format `ISO8601_STRICT` gives for the time at its cut offset (RULES 9.4); jiff cuts it.
 /// Where the format fails, the seconds are out of range, which is 6. It also writes offsets of a day, which are 7 here, and
@@ -306,6 +383,13 @@ pub fn written(writer: Writer, seconds: i64, offset: i32) -> Bytes {
                 Err(_) => Bytes::Refused(7),
             }
         }
+        Writer::HeaderMarked(mark) => match written(Writer::Header, seconds, offset) {
+            Bytes::Written(mut bytes, length) if offset == 0 && mark != 0 => {
+                bytes[length - "+0000".len()] = b'-';
+                Bytes::Written(bytes, length)
+            }
+            others => others,
+        },
         Writer::Iso if offset.unsigned_abs() >= 86400 => Bytes::Refused(7),
         Writer::Iso => match Time::new(seconds, cut_to_minutes(offset)).format(ISO8601_STRICT) {
             Ok(line) if !line.starts_with('-') => {
@@ -322,6 +406,13 @@ pub fn written(writer: Writer, seconds: i64, offset: i32) -> Bytes {
 fn cut_to_minutes(offset: i32) -> i32 {
     let cut = OffsetRound::new().smallest(Unit::Minute).mode(RoundMode::Trunc);
     Offset::from_seconds(offset).and_then(|offset| offset.round(cut)).expect("less than a day").seconds()
+}
+
+/// What must be read back of a header that was written with this byte for the mark, at an offset that is written
+/// (RULES 12.2).
+pub fn read_back(seconds: i64, offset: i32, mark: u8) -> Answer {
+    let is_set = if offset == 0 { mark != 0 } else { (-59..=-1).contains(&offset) };
+    Answer { number: 0, seconds, offset: offset / 60 * 60, mark: u8::from(is_set) }
 }
 
 /// What `size` must answer.

@@ -19,10 +19,18 @@ pub struct Mistake {
     size: fn(i64, i32) -> usize,
     write: fn(Writer, i64, i32, &mut [u8], &mut usize) -> u8,
     leaves_outputs: bool,
+    leaves_mark: bool,
 }
 
-const RIGHT: Mistake =
-    Mistake { name: "", of_writers: false, read: |_, _, _| None, size: oracle::size, write, leaves_outputs: false };
+const RIGHT: Mistake = Mistake {
+    name: "",
+    of_writers: false,
+    read: |_, _, _| None,
+    size: oracle::size,
+    write,
+    leaves_outputs: false,
+    leaves_mark: false,
+};
 const WRITERS: Mistake = Mistake { of_writers: true, ..RIGHT };
 
 /// The mistakes: plausible shortcuts, misread rules, and programs that do no work at all.
@@ -129,6 +137,32 @@ pub const MISTAKES: &[Mistake] = &[
     Mistake { name: "by turns, 6 comes before 5", read: |f, t, n| range_before(f, t, n, 5), ..RIGHT },
     Mistake { name: "by turns, 6 comes before 2", read: |f, t, n| range_before(f, t, n, 2), ..RIGHT },
     Mistake { name: "by turns, the first pair looks at the current time", read: current_time_at_pair, ..RIGHT },
+    Mistake { name: "a refusal leaves what was in the mark", leaves_mark: true, ..RIGHT },
+    Mistake { name: "a header has the mark also with a third word", read: mark_with_third_word, ..RIGHT },
+    Mistake { name: "`+0000` has the mark", read: mark_of_plus, ..RIGHT },
+    Mistake { name: "every offset that opens with `-` has the mark", read: mark_of_minus, ..RIGHT },
+    Mistake {
+        name: "a second word that opens with `-` and is no offset has the mark",
+        read: mark_of_no_offset,
+        ..RIGHT
+    },
+    Mistake { name: "only offsets whose digits are all 0 have the mark", read: mark_of_zeros, ..RIGHT },
+    Mistake { name: "an offset of seven bytes has no mark", read: no_mark_of_seven, ..RIGHT },
+    Mistake { name: "the minus of the seconds is taken for the mark", read: mark_of_seconds, ..RIGHT },
+    Mistake { name: "a header has the mark of a raw date too", read: mark_of_raw_in_header, ..RIGHT },
+    Mistake { name: "by raw, `-+0+0` has no mark", read: no_mark_of_plus_fields, ..RIGHT },
+    Mistake { name: "by rule 2 there is no mark", read: no_mark_by_rule_2, ..RIGHT },
+    Mistake { name: "by rule 3 a refusal has the mark of rule 1", read: mark_by_rule_3, ..RIGHT },
+    Mistake { name: "\"any\" gives no mark behind `@`", read: no_mark_behind_at, ..RIGHT },
+    Mistake { name: "\"any\" gives a mark only behind `@`", read: mark_only_behind_at, ..RIGHT },
+    Mistake { name: "\"any\" gives the mark of an ISO date", read: mark_of_iso, ..RIGHT },
+    Mistake { name: "\"any\" gives the mark of a relative date", read: mark_of_relative, ..RIGHT },
+    Mistake { name: "a mark that is set is stored as 255", read: mark_as_255, ..RIGHT },
+    Mistake { name: "with the mark, a bad offset refuses the header", read: marked_refuses_bad_offset, ..RIGHT },
+    Mistake { name: "with the mark, the offset of a header is cut to minutes", read: marked_cuts_offset, ..RIGHT },
+    Mistake { name: "with the mark, a number that is too large is refused by 2", read: marked_too_large_is_2, ..RIGHT },
+    Mistake { name: "with the mark, rule 2 is read as rule 1", read: marked_by_rule_1, ..RIGHT },
+    Mistake { name: "with the mark, only the low byte of a rule's number counts", read: marked_low_byte, ..RIGHT },
     Mistake { name: "size is always 26", size: |_, _| 26, ..WRITERS },
     Mistake { name: "size miscounts 1000000000000000000", size: miscounts, ..WRITERS },
     Mistake { name: "the writer writes nothing", write: writes_nothing, ..WRITERS },
@@ -140,13 +174,22 @@ pub const MISTAKES: &[Mistake] = &[
     Mistake { name: "the ISO writer writes -00:00 at offset -30", write: minus_for_zero, ..WRITERS },
     Mistake { name: "the ISO writer cuts offsets downward", write: cuts_downward, ..WRITERS },
     Mistake { name: "the ISO writer tests the year at the full offset", write: year_at_full_offset, ..WRITERS },
+    Mistake { name: "the mark is ignored at offset 0", write: ignores_mark, ..WRITERS },
+    Mistake { name: "`-0000` is written for offset 30 with the mark", write: minus_beside_mark, ..WRITERS },
+    Mistake { name: "`+0000` is written for offset -30 with the mark", write: mark_turns_sign, ..WRITERS },
+    Mistake { name: "`-0000` is written for offset 0 without the mark", write: always_marked, ..WRITERS },
+    Mistake { name: "only the lowest bit of a mark counts", write: lowest_bit_of_mark, ..WRITERS },
+    Mistake { name: "only 1 sets the mark", write: only_1_is_set, ..WRITERS },
 ];
 
 impl Side for Mistake {
-    fn read(&self, form: Form, text: &[u8], now: &Now, seconds: &mut i64, offset: &mut i32) -> u8 {
+    fn read(&self, form: Form, text: &[u8], now: &Now, seconds: &mut i64, offset: &mut i32, mark: &mut u8) -> u8 {
         let answer = (self.read)(form, text, now).unwrap_or_else(|| right(form, text, now));
         if answer.number == 0 || !self.leaves_outputs {
             (*seconds, *offset) = (answer.seconds, answer.offset);
+        }
+        if answer.number == 0 || !self.leaves_mark {
+            *mark = answer.mark;
         }
         answer.number
     }
@@ -165,11 +208,11 @@ fn right(form: Form, text: &[u8], now: &Now) -> Answer {
 }
 
 fn refused(number: u8) -> Answer {
-    Answer { number, seconds: 0, offset: 0 }
+    Answer { number, seconds: 0, offset: 0, mark: 0 }
 }
 
 fn time(seconds: i64, offset: i32) -> Answer {
-    Answer { number: 0, seconds, offset }
+    Answer { number: 0, seconds, offset, mark: 0 }
 }
 
 fn is_relative(form: Form) -> bool {
@@ -641,6 +684,141 @@ fn current_time_at_pair(form: Form, text: &[u8], now: &Now) -> Option<Answer> {
     matches!(first.number, 3 | 4).then_some(first)
 }
 
+/// The right answer of a reader that gives the mark, if it reads the text.
+fn marked(form: Form, text: &[u8], now: &Now) -> Option<Answer> {
+    let answer = form.has_mark().then(|| right(form, text, now))?;
+    Some(answer).filter(|answer| answer.number == 0)
+}
+
+/// The answer with the mark set.
+fn set(answer: Answer) -> Answer {
+    Answer { mark: 1, ..answer }
+}
+
+/// The answer with the mark clear.
+fn clear(answer: Answer) -> Answer {
+    Answer { mark: 0, ..answer }
+}
+
+/// The rule of a reader that gives the mark.
+fn marked_rule(form: Form) -> Option<u32> {
+    match form {
+        Form::RawMarked(rule) | Form::AnyMarked(rule) => Some(rule),
+        _ => None,
+    }
+}
+
+/// The reader that gives the mark, by another rule if it has one.
+fn marked_by(form: Form, rule: u32) -> Form {
+    match form {
+        Form::RawMarked(_) => Form::RawMarked(rule),
+        Form::AnyMarked(_) => Form::AnyMarked(rule),
+        _ => form,
+    }
+}
+
+fn mark_with_third_word(form: Form, text: &[u8], now: &Now) -> Option<Answer> {
+    let answer = marked(form, text, now).filter(|_| form == Form::HeaderMarked)?;
+    let words: Vec<&str> = std::str::from_utf8(text).ok()?.split_whitespace().collect();
+    let first_two = words.get(..2)?.join(" ");
+    Some(Answer { mark: right(form, first_two.as_bytes(), now).mark, ..answer })
+}
+
+fn mark_of_plus(form: Form, text: &[u8], now: &Now) -> Option<Answer> {
+    let answer = marked(form, text, now).filter(|answer| answer.offset == 0)?;
+    second_word(text).filter(|word| *word == "+0000").map(|_| set(answer))
+}
+
+fn mark_of_minus(form: Form, text: &[u8], now: &Now) -> Option<Answer> {
+    let answer = marked(form, text, now).filter(|answer| answer.offset < 0)?;
+    second_word(text).filter(|word| word.starts_with('-')).map(|_| set(answer))
+}
+
+fn mark_of_no_offset(form: Form, text: &[u8], now: &Now) -> Option<Answer> {
+    let answer = marked(form, text, now).filter(|answer| form == Form::HeaderMarked && answer.offset == 0)?;
+    second_word(text).filter(|word| word.starts_with('-')).map(|_| set(answer))
+}
+
+fn mark_of_zeros(form: Form, text: &[u8], now: &Now) -> Option<Answer> {
+    let answer = marked(form, text, now)?;
+    second_word(text).filter(|word| word.contains(|c| ('1'..='9').contains(&c))).map(|_| clear(answer))
+}
+
+fn no_mark_of_seven(form: Form, text: &[u8], now: &Now) -> Option<Answer> {
+    let answer = marked(form, text, now)?;
+    second_word(text).filter(|word| word.len() == 7).map(|_| clear(answer))
+}
+
+fn mark_of_seconds(form: Form, text: &[u8], now: &Now) -> Option<Answer> {
+    let answer = marked(form, text, now).filter(|answer| answer.offset == 0)?;
+    text.trim_ascii_start().starts_with(b"-").then(|| set(answer))
+}
+
+fn mark_of_raw_in_header(form: Form, text: &[u8], now: &Now) -> Option<Answer> {
+    let answer = marked(form, text, now).filter(|_| form == Form::HeaderMarked)?;
+    (right(Form::RawMarked(2), text, now).mark == 1).then(|| set(answer))
+}
+
+fn no_mark_of_plus_fields(form: Form, text: &[u8], now: &Now) -> Option<Answer> {
+    let answer = marked(form, text, now).filter(|_| matches!(form, Form::RawMarked(_)))?;
+    second_word(text).filter(|word| word.contains('+')).map(|_| clear(answer))
+}
+
+fn no_mark_by_rule_2(form: Form, text: &[u8], now: &Now) -> Option<Answer> {
+    (marked_rule(form) == Some(2)).then(|| clear(right(form, text, now)))
+}
+
+fn mark_by_rule_3(form: Form, text: &[u8], now: &Now) -> Option<Answer> {
+    let mark = (marked_rule(form) == Some(3)).then(|| right(marked_by(form, 1), text, now).mark)?;
+    Some(Answer { mark, ..right(form, text, now) })
+}
+
+fn no_mark_behind_at(form: Form, text: &[u8], now: &Now) -> Option<Answer> {
+    marked(form, text, now).filter(|_| text.starts_with(b"@")).map(clear)
+}
+
+fn mark_only_behind_at(form: Form, text: &[u8], now: &Now) -> Option<Answer> {
+    let is_any = matches!(form, Form::AnyMarked(_));
+    marked(form, text, now).filter(|_| is_any && !text.starts_with(b"@")).map(clear)
+}
+
+fn mark_of_iso(form: Form, text: &[u8], now: &Now) -> Option<Answer> {
+    let answer = marked(form, text, now).filter(|_| matches!(form, Form::AnyMarked(_)))?;
+    let is_iso = right(Form::Iso, text, now).number == 0;
+    (is_iso && (text.ends_with(b"-0000") || text.ends_with(b"-00:00"))).then(|| set(answer))
+}
+
+fn mark_of_relative(form: Form, text: &[u8], now: &Now) -> Option<Answer> {
+    let answer = marked(form, text, now).filter(|answer| answer.offset == 0)?;
+    let is_relative = matches!(form, Form::AnyMarked(_)) && right(Form::Relative, text, now).number == 0;
+    second_word(text).filter(|word| is_relative && word.starts_with('-')).map(|_| set(answer))
+}
+
+fn mark_as_255(form: Form, text: &[u8], now: &Now) -> Option<Answer> {
+    marked(form, text, now).filter(|answer| answer.mark == 1).map(|answer| Answer { mark: 255, ..answer })
+}
+
+fn marked_refuses_bad_offset(form: Form, text: &[u8], now: &Now) -> Option<Answer> {
+    (form == Form::HeaderMarked).then(|| bad_offset_refuses(Form::Header, text, now))?
+}
+
+fn marked_cuts_offset(form: Form, text: &[u8], now: &Now) -> Option<Answer> {
+    let answer = marked(form, text, now).filter(|_| form == Form::HeaderMarked)?;
+    Some(Answer { offset: answer.offset / 60 * 60, ..answer })
+}
+
+fn marked_too_large_is_2(form: Form, text: &[u8], now: &Now) -> Option<Answer> {
+    (form.has_mark() && is_11(form, text, now)).then_some(refused(2))
+}
+
+fn marked_by_rule_1(form: Form, text: &[u8], now: &Now) -> Option<Answer> {
+    (marked_rule(form) == Some(2)).then(|| right(marked_by(form, 1), text, now))
+}
+
+fn marked_low_byte(form: Form, text: &[u8], now: &Now) -> Option<Answer> {
+    marked_rule(form).map(|rule| right(marked_by(form, rule & 255), text, now))
+}
+
 fn miscounts(seconds: i64, offset: i32) -> usize {
     oracle::size(seconds, offset) - usize::from(seconds == 1_000_000_000_000_000_000)
 }
@@ -716,4 +894,43 @@ fn year_at_full_offset(writer: Writer, seconds: i64, offset: i32, room: &mut [u8
         return 6;
     }
     write(writer, seconds, offset, room, length)
+}
+
+fn minus_beside_mark(writer: Writer, seconds: i64, offset: i32, room: &mut [u8], length: &mut usize) -> u8 {
+    let is_marked = matches!(writer, Writer::HeaderMarked(1..));
+    write(writer, seconds, if is_marked && (1..60).contains(&offset) { 0 } else { offset }, room, length)
+}
+
+fn mark_turns_sign(writer: Writer, seconds: i64, offset: i32, room: &mut [u8], length: &mut usize) -> u8 {
+    let is_marked = matches!(writer, Writer::HeaderMarked(1..));
+    write(writer, seconds, if is_marked && (-59..0).contains(&offset) { -offset } else { offset }, room, length)
+}
+
+/// Writes with the mark that `change` makes of the one that was passed.
+fn with_other_mark(
+    writer: Writer,
+    seconds: i64,
+    offset: i32,
+    room: &mut [u8],
+    length: &mut usize,
+    change: fn(u8) -> u8,
+) -> u8 {
+    let writer = if let Writer::HeaderMarked(mark) = writer { Writer::HeaderMarked(change(mark)) } else { writer };
+    write(writer, seconds, offset, room, length)
+}
+
+fn ignores_mark(writer: Writer, seconds: i64, offset: i32, room: &mut [u8], length: &mut usize) -> u8 {
+    with_other_mark(writer, seconds, offset, room, length, |_| 0)
+}
+
+fn always_marked(writer: Writer, seconds: i64, offset: i32, room: &mut [u8], length: &mut usize) -> u8 {
+    with_other_mark(writer, seconds, offset, room, length, |_| 1)
+}
+
+fn lowest_bit_of_mark(writer: Writer, seconds: i64, offset: i32, room: &mut [u8], length: &mut usize) -> u8 {
+    with_other_mark(writer, seconds, offset, room, length, |mark| mark & 1)
+}
+
+fn only_1_is_set(writer: Writer, seconds: i64, offset: i32, room: &mut [u8], length: &mut usize) -> u8 {
+    with_other_mark(writer, seconds, offset, room, length, |mark| u8::from(mark == 1))
 }

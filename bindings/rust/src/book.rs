@@ -12,7 +12,7 @@
 //! - PATH is 1 to 255 bytes from 32 to 126.
 //! - KEY is 16 bytes, each `0` to `9` or `a` to `f`.
 //! - TIME is exactly what [`Time::write_to`](crate::Time::write_to) writes for some time at an offset of whole minutes:
-//!   `1745582210 +0200`, and not `+5 +0000`, `05 +0000`, `5 +0060` or `5 -0000`.
+//!   `1745582210 +0200`, and also `5 -0000`, but not `+5 +0000`, `05 +0000`, `5 +0060` or `5 -000000`.
 //! - TEXT is a relative date without tab and newline that [`parse_relative`](crate::parse_relative) reads at the current
 //!   time SECONDS, OFFSET. These two are plain decimals: `0`, `-18000`, and not `+5`, `05` or `-0`.
 //!

@@ -1,9 +1,13 @@
 //! The C entries themselves: numbers in, numbers out.
 //!
 //! Each function passes its arguments to an entry and does nothing else, so the caller sees what the entry left in
-//! `seconds`, `offset`, `length`, `line` and `room`. The number 0 is success; the others are those of
-//! [`Refusal`](crate::Refusal). On a refusal `seconds`, `offset` and `length` are 0, and `room` is not changed. `line` is 0
-//! unless a book has a bad line. Every text, every book and every number has an answer.
+//! `seconds`, `offset`, `mark`, `length`, `line` and `room`. The number 0 is success; the others are those of
+//! [`Refusal`](crate::Refusal). On a refusal `seconds`, `offset`, `mark` and `length` are 0, and `room` is not changed.
+//! `line` is 0 unless a book has a bad line. Every text, every book and every number has an answer.
+//!
+//! The mark says of offset 0 that it is written `-0000`; [`Time::mark`](crate::Time::mark) has more on it. A reader stores 0
+//! if it is clear and 1 if it is set. To a writer any value but 0 means that it is set. The functions whose name does not
+//! end in `_marked` have no mark: their readers drop it, and [`write_header`] writes a time with the mark clear.
 
 // SAFETY, for every call in this file: each pointer comes from a reference or a slice that lives as long as the call, so
 // it is not null; a slice's pointer comes with its length; and what is written is borrowed mutably, so nothing overlaps
@@ -13,8 +17,23 @@
 mod c {
     extern "C" {
         pub fn chowderbell_header(text: *const u8, len: usize, seconds: *mut i64, offset: *mut i32) -> u8;
+        pub fn chowderbell_header_marked(
+            text: *const u8,
+            len: usize,
+            seconds: *mut i64,
+            offset: *mut i32,
+            mark: *mut u8,
+        ) -> u8;
         pub fn chowderbell_raw(text: *const u8, len: usize, seconds: *mut i64, offset: *mut i32) -> u8;
         pub fn chowderbell_raw_by(rule: u32, text: *const u8, len: usize, seconds: *mut i64, offset: *mut i32) -> u8;
+        pub fn chowderbell_raw_marked(
+            rule: u32,
+            text: *const u8,
+            len: usize,
+            seconds: *mut i64,
+            offset: *mut i32,
+            mark: *mut u8,
+        ) -> u8;
         pub fn chowderbell_iso(text: *const u8, len: usize, seconds: *mut i64, offset: *mut i32) -> u8;
         pub fn chowderbell_relative(
             text: *const u8,
@@ -53,9 +72,28 @@ mod c {
             seconds: *mut i64,
             offset: *mut i32,
         ) -> u8;
+        pub fn chowderbell_any_marked(
+            rule: u32,
+            text: *const u8,
+            len: usize,
+            has_now: u8,
+            now_seconds: i64,
+            now_offset: i32,
+            seconds: *mut i64,
+            offset: *mut i32,
+            mark: *mut u8,
+        ) -> u8;
         pub fn chowderbell_size(seconds: i64, offset: i32) -> usize;
         pub fn chowderbell_write_header(seconds: i64, offset: i32, room: *mut u8, len: usize, length: *mut usize)
             -> u8;
+        pub fn chowderbell_write_header_marked(
+            seconds: i64,
+            offset: i32,
+            mark: u8,
+            room: *mut u8,
+            len: usize,
+            length: *mut usize,
+        ) -> u8;
         pub fn chowderbell_write_iso(seconds: i64, offset: i32, room: *mut u8, len: usize, length: *mut usize) -> u8;
         pub fn chowderbell_book_check(book: *const u8, len: usize, line: *mut usize) -> u8;
         pub fn chowderbell_book_list(
@@ -84,6 +122,16 @@ pub fn header(text: &[u8], seconds: &mut i64, offset: &mut i32) -> u8 {
     unsafe { c::chowderbell_header(text.as_ptr(), text.len(), seconds, offset) }
 }
 
+/// Reads a header date with its mark. Returns 0, 1, 2 or 11.
+///
+/// The number, the seconds and the offset are those of [`header`]. The mark is set exactly if the second word is read as an
+/// offset, opens with `-` and gives 0.
+#[inline]
+#[must_use]
+pub fn header_marked(text: &[u8], seconds: &mut i64, offset: &mut i32, mark: &mut u8) -> u8 {
+    unsafe { c::chowderbell_header_marked(text.as_ptr(), text.len(), seconds, offset, mark) }
+}
+
 /// Reads a raw date, the header's strict form, by rule 1. Returns 0, 1, 2 or 11.
 #[inline]
 #[must_use]
@@ -99,6 +147,16 @@ pub fn raw(text: &[u8], seconds: &mut i64, offset: &mut i32) -> u8 {
 #[must_use]
 pub fn raw_by(rule: u32, text: &[u8], seconds: &mut i64, offset: &mut i32) -> u8 {
     unsafe { c::chowderbell_raw_by(rule, text.as_ptr(), text.len(), seconds, offset) }
+}
+
+/// Reads a raw date by the rule with this number, with its mark. Returns 0, 1, 2 or 11.
+///
+/// The number returned, the seconds and the offset are those of [`raw_by`]. The mark is set exactly if the offset opens with
+/// `-` and is 0.
+#[inline]
+#[must_use]
+pub fn raw_marked(rule: u32, text: &[u8], seconds: &mut i64, offset: &mut i32, mark: &mut u8) -> u8 {
+    unsafe { c::chowderbell_raw_marked(rule, text.as_ptr(), text.len(), seconds, offset, mark) }
 }
 
 /// Reads one of the three ISO forms. Returns 0, 1 or 2.
@@ -169,18 +227,61 @@ pub fn any_by(
     unsafe { c::chowderbell_any_by(rule, text.as_ptr(), text.len(), has_now, now_seconds, now_offset, seconds, offset) }
 }
 
-/// The length of the header date, which [`write_header`] writes; also if the offset is too wide to be written.
+/// Reads a date of any form, with raw dates read by the rule with this number, and with its mark. Returns 0 to 6, or 11.
+///
+/// The number returned, the seconds and the offset are those of [`any_by`]. The mark is that of [`raw_marked`] if the text
+/// is read as a raw date, also behind `@`. Otherwise it is clear. The current time is passed as to [`any`], without a mark.
+#[inline]
+#[must_use]
+#[allow(clippy::too_many_arguments)] // the entry has as many
+pub fn any_marked(
+    rule: u32,
+    text: &[u8],
+    has_now: u8,
+    now_seconds: i64,
+    now_offset: i32,
+    seconds: &mut i64,
+    offset: &mut i32,
+    mark: &mut u8,
+) -> u8 {
+    unsafe {
+        c::chowderbell_any_marked(
+            rule,
+            text.as_ptr(),
+            text.len(),
+            has_now,
+            now_seconds,
+            now_offset,
+            seconds,
+            offset,
+            mark,
+        )
+    }
+}
+
+/// The length of the header date, which [`write_header`] and [`write_header_marked`] write; also if the offset is too wide to
+/// be written.
 #[inline]
 #[must_use]
 pub fn size(seconds: i64, offset: i32) -> usize {
     unsafe { c::chowderbell_size(seconds, offset) }
 }
 
-/// Writes a time as a header date at the start of `room`. Returns 0, 7 or 8.
+/// Writes a time with the mark clear as a header date at the start of `room`. Returns 0, 7 or 8.
 #[inline]
 #[must_use]
 pub fn write_header(seconds: i64, offset: i32, room: &mut [u8], length: &mut usize) -> u8 {
     unsafe { c::chowderbell_write_header(seconds, offset, room.as_mut_ptr(), room.len(), length) }
+}
+
+/// Writes a time with this mark as a header date at the start of `room`. Returns 0, 7 or 8.
+///
+/// Offset 0 is written `-0000` if the mark is set, which it is by any value but 0. Beside any other offset the mark is
+/// ignored.
+#[inline]
+#[must_use]
+pub fn write_header_marked(seconds: i64, offset: i32, mark: u8, room: &mut [u8], length: &mut usize) -> u8 {
+    unsafe { c::chowderbell_write_header_marked(seconds, offset, mark, room.as_mut_ptr(), room.len(), length) }
 }
 
 /// Writes a time as `YYYY-MM-DDTHH:MM:SS+HH:MM` at the start of `room`. Returns 0, 6, 7 or 8.

@@ -2,7 +2,7 @@
 //! RULES 13, none by running the library.
 
 use chowderbell::book::{self, BookError, BookError::*};
-use chowderbell::{entries, Refusal};
+use chowderbell::{entries, Refusal, Time};
 
 /// A hull line with this time.
 fn hull(time: &str) -> String {
@@ -133,6 +133,10 @@ fn times() {
         "5 +0001",
         "5 -0001",
         "5 +0059",
+        // offset 0 with the mark is written so
+        "0 -0000",
+        "5 -0000",
+        "-9223372036854775808 -0000",
         "-1 -9959",
         // any seconds and any offset that the header writer takes
         "9223372036854775807 +9959",
@@ -142,9 +146,14 @@ fn times() {
         "",
         "5",
         "5 ",
-        // offset -30 is written so, and is not whole minutes
-        "0 -0000",
-        "5 -0000",
+        // seconds of an offset are not written, and no sign but the first
+        "5 -000000",
+        "5 +000000",
+        "5 -00-0",
+        "5 -+0+0",
+        "5 -0060",
+        "5 -000",
+        "-0 -0000",
         // offset 5400 is written +0130
         "5 +0090",
         "5 +0060",
@@ -176,6 +185,19 @@ fn times() {
     ];
     hold(good.map(|time| (hull(time), Ok(()))));
     hold(bad.map(|time| (hull(time), Err(BadLine(1)))));
+}
+
+/// RULES 13.5: a time may end in `-0000`, and such a line stays byte for byte. The mark does not matter to a cut-off.
+#[test]
+fn times_with_the_mark() {
+    let lines =
+        [hull("5 -0000"), since(5), hull("4 -0000"), hull("5 -0000"), hull("5 +0000"), since(6), hull("5 -0000")];
+    assert_eq!(listed(&lines), [1, 4, 5]);
+    assert_eq!(stay(&lines), [2, 6, 7]);
+    let mut room = [0; 64];
+    let listing = book::listing(&lines[0], &mut room).unwrap();
+    let time = listing.trim_end().rsplit('\t').next().map(str::parse);
+    assert_eq!(time, Some(Ok(Time::with_mark(5, 0, true))));
 }
 
 #[test]

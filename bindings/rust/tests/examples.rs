@@ -1,4 +1,5 @@
-//! The examples of RULES 11 and each refusal, through the safe calls. One row is one case.
+//! The examples of RULES 11 and each refusal, through the safe calls. One row is one case. The mark is not looked at here: it
+//! has its own tests, in `marks.rs`.
 
 use chowderbell::Refusal::{self, *};
 use chowderbell::{parse, parse_by, parse_header, parse_iso, parse_raw, parse_raw_by};
@@ -121,7 +122,7 @@ fn every_hour_and_minute() {
     for (sign, hours, minutes) in ["+", "-"].iter().flat_map(|sign| (0..10000).map(move |n| (sign, n / 100, n % 100))) {
         let text = format!("1745582210 {sign}{hours:02}{minutes:02}");
         let size = (hours * 60 + minutes) * 60;
-        let time = Time::new(1745582210, if *sign == "-" { -size } else { size });
+        let time = Time::with_mark(1745582210, if *sign == "-" { -size } else { size }, *sign == "-" && size == 0);
         let by = |is_read| if is_read { Ok(time) } else { Err(Form) };
         let (one, two) = (by(hours <= 14 && minutes % 15 == 0 && minutes <= 45), by(hours < 24 && minutes < 60));
         let got = [parse_raw(&text), parse_raw_by(RULE_1, &text), parse_raw_by(RULE_2, &text)];

@@ -76,16 +76,46 @@ fn our_answer(form: Form, text: &[u8]) -> (u8, i64, i32) {
     (number, seconds, offset)
 }
 
-/// A reader on some texts. Both sides must give the same answers.
-fn reader<'a>(name: &str, form: Form, texts: Vec<String>) -> Row<'a> {
+/// The same with the mark.
+#[cfg(feature = "marks")]
+fn our_marked_answer(form: Form, text: &[u8]) -> (u8, i64, i32, u8) {
+    let (mut seconds, mut offset, mut mark) = (0, 0, 0);
+    let (now, zone) = black_box(NOW);
+    let number = Ours::call_marked(form, text, (1, now, zone), &mut seconds, &mut offset, &mut mark);
+    (number, seconds, offset, mark)
+}
+
+/// One pass of ours over some texts. The answers must be right.
+fn our_pass<'a>(form: Form, texts: Vec<String>) -> Pass<'a> {
     let current = Now::at(NOW.0, NOW.1);
+    let wanted = |text: &str| oracle::wanted(form, text.as_bytes(), &current).0;
+    #[cfg(feature = "marks")]
+    if form.has_mark() {
+        for text in &texts {
+            let (wanted, got) = (wanted(text), our_marked_answer(form, text.as_bytes()));
+            assert_eq!(got, (wanted.number, wanted.seconds, wanted.offset, wanted.mark), "{form} {text:?}");
+        }
+        return Box::new(move || {
+            for text in &texts {
+                black_box(our_marked_answer(form, black_box(text.as_bytes())));
+            }
+        });
+    }
     for text in &texts {
-        let (wanted, _) = oracle::wanted(form, text.as_bytes(), &current);
-        let got = our_answer(form, text.as_bytes());
+        let (wanted, got) = (wanted(text), our_answer(form, text.as_bytes()));
         assert_eq!(got, (wanted.number, wanted.seconds, wanted.offset), "{form} {text:?}");
     }
-    let now = current.zoned().expect("a current time in range");
-    let ours_texts = texts.clone();
+    Box::new(move || {
+        for text in &texts {
+            black_box(our_answer(form, black_box(text.as_bytes())));
+        }
+    })
+}
+
+/// A reader on some texts. Both sides must give the same answers. gix-date gives no mark.
+fn reader<'a>(name: &str, form: Form, texts: Vec<String>) -> Row<'a> {
+    let now = Now::at(NOW.0, NOW.1).zoned().expect("a current time in range");
+    let ours = our_pass(form, texts.clone());
     Row {
         name: name.to_string(),
         inputs: texts.len(),
@@ -93,22 +123,20 @@ fn reader<'a>(name: &str, form: Form, texts: Vec<String>) -> Row<'a> {
             for text in &texts {
                 let text = black_box(text.as_str());
                 match form {
-                    Form::Header => drop(black_box(gix_date::parse_header(text))),
-                    Form::Raw | Form::RawBy(1) => drop(black_box(visible::raw(text))),
-                    Form::RawBy(_) => drop(black_box(visible::raw_2(text))),
+                    Form::Header | Form::HeaderMarked => drop(black_box(gix_date::parse_header(text))),
+                    Form::Raw | Form::RawBy(1) | Form::RawMarked(1) => drop(black_box(visible::raw(text))),
+                    Form::RawBy(_) | Form::RawMarked(_) => drop(black_box(visible::raw_2(text))),
                     Form::Iso => drop(black_box(visible::iso(text))),
                     // the current time is taken by value
                     Form::Relative | Form::Turns => drop(black_box(visible::relative(text, Some(now.clone())))),
-                    Form::Any | Form::AnyBy(1) => drop(black_box(visible::any(text, Some(now.clone())))),
-                    Form::AnyBy(_) => drop(black_box(visible::any_2(text, Some(now.clone())))),
+                    Form::Any | Form::AnyBy(1) | Form::AnyMarked(1) => {
+                        drop(black_box(visible::any(text, Some(now.clone()))))
+                    }
+                    Form::AnyBy(_) | Form::AnyMarked(_) => drop(black_box(visible::any_2(text, Some(now.clone())))),
                 }
             }
         }),
-        ours: Box::new(move || {
-            for text in &ours_texts {
-                black_box(our_answer(form, black_box(text.as_bytes())));
-            }
-        }),
+        ours,
     }
 }
 
@@ -161,14 +189,19 @@ fn readers<'a>() -> Vec<Row<'a>> {
     if cfg!(feature = "turns") {
         rows.extend(relative("relative by turns", Form::Turns));
     }
-    rows.extend([
-        row("any, `@` and seconds", Form::Any, &|k| format!("@{}", seconds(k))),
-        row("any, seconds", Form::Any, &|k| seconds(k).to_string()),
-        row("any, ISO", Form::Any, &flexible),
-        row("any, relative", Form::Any, &ago),
-        row("any, raw", Form::Any, &header),
-        row("any, refused", Form::Any, &|k| format!("no date at all {k}x")),
-    ]);
+    // the same texts without the mark and with it
+    let any = |name: &str, form: Form| {
+        let row = |about: &str, text: &dyn Fn(i64) -> String| row(&format!("{name}, {about}"), form, text);
+        [
+            row("`@` and seconds", &|k| format!("@{}", seconds(k))),
+            row("seconds", &|k| seconds(k).to_string()),
+            row("ISO", &flexible),
+            row("relative", &ago),
+            row("raw", &header),
+            row("refused", &|k| format!("no date at all {k}x")),
+        ]
+    };
+    rows.extend(any("any", Form::Any));
     if cfg!(feature = "rules") {
         let wider = |k: i64| format!("{} {}", seconds(k), ["+0520", "-2000", "+2359", "-0001"][(k % 4) as usize]);
         rows.extend([
@@ -177,6 +210,25 @@ fn readers<'a>() -> Vec<Row<'a>> {
             row("raw by rule 2, wider offsets", Form::RawBy(2), &wider),
             row("any by rule 1, raw", Form::AnyBy(1), &header),
             row("any by rule 2, raw", Form::AnyBy(2), &header),
+        ]);
+    }
+    if cfg!(feature = "marks") {
+        let zero = |k: i64| format!("{} -0000", seconds(k));
+        rows.extend([
+            row("header with mark", Form::HeaderMarked, &header),
+            row("header with mark, `-0000`", Form::HeaderMarked, &zero),
+            row("header with mark, no offset", Form::HeaderMarked, &|k| seconds(k).to_string()),
+            row("raw with mark by rule 1", Form::RawMarked(1), &header),
+            row("raw with mark by rule 1, `-0000`", Form::RawMarked(1), &zero),
+            row("raw with mark by rule 1, refused", Form::RawMarked(1), &|k| {
+                format!("{} +{:02}20", seconds(k), k % 24)
+            }),
+            row("raw with mark by rule 2", Form::RawMarked(2), &header),
+        ]);
+        rows.extend(any("any with mark by rule 1", Form::AnyMarked(1)));
+        rows.extend([
+            row("any with mark by rule 1, `-0000`", Form::AnyMarked(1), &zero),
+            row("any with mark by rule 2, raw", Form::AnyMarked(2), &header),
         ]);
     }
     rows
@@ -208,31 +260,46 @@ fn writers<'a>() -> Vec<Row<'a>> {
                 }
             })
         };
-        let gix = gix_times.clone();
-        row(
-            "header writer, by `to_str`",
+        let by_to_str = || -> Pass<'a> {
+            let times = gix_times.clone();
             Box::new(move || {
-                for time in &gix {
+                for time in &times {
                     let mut buf = TimeBuf::default();
                     black_box(black_box(*time).to_str(&mut buf).len());
                     black_box(&buf);
                 }
-            }),
-            we_write(),
-        );
-        let gix = gix_times.clone();
-        row(
-            "header writer, by `write_to`",
+            })
+        };
+        let by_write_to = || -> Pass<'a> {
+            let times = gix_times.clone();
             Box::new(move || {
-                for time in &gix {
+                for time in &times {
                     let mut room = [0; 26];
                     let mut rest = &mut room[..];
                     let _ = black_box(black_box(*time).write_to(&mut rest));
                     black_box(&room);
                 }
-            }),
-            we_write(),
-        );
+            })
+        };
+        row("header writer, by `to_str`", by_to_str(), we_write());
+        row("header writer, by `write_to`", by_write_to(), we_write());
+        #[cfg(feature = "marks")]
+        {
+            // the mark is set; a quarter of the times are at offset 0, and gix-date writes these with the other sign
+            let we_write_marked = || -> Pass<'a> {
+                let times = times.clone();
+                Box::new(move || {
+                    for (seconds, offset) in &times {
+                        let (mut room, mut length) = ([0; 26], 0);
+                        let (seconds, offset, mark) = (black_box(*seconds), black_box(*offset), black_box(1));
+                        let number = entries::write_header_marked(seconds, offset, mark, &mut room, &mut length);
+                        black_box((number, length, &room));
+                    }
+                })
+            };
+            row("header writer with mark, by `to_str`", by_to_str(), we_write_marked());
+            row("header writer with mark, by `write_to`", by_write_to(), we_write_marked());
+        }
         rows.push(size_row(format!("`size`{kind}"), Gix::Inlined, times));
     }
     rows.push(iso_writer());

@@ -10,7 +10,8 @@ use differential::suites::{SUITES, Size};
 
 const HELP: &str = "\
 Usage: compare [--times N] [--seed N] [SUITE...]
-Compare the proved library with gix-date 0.18.1: number, seconds, offset, bytes written, bytes not written.
+Compare the proved library with gix-date 0.18.1: number, seconds, offset, bytes written, bytes not written. The mark,
+which gix-date does not have, is compared with what the rules say.
 
   --times N   the random suites N times as long (default 1); from 2 on, sets of short texts go a byte further
   --seed N    other random texts (default 1)

@@ -71,10 +71,12 @@ impl Sample {
 fn text_for(form: Form, rng: &mut Rng) -> Vec<u8> {
     let mut text = Vec::new();
     match form {
-        Form::Header | Form::Raw | Form::RawBy(_) => texts::header(rng, &mut text),
+        Form::Header | Form::HeaderMarked | Form::Raw | Form::RawBy(_) | Form::RawMarked(_) => {
+            texts::header(rng, &mut text)
+        }
         Form::Iso => texts::iso(rng, &mut text),
         Form::Relative | Form::Turns => texts::relative(rng, &mut text),
-        Form::Any | Form::AnyBy(_) => texts::good(rng, &mut text),
+        Form::Any | Form::AnyBy(_) | Form::AnyMarked(_) => texts::good(rng, &mut text),
     }
     if rng.once_in(3) {
         texts::damage(rng, &mut text);

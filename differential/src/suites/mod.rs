@@ -4,6 +4,7 @@
 
 mod header;
 mod iso;
+mod marks;
 mod readers;
 mod relative;
 mod rules;
@@ -42,6 +43,7 @@ pub const SUITES: &[Suite] = &[
     suite("rule-numbers", "numbers of rules: 0 to 1000, around each power of two", rules::numbers_of_rules),
     suite("too-large", "numbers around 64 bits between fronts and tails, each reader", too_large::too_large),
     suite("turns", "the second relative reader: long texts, many pairs, many words", turns::turns),
+    suite("marks", "second words around -0000: header, raw and any, with their marks", marks::marks),
     suite("short", "every text of up to 4 bytes over 37 bytes, each reader", readers::short),
     suite("bytes", "every byte at every place of telling texts, each reader", readers::bytes),
     suite("offsets-5", "every offset of 5 bytes over sign, digits, space, letter", header::offsets_5),
@@ -61,6 +63,7 @@ pub const SUITES: &[Suite] = &[
     suite("write-offsets", "both writers, every offset from -400000 to 400000", writers::offsets),
     suite("write-seconds", "both writers, seconds around every edge, all rooms", writers::seconds),
     suite("write-random", "both writers, times at random", writers::random),
+    suite("write-marks", "headers with each mark, every offset, also read back", writers::marks),
 ];
 
 /// Calls `ask` with every text of `len` bytes over `alphabet`.

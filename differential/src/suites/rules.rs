@@ -37,13 +37,15 @@ fn numbers() -> impl Iterator<Item = u32> {
 }
 
 pub(super) fn numbers_of_rules(ledger: &mut Ledger, _: Size) {
-    const TEXTS: [&[u8]; 14] = [
+    const TEXTS: [&[u8]; 16] = [
         b"now",
         b"1 day ago",
         b"5 +0100",
         b"5 +0520",
         b"5 +2000",
         b"5 +2400",
+        b"5 -0000",
+        b"@5 -0000",
         b"@5 +0520",
         b"@5",
         b"100000000",

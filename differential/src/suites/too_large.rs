@@ -139,7 +139,7 @@ const TAILS: [&[u8]; 48] = [
 ];
 
 /// Asks every reader; raw and "any" also by rules 0 to 3.
-fn ask(ledger: &mut Ledger, text: &[u8], now: &Now) {
+pub(super) fn ask(ledger: &mut Ledger, text: &[u8], now: &Now) {
     ledger.ask_all(text, now);
     for rule in [0, 3] {
         ledger.ask(Form::RawBy(rule), text, now);

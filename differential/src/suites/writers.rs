@@ -2,7 +2,7 @@
 
 use super::{Size, seeded};
 use crate::ledger::Ledger;
-use crate::oracle::{MAX_SECONDS, MIN_SECONDS, Writer};
+use crate::oracle::{MARKS, MAX_SECONDS, MIN_SECONDS, Writer};
 use crate::texts::{YEAR_0, every_edge};
 
 /// The seconds of a commit of 2025, ten digits as in most commits.
@@ -100,4 +100,30 @@ pub(super) fn random(ledger: &mut Ledger, size: Size) {
         ledger.ask_write(Writer::Header, seconds, offset, 27);
         ledger.ask_write(Writer::Iso, seconds, offset, 26);
     });
+}
+
+pub(super) fn marks(ledger: &mut Ledger, _: Size) {
+    for offset in -400_000_i32..=400_000 {
+        let seconds = [0, -1, USUAL, i64::MIN, i64::MAX][(offset.unsigned_abs() % 5) as usize];
+        for mark in MARKS {
+            ledger.ask_write(Writer::HeaderMarked(mark), seconds, offset, 26);
+            if offset.unsigned_abs() < 360_000 {
+                ledger.ask_back(seconds, offset, mark);
+            }
+        }
+        if ledger.is_over() {
+            return;
+        }
+    }
+    // every byte, and every room, where the mark could matter and where the offset becomes too wide
+    for offset in (-130..=130).chain(359_900..=360_100).chain(-360_100..=-359_900).chain([i32::MIN, i32::MAX]) {
+        for seconds in [0, 7, -1, USUAL, i64::MIN, i64::MAX] {
+            for mark in 0..=255 {
+                ledger.ask_write(Writer::HeaderMarked(mark), seconds, offset, 26);
+            }
+            for mark in MARKS {
+                ledger.ask_rooms(Writer::HeaderMarked(mark), seconds, offset);
+            }
+        }
+    }
 }
