@@ -2,9 +2,9 @@
 // result as a pointer to where it is to be stored. Each entry returns 0 or the number of a refusal (RULES 2), except for
 // `chowderbell_size`. They keep no pointer and no state. `include/chowderbell.h` is the manual for callers.
 //
-// An entry whose name ends in `_marked` gives or takes the mark of `-0000` (RULES 5.10) as a byte. The others do without it, and call
-// those: each reader is called in one place alone, so that the compiler inlines it there. There the text is borrowed anew, as `&*text`:
-// the call from the other entry then passes it in registers. Without either, every call is slower (docs/SPEED.md).
+// An entry whose name ends in `_marked` gives or takes the mark of `-0000` (RULES 5.10) as a byte. The others do without it. Most of them
+// call those, so that a reader has one caller, into which the compiler inlines it. There the text is borrowed anew, as `&*text`, so that
+// the call from the other entry passes it in registers. Without either, every call is slower (docs/SPEED.md).
 ghost use mathlib.Core.Path.{_≡_};
 ghost use Rattle.text.specs.Room.{roomAfter};
 ghost use Rattle.time.specs.Answers.{timeAt, timeMarked, answerTime, isWritten};
