@@ -38,6 +38,13 @@ const CLEAR: u8 = 0;
 
 const SET: u8 = 1;
 
+// Where an entry without the mark lets it be stored. With the byte alone the compiler clears the stack by
+// reading the eight bytes around it, and that read has to wait for the byte just stored (docs/SPEED.md).
+struct Dropped {
+    mark: u8,
+    beside: u64,
+}
+
 // The rule that a number names, or that it names none.
 enum Named {
     By(Rule),
@@ -48,8 +55,11 @@ enum Named {
 pub extern "C" fn chowderbell_header(text: &[u8], seconds: &mut i64, offset: &mut i32) -> u8
     ensures { λ r. ⌜ HandedOut (headerOf (now (text .entry))) r (now (seconds .exit)) (now (offset .exit)) ⌝ }
 {
-    let mut mark = CLEAR;
-    chowderbell_header_marked(text, seconds, offset, &mut mark)
+    let mut dropped = Dropped {
+        mark: CLEAR,
+        beside: 0,
+    };
+    chowderbell_header_marked(text, seconds, offset, &mut dropped.mark)
 }
 
 #[no_mangle]
@@ -68,8 +78,11 @@ pub extern "C" fn chowderbell_header_marked(
 pub extern "C" fn chowderbell_raw(text: &[u8], seconds: &mut i64, offset: &mut i32) -> u8
     ensures { λ r. ⌜ HandedOut (rawOf rule1 (now (text .entry))) r (now (seconds .exit)) (now (offset .exit)) ⌝ }
 {
-    let mut mark = CLEAR;
-    raw_marked(text, seconds, offset, &mut mark)
+    let mut dropped = Dropped {
+        mark: CLEAR,
+        beside: 0,
+    };
+    raw_marked(text, seconds, offset, &mut dropped.mark)
 }
 
 // The number of the rule comes from the caller, so it may name none.
@@ -168,7 +181,10 @@ pub extern "C" fn chowderbell_any(
 ) -> u8
     ensures { λ r. ⌜ HandedOut (anyOf rule1 (now (text .entry)) (nowOf «has_now» «now_seconds» «now_offset»)) r (now (seconds .exit)) (now (offset .exit)) ⌝ }
 {
-    let mut mark = CLEAR;
+    let mut dropped = Dropped {
+        mark: CLEAR,
+        beside: 0,
+    };
     chowderbell_any_marked(
         RULE_1,
         text,
@@ -177,7 +193,7 @@ pub extern "C" fn chowderbell_any(
         now_offset,
         seconds,
         offset,
-        &mut mark,
+        &mut dropped.mark,
     )
 }
 
@@ -193,7 +209,10 @@ pub extern "C" fn chowderbell_any_by(
 ) -> u8
     ensures { λ r. ⌜ HandedOut (ruled (ruleOf rule) (λ l. anyOf l (now (text .entry)) (nowOf «has_now» «now_seconds» «now_offset»)) (now (text .entry))) r (now (seconds .exit)) (now (offset .exit)) ⌝ }
 {
-    let mut mark = CLEAR;
+    let mut dropped = Dropped {
+        mark: CLEAR,
+        beside: 0,
+    };
     chowderbell_any_marked(
         rule,
         text,
@@ -202,7 +221,7 @@ pub extern "C" fn chowderbell_any_by(
         now_offset,
         seconds,
         offset,
-        &mut mark,
+        &mut dropped.mark,
     )
 }
 
