@@ -2,7 +2,7 @@
 -- reader read the text, or what follows `@`, as that very time (`any-mark-from-raw`); and what raw reads behind `@` is the answer, with its
 -- mark (`any-at-raw`).
 -- Assumes nothing.
-use mathlib.Core.Path.{_≡_, refl, sym, ap, _∙_}
+use mathlib.Core.Path.{_≡_, refl, sym, _∙_}
 use mathlib.Core.Bool.{true, false, false≢true}
 use mathlib.Core.List.{List, [], _∷_}
 use mathlib.Core.Logic.{_⊎_, inl, inr, ⊎-elim}
@@ -21,12 +21,11 @@ use Rattle.text.specs.declared.number.Integer.the-variants.{Is, Nothing as NoIn
 use Rattle.text.proofs.Lists.{by-test}
 use Rattle.calendar.specs.declared.Found.{Found}
 use Rattle.calendar.specs.declared.Found.the-variants.{At as Day, Nothing as NoDay}
-use Rattle.time.specs.Answers.{answerNumber}
 use Rattle.time.specs.Range.{secondsInRange, since1970}
 use Rattle.time.specs.declared.Time.{Time}
 use Rattle.time.specs.declared.Now.{Now}
 use Rattle.time.specs.declared.Answer.{Answer}
-use Rattle.time.specs.declared.Answer.the-variants.{Time as At, Refused}
+use Rattle.time.specs.declared.Answer.the-variants.{Time as At}
 use Rattle.header.specs.Raw.{Limits, rawOf}
 use Rattle.iso.specs.Forms.{formOf}
 use Rattle.iso.specs.Iso.{dayOf, momentOf, zoned, isoOf}

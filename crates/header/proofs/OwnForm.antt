@@ -23,11 +23,10 @@ use Rattle.time.specs.declared.Time.{Time}
 use Rattle.time.specs.declared.Written.the-variants.{Length}
 use Rattle.time.specs.declared.Answer.the-variants.{Time as At}
 use Rattle.time.proofs.Theorems.{header-in-room}
-use Rattle.header.specs.Offset.{offsetOf, readTime}
+use Rattle.header.specs.Offset.{readTime}
 use Rattle.header.specs.Header.{headerOf}
 use Rattle.header.specs.Raw.{Limits, rawOf}
 use Rattle.header.specs.Theorems.{Seconds64, OwnForm}
-use Rattle.header.specs.declared.offset.Fields.{Fields}
 use Rattle.header.proofs.ReadBack.{fieldsAre, offsetOf-fieldsAre, headerOf-word, rawOf-word, headerSign-sign}
 
 -- ---- a size behind a sign

@@ -1,6 +1,6 @@
 -- `dates::parse_marked` meets its contract.
 -- Assumes nothing.
-use mathlib.Core.Path.{_≡_, ap, _∙_}
+use mathlib.Core.Path.{ap, _∙_}
 use mir.Syntax.{w32, w64}
 use Rattle.ints.proofs.Machine.{back}
 use Rattle.time.specs.Answers.{timeMarked}

@@ -1,12 +1,10 @@
 -- `header::offset::read_time` meets its contract: the offset is that of the fields, and the mark is set if it is 0 behind a `-`.
 -- Assumes nothing.
-use mathlib.Core.Path.{_≡_, ap, _∙_}
-use mathlib.Core.Bool.{Bool, _&&_}
+use mathlib.Core.Path.{ap, _∙_}
+use mathlib.Core.Bool.{_&&_}
 use native.Mathlib.Omega.{arith}
-use lib.Dec.{eqb}
 use lib.IntN.{ℤ, pos}
 use mir.Syntax.{w32, w64}
-use mir.Val.{SFits, ofZ}
 use Rattle.ints.specs.Equal.{eqZ}
 use Rattle.ints.proofs.Equals.{eqb-ofZ}
 use Rattle.ints.proofs.Machine.{back}

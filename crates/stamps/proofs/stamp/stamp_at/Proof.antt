@@ -1,6 +1,6 @@
 -- `stamps::stamp::stamp_at` meets its contract: seconds and tail in turn are the stamp of the line, and the offset of a tail fits 32 bits.
 -- Assumes nothing.
-use mathlib.Core.Path.{_≡_, sym, ap, _∙_}
+use mathlib.Core.Path.{sym, ap, _∙_}
 use native.Mathlib.Omega.{arith}
 use borrow.Author.Needs.{needs}
 use lib.IntN.{pos, negℤ}

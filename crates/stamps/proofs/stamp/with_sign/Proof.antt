@@ -11,8 +11,7 @@ use Rattle.stamps.specs.Held.{tailWith}
 use Rattle.stamps.specs.declared.stamp.Tail.the-variants.{Is}
 use Rattle.stamps.proofs.stamp.with_sign.Statement.{statement}
 use Rattle.stamps.proofs.stamp.with_sign.Tie as tie
-use mathlib.Core.Path.{_≡_}
-use mathlib.Core.Bool.{Bool, false}
+use mathlib.Core.Bool.{false}
 
 size-is : (n : ℕ) → n ≤ 362340 → At (pos 0) (pos 362340) (pos n) (toZ w64 n)
 size-is n h = cast w64 n tt h
