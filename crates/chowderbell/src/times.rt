@@ -2,10 +2,13 @@
 // result as a pointer to where it is to be stored. Each entry returns 0 or the number of a refusal (RULES 2), except for
 // `chowderbell_size`. They keep no pointer and no state. `include/chowderbell.h` is the manual for callers.
 //
-// An entry whose name ends in `_marked` gives or takes the mark of `-0000` (RULES 5.10) as a byte. The others do without it. Most of them
-// call those, so that a reader has one caller, into which the compiler inlines it. There the text is borrowed anew, as `&*text`, so that
-// the call from the other entry passes it in registers. Without either, every call is slower (docs/SPEED.md).
+// An entry whose name ends in `_marked` gives or takes the mark of `-0000` (RULES 5.10) as a byte. The others do without it, and are
+// to be as fast as if there were no mark (docs/SPEED.md). So where both call a reader of headers or raw dates, each has one of its own.
 ghost use mathlib.Core.Path.{_≡_};
+ghost use mathlib.Core.Bool.{cond, _&&_};
+ghost use Prim.Native.Nat.{_/_, _%_, _<_};
+ghost use lib.IntN.{pos, negsuc};
+ghost use Rattle.ints.specs.Equal.{eqZ};
 ghost use Rattle.text.specs.Room.{roomAfter};
 ghost use Rattle.time.specs.Answers.{timeAt, timeMarked, answerTime, isWritten};
 ghost use Rattle.time.specs.Header.{sizeOf, headerBytes, headerWritten};
@@ -38,12 +41,8 @@ const CLEAR: u8 = 0;
 
 const SET: u8 = 1;
 
-// Where an entry without the mark lets it be stored. With the byte alone the compiler clears the stack by
-// reading the eight bytes around it, and that read has to wait for the byte just stored (docs/SPEED.md).
-struct Dropped {
-    mark: u8,
-    beside: u64,
-}
+// What `packed` adds to a number for a mark that is set.
+const MARKED: u32 = 256;
 
 // The rule that a number names, or that it names none.
 enum Named {
@@ -55,11 +54,7 @@ enum Named {
 pub extern "C" fn chowderbell_header(text: &[u8], seconds: &mut i64, offset: &mut i32) -> u8
     ensures { λ r. ⌜ HandedOut (headerOf (now (text .entry))) r (now (seconds .exit)) (now (offset .exit)) ⌝ }
 {
-    let mut dropped = Dropped {
-        mark: CLEAR,
-        beside: 0,
-    };
-    chowderbell_header_marked(text, seconds, offset, &mut dropped.mark)
+    hand_out(header::parse_header(text), seconds, offset)
 }
 
 #[no_mangle]
@@ -71,18 +66,14 @@ pub extern "C" fn chowderbell_header_marked(
 ) -> u8
     ensures { λ r. ⌜ HandedMarked (headerOf (now (text .entry))) r (now (seconds .exit)) (now (offset .exit)) (now (mark .exit)) ⌝ }
 {
-    hand_marked(header::parse_header(&*text), seconds, offset, mark)
+    hand_marked(header::parse_header_marked(text), seconds, offset, mark)
 }
 
 #[no_mangle]
 pub extern "C" fn chowderbell_raw(text: &[u8], seconds: &mut i64, offset: &mut i32) -> u8
     ensures { λ r. ⌜ HandedOut (rawOf rule1 (now (text .entry))) r (now (seconds .exit)) (now (offset .exit)) ⌝ }
 {
-    let mut dropped = Dropped {
-        mark: CLEAR,
-        beside: 0,
-    };
-    raw_marked(text, seconds, offset, &mut dropped.mark)
+    hand_out(raw::parse_raw(text), seconds, offset)
 }
 
 // The number of the rule comes from the caller, so it may name none.
@@ -95,9 +86,6 @@ pub extern "C" fn chowderbell_raw_by(
 ) -> u8
     ensures { λ r. ⌜ HandedOut (ruled (ruleOf rule) (λ l. rawOf l (now (text .entry))) (now (text .entry))) r (now (seconds .exit)) (now (offset .exit)) ⌝ }
 {
-    if rule == RULE_1 {
-        return chowderbell_raw(text, seconds, offset);
-    }
     hand_out(raw_by(rule_of(rule), text), seconds, offset)
 }
 
@@ -112,16 +100,9 @@ pub extern "C" fn chowderbell_raw_marked(
     ensures { λ r. ⌜ HandedMarked (ruled (ruleOf rule) (λ l. rawOf l (now (text .entry))) (now (text .entry))) r (now (seconds .exit)) (now (offset .exit)) (now (mark .exit)) ⌝ }
 {
     if rule == RULE_1 {
-        return raw_marked(text, seconds, offset, mark);
+        return hand_marked(raw::parse_raw_marked(text), seconds, offset, mark);
     }
     hand_marked(raw_by(rule_of(rule), text), seconds, offset, mark)
-}
-
-// A raw date by rule 1, with its mark.
-fn raw_marked(text: &[u8], seconds: &mut i64, offset: &mut i32, mark: &mut u8) -> u8
-    ensures { λ r. ⌜ HandedMarked (rawOf rule1 (now (text .entry))) r (now (seconds .exit)) (now (offset .exit)) (now (mark .exit)) ⌝ }
-{
-    hand_marked(raw::parse_raw(&*text), seconds, offset, mark)
 }
 
 #[no_mangle]
@@ -181,20 +162,16 @@ pub extern "C" fn chowderbell_any(
 ) -> u8
     ensures { λ r. ⌜ HandedOut (anyOf rule1 (now (text .entry)) (nowOf «has_now» «now_seconds» «now_offset»)) r (now (seconds .exit)) (now (offset .exit)) ⌝ }
 {
-    let mut dropped = Dropped {
-        mark: CLEAR,
-        beside: 0,
-    };
-    chowderbell_any_marked(
+    let answered = any_packed(
         RULE_1,
         text,
         has_now,
         now_seconds,
         now_offset,
-        seconds,
         offset,
-        &mut dropped.mark,
-    )
+        seconds,
+    );
+    low_byte(answered)
 }
 
 #[no_mangle]
@@ -209,20 +186,16 @@ pub extern "C" fn chowderbell_any_by(
 ) -> u8
     ensures { λ r. ⌜ HandedOut (ruled (ruleOf rule) (λ l. anyOf l (now (text .entry)) (nowOf «has_now» «now_seconds» «now_offset»)) (now (text .entry))) r (now (seconds .exit)) (now (offset .exit)) ⌝ }
 {
-    let mut dropped = Dropped {
-        mark: CLEAR,
-        beside: 0,
-    };
-    chowderbell_any_marked(
+    let answered = any_packed(
         rule,
         text,
         has_now,
         now_seconds,
         now_offset,
-        seconds,
         offset,
-        &mut dropped.mark,
-    )
+        seconds,
+    );
+    low_byte(answered)
 }
 
 #[no_mangle]
@@ -238,16 +211,40 @@ pub extern "C" fn chowderbell_any_marked(
 ) -> u8
     ensures { λ r. ⌜ HandedMarked (ruled (ruleOf rule) (λ l. anyOf l (now (text .entry)) (nowOf «has_now» «now_seconds» «now_offset»)) (now (text .entry))) r (now (seconds .exit)) (now (offset .exit)) (now (mark .exit)) ⌝ }
 {
-    hand_marked(
-        any_by(
-            rule_of(rule),
-            &*text,
-            now_of(has_now, now_seconds, now_offset),
-        ),
-        seconds,
+    let answered = any_packed(
+        rule,
+        text,
+        has_now,
+        now_seconds,
+        now_offset,
         offset,
-        mark,
-    )
+        seconds,
+    );
+    *mark = second_byte(answered);
+    low_byte(answered)
+}
+
+// A date in any form, for the three entries above. The result has the number in its low byte and the mark in its second byte, so an
+// entry without the mark just drops it. The two places are in the other order than those of the entries: in the same order, the
+// compiler passes both on by one read of 16 bytes, which waits for the two stores of the caller (docs/SPEED.md).
+fn any_packed(
+    rule: u32,
+    text: &[u8],
+    has_now: u8,
+    now_seconds: i64,
+    now_offset: i32,
+    offset: &mut i32,
+    seconds: &mut i64,
+) -> u32
+    ensures { λ r. ⌜ HandedMarked (ruled (ruleOf rule) (λ l. anyOf l (now (text .entry)) (nowOf «has_now» «now_seconds» «now_offset»)) (now (text .entry))) (r % 256) (now (seconds .exit)) (now (offset .exit)) (r / 256) ⌝ }
+{
+    let a = any_by(
+        rule_of(rule),
+        &*text,
+        now_of(has_now, now_seconds, now_offset),
+    );
+    let number = hand_out(a, seconds, offset);
+    packed(number, mark_of(a))
 }
 
 // The length of a header. It cannot fail, so this is no number of a refusal.
@@ -268,7 +265,8 @@ pub extern "C" fn chowderbell_write_header(
     ensures length { λ r. ⌜ HandedLength (headerWritten (timeAt seconds offset) (now (room .entry))) r (now (length .exit)) ⌝ }
     ensures room { λ _. ⌜ now (room .exit) ≡ roomAfter (isWritten (headerWritten (timeAt seconds offset) (now (room .entry)))) (headerBytes (timeAt seconds offset)) (now (room .entry)) ⌝ }
 {
-    chowderbell_write_header_marked(seconds, offset, CLEAR, room, length)
+    let t = Time::new(seconds, offset);
+    hand_length(t.write_to(room), length)
 }
 
 // Any mark but 0 is set.
@@ -283,8 +281,17 @@ pub extern "C" fn chowderbell_write_header_marked(
     ensures length { λ r. ⌜ HandedLength (headerWritten (timeMarked seconds offset (isSet mark)) (now (room .entry))) r (now (length .exit)) ⌝ }
     ensures room { λ _. ⌜ now (room .exit) ≡ roomAfter (isWritten (headerWritten (timeMarked seconds offset (isSet mark)) (now (room .entry)))) (headerBytes (timeMarked seconds offset (isSet mark))) (now (room .entry)) ⌝ }
 {
-    let t = Time::with_mark(seconds, offset, mark != CLEAR);
-    hand_length(t.write_to(room), length)
+    chowderbell_write_header(seconds, shown_offset(offset, mark), room, length)
+}
+
+// The offset that is written for an offset and a mark. Offset 0 with the mark is written as -1 is: `-0000`.
+fn shown_offset(offset: i32, mark: u8) -> i32
+    ensures { λ r. ⌜ r ≡ cond (isSet mark && eqZ offset (pos 0)) (negsuc 0) offset ⌝ }
+{
+    if (mark != CLEAR) & (offset == 0) {
+        return -1;
+    }
+    offset
 }
 
 #[no_mangle]
@@ -412,4 +419,24 @@ fn hand_length(w: Written, length: &mut usize) -> u8
             time::number_of(r)
         }
     }
+}
+
+// A number and a mark, both bytes, as one number.
+fn packed(number: u8, mark: u8) -> u32
+    ensures { λ r. ⌜ (r % 256 ≡ number) × (r / 256 ≡ mark) ⌝ }
+{
+    number as u32 + MARKED * (mark as u32)
+}
+
+fn low_byte(n: u32) -> u8
+    ensures { λ r. ⌜ r ≡ n % 256 ⌝ }
+{
+    (n % MARKED) as u8
+}
+
+fn second_byte(n: u32) -> u8
+    requires { ⌜ n / 256 < 256 ⌝ }
+    ensures { λ r. ⌜ r ≡ n / 256 ⌝ }
+{
+    (n / MARKED) as u8
 }

@@ -29,25 +29,45 @@ use time::Time;
 pub fn parse_header(s: &[u8]) -> Answer
     ensures { λ r. ⌜ r ≡ headerOf (now (s .entry)) ⌝ }
 {
-    let opening = walk::open(s);
+    let opening = walk::open(&*s);
     let number = opening.number;
     let end = opening.end;
     if end == s.len() {
         return header_time(number, Parsed::Nothing);
     }
-    let usual = walk::usual_tail(s, opening);
+    let usual = walk::usual_tail(&*s, opening);
     let Parsed::Offset(f) = usual else {
-        return parse_other(s, opening);
+        return parse_other(&*s, opening);
     };
     header_time(number, Parsed::Offset(f))
 }
 
-// Reads a text of any other form word by word.
+// The same reader, for the entry that gives the mark, as `parse_header` is for the entry that does not.
+// The compiler inlines a function of this length only if it is called at one place: called by both
+// entries, one reader would make both slower (docs/SPEED.md).
+pub fn parse_header_marked(s: &[u8]) -> Answer
+    ensures { λ r. ⌜ r ≡ headerOf (now (s .entry)) ⌝ }
+{
+    let opening = walk::open(&*s);
+    let number = opening.number;
+    let end = opening.end;
+    if end == s.len() {
+        return header_time(number, Parsed::Nothing);
+    }
+    let usual = walk::usual_tail(&*s, opening);
+    let Parsed::Offset(f) = usual else {
+        return parse_other(&*s, opening);
+    };
+    header_time(number, Parsed::Offset(f))
+}
+
+// Reads a text of any other form word by word. `&*s` is the same text; passed on so, it comes in
+// registers and not by way of memory.
 fn parse_other(s: &[u8], opening: LeadingInteger) -> Answer
     requires { ⌜ LeadsWithNumber (now s) opening ⌝ }
     ensures { λ r. ⌜ r ≡ headerOf (now (s .entry)) ⌝ }
 {
-    let walked = walk::read_words(s, opening);
+    let walked = walk::read_words(&*s, opening);
     let Walked::Words(first) = walked else {
         return Answer::Refused(Refusal::NotAscii);
     };
@@ -56,7 +76,7 @@ fn parse_other(s: &[u8], opening: LeadingInteger) -> Answer
     }
     let number = first.number;
     let word = first.offset_word;
-    header_time(number, parse_offset(words::within(s, word)))
+    header_time(number, parse_offset(words::within(&*s, word)))
 }
 
 // Without a number the answer is refusal 2, with one that is too large refusal 11. Without an offset,

@@ -14,6 +14,7 @@ use text::number::LeadingInteger;
 use text::words;
 use time::Answer;
 use time::Refusal;
+use time::Time;
 
 // Which limits hold for hours and minutes: rule 1, which is gix-date's, or rule 2, which is wider.
 pub enum Rule {
@@ -28,17 +29,43 @@ pub enum Rule {
 pub fn parse_raw(s: &[u8]) -> Answer
     ensures { λ r. ⌜ r ≡ rawOf rule1 (now (s .entry)) ⌝ }
 {
-    let opening = walk::open(s);
+    let opening = walk::open(&*s);
     let number = opening.number;
     let end = opening.end;
     if end == s.len() {
         return raw_time(Rule::One, number, Parsed::Nothing);
     }
-    let usual = walk::usual_tail(s, opening);
+    let usual = walk::usual_tail(&*s, opening);
     let Parsed::Offset(f) = usual else {
-        return parse_words(s, walk::read_words(s, opening), Rule::One);
+        return parse_other(&*s, opening);
     };
     raw_time(Rule::One, number, Parsed::Offset(f))
+}
+
+// The same reader, for the entry that gives the mark: as with `header::parse_header_marked`, each
+// entry has one of its own.
+pub fn parse_raw_marked(s: &[u8]) -> Answer
+    ensures { λ r. ⌜ r ≡ rawOf rule1 (now (s .entry)) ⌝ }
+{
+    let opening = walk::open(&*s);
+    let number = opening.number;
+    let end = opening.end;
+    if end == s.len() {
+        return raw_time(Rule::One, number, Parsed::Nothing);
+    }
+    let usual = walk::usual_tail(&*s, opening);
+    let Parsed::Offset(f) = usual else {
+        return parse_other(&*s, opening);
+    };
+    raw_time(Rule::One, number, Parsed::Offset(f))
+}
+
+// Reads a text of any other form word by word, by rule 1.
+fn parse_other(s: &[u8], opening: LeadingInteger) -> Answer
+    requires { ⌜ LeadsWithNumber (now s) opening ⌝ }
+    ensures { λ r. ⌜ r ≡ rawOf rule1 (now (s .entry)) ⌝ }
+{
+    parse_words(&*s, walk::read_words(&*s, opening), Rule::One)
 }
 
 // Reads a raw date by either rule, and refuses as `parse_raw` does. The steps are those of
@@ -56,7 +83,7 @@ pub fn parse_raw_by(s: &[u8], rule: Rule) -> Answer
     }
     let usual = walk::usual_tail(&*s, opening);
     let Parsed::Offset(f) = usual else {
-        return parse_words(&*s, read_on(&*s, opening), rule);
+        return anew(parse_words(&*s, read_on(&*s, opening), rule));
     };
     raw_time(rule, number, Parsed::Offset(f))
 }
@@ -68,6 +95,17 @@ fn read_on(s: &[u8], opening: LeadingInteger) -> Walked
     ensures { λ r. ⌜ WordsRead (now (s .entry)) r ⌝ }
 {
     walk::read_words(s, opening)
+}
+
+// The same answer, taken apart and made anew. `parse_raw_by` returns it by way of memory; passed on
+// whole, it would be copied there in larger pieces than were stored, and that copy waits (docs/SPEED.md).
+fn anew(a: Answer) -> Answer
+    ensures { λ r. ⌜ r ≡ a ⌝ }
+{
+    match a {
+        Answer::Time(t) => Answer::Time(Time::with_mark(t.seconds, t.offset, t.mark)),
+        Answer::Refused(r) => Answer::Refused(r),
+    }
 }
 
 // The date in the words of a text of any other form. They are not tested for a `:`, since no number

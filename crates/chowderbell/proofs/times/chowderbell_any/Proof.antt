@@ -8,8 +8,9 @@ use Rattle.chowderbell.proofs.times.chowderbell_any.Tie as tie
 
 returns : tie.Need-returns
 returns c =
-    let start = c .before .before .before .before .before in
-    (rw (toZ-ofZ {w = w64} (start .fits .now-seconds), toZ-ofZ {w = w32} (start .fits .now-offset)) at (c .chowderbell-any-marked .ensures)) .handed-out
+    let at-any = c .before in
+    let start = at-any .before .before .before .before in
+    rw (c .low-byte .ensures) ((rw (toZ-ofZ {w = w64} (start .fits .now-seconds), toZ-ofZ {w = w32} (start .fits .now-offset)) at (at-any .any-packed .ensures)) .handed-out)
 
 pub chowderbell-any-spec : {M : Type 1} → statement M
-chowderbell-any-spec = tie.close (tie.spec (λ c κs. search needs) returns)
+chowderbell-any-spec = tie.close (tie.spec (λ c κs. search needs) (λ c κs. search needs) returns)

@@ -4,22 +4,10 @@ use borrow.Author.Needs.{needs}
 use Rattle.chowderbell.proofs.times.chowderbell_raw_by.Statement.{statement}
 use Rattle.chowderbell.proofs.times.chowderbell_raw_by.Tie as tie
 
--- rule 1
 returns : tie.Need-returns
-returns c = rw (c .before .before .before .if1 .taken) (c .chowderbell-raw .ensures)
-
-returns-2 : tie.Need-returns-2
-returns-2 c =
+returns c =
     let at-raw = c .before .before .before in
     rw (← at-raw .before .rule-of .ensures, ← at-raw .raw-by .ensures) (c .hand-out .ensures)
 
 pub chowderbell-raw-by-spec : {M : Type 1} → statement M
-chowderbell-raw-by-spec =
-    tie.close
-    (tie.spec
-    (λ c κs. search needs)
-    returns
-    (λ c κs. search needs)
-    (λ c κs. search needs)
-    (λ c κs. search needs)
-    returns-2)
+chowderbell-raw-by-spec = tie.close (tie.spec (λ c κs. search needs) (λ c κs. search needs) (λ c κs. search needs) returns)

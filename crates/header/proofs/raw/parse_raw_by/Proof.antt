@@ -13,7 +13,7 @@ returns c = c .raw-time .ensures ∙ sym (rawOf-of-alone _ _ (c .before .before 
 
 -- a text of any other form
 returns-2 : tie.Need-returns-2
-returns-2 c = c .parse-words .ensures
+returns-2 c = c .anew .ensures ∙ c .before .parse-words .ensures
 
 -- the usual form
 raw-time-requires-2 : tie.Need-raw-time-requires-2
@@ -37,6 +37,7 @@ parse-raw-by-spec =
     (λ c κs. search needs)
     (λ c. search needs)
     (λ c. search needs)
+    (λ c κs. search needs)
     (λ c κs. search needs)
     (λ c κs. search needs)
     returns-2
