@@ -33,7 +33,9 @@ use Rattle.time.proofs.Time.write_to.Reads as write-to
 use Rattle.time.proofs.Time.write_iso.Reads as write-iso
 use Rattle.time.proofs.Time.write_iso_with.Reads as write-iso-with
 use Rattle.header.proofs.parse_header.Reads as parse-header
+use Rattle.header.proofs.parse_header_marked.Reads as parse-header-marked
 use Rattle.header.proofs.raw.parse_raw.Reads as parse-raw
+use Rattle.header.proofs.raw.parse_raw_marked.Reads as parse-raw-marked
 use Rattle.header.proofs.raw.parse_raw_by.Reads as parse-raw-by
 use Rattle.iso.proofs.parse_git_date_format.Reads as parse-git-date-format
 use Rattle.iso.proofs.parse_git_date_format_with.Reads as parse-git-date-format-with
@@ -140,8 +142,14 @@ write-iso-with-unique κ a r s e f p q = (one-answer (p .0) (q .0), one-answer (
 pub parse-header-unique : OneAnswer parse-header.Post
 parse-header-unique κ a r s e f = one-answer
 
+pub parse-header-marked-unique : OneAnswer parse-header-marked.Post
+parse-header-marked-unique κ a r s e f = one-answer
+
 pub parse-raw-unique : OneAnswer parse-raw.Post
 parse-raw-unique κ a r s e f = one-answer
+
+pub parse-raw-marked-unique : OneAnswer parse-raw-marked.Post
+parse-raw-marked-unique κ a r s e f = one-answer
 
 pub parse-raw-by-unique : OneAnswer parse-raw-by.Post
 parse-raw-by-unique κ a r s e f = one-answer

@@ -10,13 +10,12 @@ mod walk;
 ghost use mathlib.Core.Path.{_≡_};
 ghost use Rattle.time.specs.declared.Answer.the-variants.{Time as At};
 ghost use Rattle.header.specs.Header.{headerOffset, headerTime, headerOf};
-ghost use Rattle.header.specs.Held.{AllSmall, LeadsWithNumber};
+ghost use Rattle.header.specs.Held.{AllSmall, WordsRead};
 use crate::offset::Field;
 use crate::offset::Parsed;
 use crate::walk::Walked;
 use text::bytes;
 use text::number::FittedInteger;
-use text::number::LeadingInteger;
 use text::words;
 use time::Answer;
 use time::Refusal;
@@ -37,7 +36,7 @@ pub fn parse_header(s: &[u8]) -> Answer
     }
     let usual = walk::usual_tail(&*s, opening);
     let Parsed::Offset(f) = usual else {
-        return parse_other(&*s, opening);
+        return parse_words(&*s, walk::read_words(&*s, opening));
     };
     header_time(number, Parsed::Offset(f))
 }
@@ -56,18 +55,17 @@ pub fn parse_header_marked(s: &[u8]) -> Answer
     }
     let usual = walk::usual_tail(&*s, opening);
     let Parsed::Offset(f) = usual else {
-        return parse_other(&*s, opening);
+        return parse_words(&*s, walk::read_words(&*s, opening));
     };
     header_time(number, Parsed::Offset(f))
 }
 
-// Reads a text of any other form word by word. `&*s` is the same text; passed on so, it comes in
-// registers and not by way of memory.
-fn parse_other(s: &[u8], opening: LeadingInteger) -> Answer
-    requires { ⌜ LeadsWithNumber (now s) opening ⌝ }
+// The header in the words of a text of any other form. `&*s` is the same text; passed on so, it comes
+// in registers and not by way of memory.
+fn parse_words(s: &[u8], walked: Walked) -> Answer
+    requires { ⌜ WordsRead (now s) walked ⌝ }
     ensures { λ r. ⌜ r ≡ headerOf (now (s .entry)) ⌝ }
 {
-    let walked = walk::read_words(&*s, opening);
     let Walked::Words(first) = walked else {
         return Answer::Refused(Refusal::NotAscii);
     };

@@ -37,7 +37,7 @@ pub fn parse_raw(s: &[u8]) -> Answer
     }
     let usual = walk::usual_tail(&*s, opening);
     let Parsed::Offset(f) = usual else {
-        return parse_other(&*s, opening);
+        return parse_words(&*s, walk::read_words(&*s, opening), Rule::One);
     };
     raw_time(Rule::One, number, Parsed::Offset(f))
 }
@@ -55,17 +55,9 @@ pub fn parse_raw_marked(s: &[u8]) -> Answer
     }
     let usual = walk::usual_tail(&*s, opening);
     let Parsed::Offset(f) = usual else {
-        return parse_other(&*s, opening);
+        return parse_words(&*s, walk::read_words(&*s, opening), Rule::One);
     };
     raw_time(Rule::One, number, Parsed::Offset(f))
-}
-
-// Reads a text of any other form word by word, by rule 1.
-fn parse_other(s: &[u8], opening: LeadingInteger) -> Answer
-    requires { ⌜ LeadsWithNumber (now s) opening ⌝ }
-    ensures { λ r. ⌜ r ≡ rawOf rule1 (now (s .entry)) ⌝ }
-{
-    parse_words(&*s, walk::read_words(&*s, opening), Rule::One)
 }
 
 // Reads a raw date by either rule, and refuses as `parse_raw` does. The steps are those of

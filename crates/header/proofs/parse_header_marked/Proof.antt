@@ -33,6 +33,7 @@ parse-header-marked-spec =
     (λ c. search needs)
     (λ c. search needs)
     (λ c κs. search needs)
+    (λ c κs. search needs)
     (λ c. search needs)
     header-time-requires-2
     returns-3)

@@ -10,6 +10,10 @@ use Rattle.header.proofs.raw.parse_raw_marked.Tie as tie
 returns : tie.Need-returns
 returns c = c .raw-time .ensures ∙ sym (rawOf-of-alone _ _ (c .before .before .«open» .ensures) (c .before .if1 .taken) _)
 
+-- a text of any other form
+returns-2 : tie.Need-returns-2
+returns-2 c = c .parse-words .ensures
+
 -- the usual form
 raw-time-requires-2 : tie.Need-raw-time-requires-2
 raw-time-requires-2 c κs =
@@ -33,6 +37,7 @@ parse-raw-marked-spec =
     (λ c. search needs)
     (λ c. search needs)
     (λ c κs. search needs)
-    (λ c. search needs)
+    (λ c κs. search needs)
+    returns-2
     raw-time-requires-2
     returns-3)
