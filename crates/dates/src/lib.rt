@@ -44,8 +44,8 @@ pub fn parse_by(s: &[u8], rule: Rule, current: Now) -> Answer
 // The same with a table of months, as in `parse_with`. The steps are those of the definition, in its
 // order. No test for bytes of 128 or more is needed here, because each reader below makes its own.
 //
-// `&*s` and `anew` let plain seconds and `@` be read before anything is put in memory for the readers
-// below them, which get text, table and current time by way of memory (docs/SPEED.md).
+// `&*s` is the same text, and `&*months` the same table. Passed on so, they are put in memory only where
+// a reader gets them by way of memory, and not before plain seconds are read (docs/SPEED.md).
 pub fn parse_by_with(months: &[u32], s: &[u8], rule: Rule, current: Now) -> Answer
     requires { ⌜ IsMonths (now months) ⌝ }
     ensures { λ r. ⌜ r ≡ anyOf (limitsOf rule) (now (s .entry)) current ⌝ }
@@ -58,26 +58,15 @@ pub fn parse_by_with(months: &[u32], s: &[u8], rule: Rule, current: Now) -> Answ
     if is_settled(plain) {
         return plain;
     }
-    let at = anew(current);
     let iso = iso::parse_git_date_format_with(&*months, &*s);
     if is_settled(iso) {
         return iso;
     }
-    let relative = relative::parse_with(&*months, &*s, at);
+    let relative = relative::parse_with(&*months, &*s, current);
     if is_settled(relative) {
         return relative;
     }
     raw::parse_raw_by(&*s, rule)
-}
-
-// The same current time, taken apart and made anew.
-fn anew(current: Now) -> Now
-    ensures { λ r. ⌜ r ≡ current ⌝ }
-{
-    match current {
-        Now::Missing => Now::Missing,
-        Now::At(t) => Now::At(Time::with_mark(t.seconds, t.offset, t.mark)),
-    }
 }
 
 // Reads a text that starts with `@`. Any other is refused by 2.

@@ -68,6 +68,7 @@ impl Time {
         }
     }
 
+    // A time with the mark set or clear, as given.
     pub fn with_mark(seconds: i64, offset: i32, mark: bool) -> Time
         ensures { λ r. ⌜ r ≡ timeMarked seconds offset mark ⌝ }
     {

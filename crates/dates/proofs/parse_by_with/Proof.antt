@@ -26,22 +26,21 @@ returns-2 : tie.Need-returns-2
 returns-2 c = rw (from-number (c .before .before), ← c .before .is-settled2 .ensures, c .if2 .taken)
 
 -- the ISO forms are next
-from-iso : (c : tie.After-parse-git-date-format-with) → let a = c .before .before .before .before .before .before .before .before .before .before .before .args in
+from-iso : (c : tie.After-parse-git-date-format-with) → let a = c .before .before .before .before .before .before .before .before .before .before .args in
     anyOf (limitsOf (a .rule)) (a .s .now) (a .current) ≡ orElse (c .parse-git-date-format-with .result) (orElse (relativeOf maxPairs (a .s .now) (a .current)) (rawOf (limitsOf (a .rule)) (a .s .now)))
 from-iso c =
-    let at-if = c .before .before in
+    let at-if = c .before in
     rw (from-number (at-if .before .before), ← at-if .before .is-settled2 .ensures, at-if .if2 .left, c .parse-git-date-format-with .ensures)
 
 returns-3 : tie.Need-returns-3
 returns-3 c = rw (from-iso (c .before .before), ← c .before .is-settled3 .ensures, c .if3 .taken)
 
 -- relative is next
-from-relative : (c : tie.After-parse-with) → let a = c .before .before .before .before .before .before .before .before .before .before .before .before .before .before .args in
+from-relative : (c : tie.After-parse-with) → let a = c .before .before .before .before .before .before .before .before .before .before .before .before .before .args in
     anyOf (limitsOf (a .rule)) (a .s .now) (a .current) ≡ orElse (c .parse-with .result) (rawOf (limitsOf (a .rule)) (a .s .now))
 from-relative c =
     let at-if = c .before in
-    let at-iso = at-if .before .before in
-    rw (from-iso at-iso, ← at-if .before .is-settled3 .ensures, at-if .if3 .left, c .parse-with .ensures, at-iso .before .anew .ensures)
+    rw (from-iso (at-if .before .before), ← at-if .before .is-settled3 .ensures, at-if .if3 .left, c .parse-with .ensures)
 
 returns-4 : tie.Need-returns-4
 returns-4 c = rw (from-relative (c .before .before), ← c .before .is-settled4 .ensures, c .if4 .taken)
@@ -63,7 +62,6 @@ parse-by-with-spec =
     (λ c κs. search needs)
     (λ c κs. search needs)
     returns-2
-    (λ c κs. search needs)
     (λ c κs. search needs)
     (λ c κs. search needs)
     returns-3
