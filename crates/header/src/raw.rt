@@ -143,7 +143,8 @@ fn raw_time(rule: Rule, n: FittedInteger, p: Parsed) -> Answer
 }
 
 // Rule 1: hours are at most 14, and minutes are 0, 15, 30 or 45. Rule 2: hours are below 24, and
-// minutes are below 60. By both rules seconds are 0.
+// minutes are below 60. By both rules seconds are 0. Rule 2 stands first because `parse_raw_by` is
+// slower by rule 1 otherwise (docs/SPEED.md).
 fn allows(rule: Rule, f: Fields) -> bool
     ensures { λ r. ⌜ r ≡ allowsOf (limitsOf rule) f ⌝ }
 {
@@ -151,8 +152,8 @@ fn allows(rule: Rule, f: Fields) -> bool
     let m = f.minutes;
     let x = f.seconds;
     match rule {
-        Rule::One => (h <= 14) & is_quarter(m) & (x == 0),
         Rule::Two => (h < 24) & (m < 60) & (x == 0),
+        Rule::One => (h <= 14) & is_quarter(m) & (x == 0),
     }
 }
 

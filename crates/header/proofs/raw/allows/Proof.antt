@@ -25,25 +25,25 @@ is-allowed l f hours minutes x = rw (hours, minutes, eqb-ofZ w64 (f .seconds) (p
 
 returns : tie.Need-returns
 returns c =
-    let at-seconds = c .before .before .before in
-    let at-hours = at-seconds .before .before in
-    let f = at-hours .before .args .f in
-    rw (c .before .enum-told .given .1)
-    (is-allowed rule1 f
-    (ap (rule1 .hours) (back w64 (f .hours) (at-hours .struct-told .given .1 .0 .1)))
-    (c .is-quarter .ensures ∙ ap (rule1 .minutes) (back w64 (f .minutes) (at-seconds .before .struct-told2 .given .1 .1 .0 .1)))
-    (at-seconds .struct-told3 .given .1 .1 .1 .0 .1))
-
-returns-2 : tie.Need-returns-2
-returns-2 c =
     let at-seconds = c .before .before in
     let at-hours = at-seconds .before .before in
     let f = at-hours .before .args .f in
-    rw (c .enum-told2 .given .1)
+    rw (c .enum-told .given .1)
     (is-allowed rule2 f
     (ap (rule2 .hours) (back w64 (f .hours) (at-hours .struct-told .given .1 .0 .1)))
     (ap (rule2 .minutes) (back w64 (f .minutes) (at-seconds .before .struct-told2 .given .1 .1 .0 .1)))
     (at-seconds .struct-told3 .given .1 .1 .1 .0 .1))
 
+returns-2 : tie.Need-returns-2
+returns-2 c =
+    let at-seconds = c .before .before .before in
+    let at-hours = at-seconds .before .before in
+    let f = at-hours .before .args .f in
+    rw (c .before .enum-told2 .given .1)
+    (is-allowed rule1 f
+    (ap (rule1 .hours) (back w64 (f .hours) (at-hours .struct-told .given .1 .0 .1)))
+    (c .is-quarter .ensures ∙ ap (rule1 .minutes) (back w64 (f .minutes) (at-seconds .before .struct-told2 .given .1 .1 .0 .1)))
+    (at-seconds .struct-told3 .given .1 .1 .1 .0 .1))
+
 pub allows-spec : {M : Type 1} → statement M
-allows-spec = tie.close (tie.spec (λ c. search needs) (λ c κs. search needs) (λ c. search needs) returns returns-2)
+allows-spec = tie.close (tie.spec (λ c. search needs) (λ c. search needs) (λ c κs. search needs) returns returns-2)
