@@ -13,7 +13,6 @@ use Rattle.ints.specs.Equal.{eqZ}
 use Rattle.time.specs.Answers.{timeAt, timeMarked, answerTime}
 use Rattle.time.specs.Header.{headerBytes, headerSign, headerWritten, signByte, wholeMinutes}
 use Rattle.time.specs.declared.Answer.{Answer}
-use Rattle.time.specs.declared.Written.{Written}
 use Rattle.header.specs.Header.{headerOf}
 use Rattle.header.specs.Theorems.{OwnForm}
 use Rattle.header.proofs.OwnForm.{time, own-form-read, own-form-again}
