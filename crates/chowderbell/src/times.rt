@@ -160,7 +160,7 @@ pub extern "C" fn chowderbell_any(
     seconds: &mut i64,
     offset: &mut i32,
 ) -> u8
-    ensures { λ r. ⌜ HandedOut (anyOf rule1 (now (text .entry)) (nowOf «has_now» «now_seconds» «now_offset»)) r (now (seconds .exit)) (now (offset .exit)) ⌝ }
+    ensures { λ r. ⌜ HandedOut (anyOf maxPairs rule1 (now (text .entry)) (nowOf «has_now» «now_seconds» «now_offset»)) r (now (seconds .exit)) (now (offset .exit)) ⌝ }
 {
     let answered = any_packed(
         RULE_1,
@@ -184,7 +184,7 @@ pub extern "C" fn chowderbell_any_by(
     seconds: &mut i64,
     offset: &mut i32,
 ) -> u8
-    ensures { λ r. ⌜ HandedOut (ruled (ruleOf rule) (λ l. anyOf l (now (text .entry)) (nowOf «has_now» «now_seconds» «now_offset»)) (now (text .entry))) r (now (seconds .exit)) (now (offset .exit)) ⌝ }
+    ensures { λ r. ⌜ HandedOut (ruled (ruleOf rule) (λ l. anyOf maxPairs l (now (text .entry)) (nowOf «has_now» «now_seconds» «now_offset»)) (now (text .entry))) r (now (seconds .exit)) (now (offset .exit)) ⌝ }
 {
     let answered = any_packed(
         rule,
@@ -209,7 +209,7 @@ pub extern "C" fn chowderbell_any_marked(
     offset: &mut i32,
     mark: &mut u8,
 ) -> u8
-    ensures { λ r. ⌜ HandedMarked (ruled (ruleOf rule) (λ l. anyOf l (now (text .entry)) (nowOf «has_now» «now_seconds» «now_offset»)) (now (text .entry))) r (now (seconds .exit)) (now (offset .exit)) (now (mark .exit)) ⌝ }
+    ensures { λ r. ⌜ HandedMarked (ruled (ruleOf rule) (λ l. anyOf maxPairs l (now (text .entry)) (nowOf «has_now» «now_seconds» «now_offset»)) (now (text .entry))) r (now (seconds .exit)) (now (offset .exit)) (now (mark .exit)) ⌝ }
 {
     let answered = any_packed(
         rule,
@@ -236,7 +236,7 @@ fn any_packed(
     offset: &mut i32,
     seconds: &mut i64,
 ) -> u32
-    ensures { λ r. ⌜ HandedMarked (ruled (ruleOf rule) (λ l. anyOf l (now (text .entry)) (nowOf «has_now» «now_seconds» «now_offset»)) (now (text .entry))) (r % 256) (now (seconds .exit)) (now (offset .exit)) (r / 256) ⌝ }
+    ensures { λ r. ⌜ HandedMarked (ruled (ruleOf rule) (λ l. anyOf maxPairs l (now (text .entry)) (nowOf «has_now» «now_seconds» «now_offset»)) (now (text .entry))) (r % 256) (now (seconds .exit)) (now (offset .exit)) (r / 256) ⌝ }
 {
     let a = any_by(
         rule_of(rule),
@@ -339,7 +339,7 @@ fn raw_by(named: Named, text: &[u8]) -> Answer
 }
 
 fn any_by(named: Named, text: &[u8], current: Now) -> Answer
-    ensures { λ r. ⌜ r ≡ ruled named (λ l. anyOf l (now (text .entry)) current) (now (text .entry)) ⌝ }
+    ensures { λ r. ⌜ r ≡ ruled named (λ l. anyOf maxPairs l (now (text .entry)) current) (now (text .entry)) ⌝ }
 {
     let Named::By(rule) = named else {
         return without_rule(text);

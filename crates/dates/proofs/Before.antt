@@ -21,7 +21,7 @@ use Rattle.time.proofs.Before.{read-as-before}
 use Rattle.header.specs.Raw.{Limits}
 use Rattle.header.proofs.Before.{rawWas, raw-as-before}
 use Rattle.iso.specs.Iso.{isoOf}
-use Rattle.relative.specs.Relative.{maxPairs, relativeOf}
+use Rattle.relative.specs.Relative.{relativeOf}
 use Rattle.dates.specs.Any.{isSettled, orElse, least64, leastPlain, numberFrom, markedOf, atOf, plainOf, anyOf}
 
 -- ---- "any" as it was
@@ -35,10 +35,10 @@ atWas l (b ∷ s) = cond (eqb b (code "@")) (markedWas l s) (Refused Form)
 abbrev plainWas : Limits → List ℕ → Answer
 plainWas l s = orElse (atWas l s) (numberFrom leastPlain s)
 
-pub anyWas : Limits → List ℕ → Now → Answer
-anyWas l s now =
+pub anyWas : ℕ → Limits → List ℕ → Now → Answer
+anyWas bound l s now =
     cond (ascii s)
-    (orElse (plainWas l s) (orElse (isoOf s) (orElse (relativeOf maxPairs s now) (rawWas l s))))
+    (orElse (plainWas l s) (orElse (isoOf s) (orElse (relativeOf bound s now) (rawWas l s))))
     (Refused NotAscii)
 
 -- ---- behind `@` nothing is different: a raw date that is refused by 2 or 11 is followed by the number
@@ -55,14 +55,14 @@ plainWas-is l (b ∷ s) = rw (markedWas-is l s)
 orElse-as-before : (x was now : Answer) → AsBefore was now → AsBefore (orElse x was) (orElse x now)
 orElse-as-before x was now b = by-test (isSettled x) (λ e. rw e (inl refl)) (λ e. rw e b)
 
-pub any-as-before : (l : Limits) (s : List ℕ) (now : Now) → AsBefore (anyWas l s now) (anyOf l s now)
+pub any-as-before : (bound : ℕ) (l : Limits) (s : List ℕ) (now : Now) → AsBefore (anyWas bound l s now) (anyOf bound l s now)
 unfolding anyWas anyOf
-any-as-before l s now =
+any-as-before bound l s now =
     by-test (ascii s)
     (λ a.
     rw (a, plainWas-is l s)
-    (orElse-as-before (plainOf l s) _ _ (orElse-as-before (isoOf s) _ _ (orElse-as-before (relativeOf maxPairs s now) _ _ (raw-as-before l s)))))
+    (orElse-as-before (plainOf l s) _ _ (orElse-as-before (isoOf s) _ _ (orElse-as-before (relativeOf bound s now) _ _ (raw-as-before l s)))))
     (λ a. rw a (inl refl))
 
-pub any-reads-as-before : (l : Limits) (s : List ℕ) (now : Now) (t : TimeValue) → (anyOf l s now ≡ Time t) ↔ (anyWas l s now ≡ Time t)
-any-reads-as-before l s now t = read-as-before (anyWas l s now) (anyOf l s now) (any-as-before l s now) t
+pub any-reads-as-before : (bound : ℕ) (l : Limits) (s : List ℕ) (now : Now) (t : TimeValue) → (anyOf bound l s now ≡ Time t) ↔ (anyWas bound l s now ≡ Time t)
+any-reads-as-before bound l s now t = read-as-before (anyWas bound l s now) (anyOf bound l s now) (any-as-before bound l s now) t

@@ -35,7 +35,7 @@ use Rattle.header.specs.Theorems.{RawDate, Within}
 use Rattle.header.proofs.RawDates.{raw-accepts-only, raw-cases, raw-not-ascii, raw-too-large, raw-within}
 use Rattle.header.proofs.Rules.{rule-1-within-rule-2}
 use Rattle.iso.specs.Iso.{isoOf}
-use Rattle.relative.specs.Relative.{maxPairs, relativeOf}
+use Rattle.relative.specs.Relative.{relativeOf}
 use Rattle.dates.specs.Any.{isSettled, orElse, least64, numbered, numberFrom, markedOf, plainOf, anyOf}
 use Rattle.dates.proofs.Steps.{plainOf-nil, plainOf-of-at, plainOf-of-other}
 use Rattle.dates.proofs.LowBytes.{low-of-raw}
@@ -96,41 +96,41 @@ module _ (l m : Limits) (within : Within l m) where
       other t d (rw e (numberFrom-of-raw d least64)))
       (λ f. same (rw (e, f))))
 
-  module _ (s : List ℕ) (now : Now) where
+  module _ (bound : ℕ) (s : List ℕ) (now : Now) where
     -- where the forms that need no calendar answer the same
-    any-of-plain : ascii s ≡ true → plainOf m s ≡ plainOf l s → Keeps (anyOf l s now) (anyOf m s now)
+    any-of-plain : ascii s ≡ true → plainOf m s ≡ plainOf l s → Keeps (anyOf bound l s now) (anyOf bound m s now)
     unfolding anyOf
     any-of-plain a same h =
         rw (a, same)
-        (orElse-keeps (plainOf l s) _ _ (orElse-keeps (isoOf s) _ _ (orElse-keeps (relativeOf maxPairs s now) _ _ (raw-keeps s))) (rw a at h))
+        (orElse-keeps (plainOf l s) _ _ (orElse-keeps (isoOf s) _ _ (orElse-keeps (relativeOf bound s now) _ _ (raw-keeps s))) (rw a at h))
 
     -- where there is a raw date after `@` by m alone: all further steps answer 2
-    any-refused : (t : Time) → RawDate m s t → markedOf l s ≡ Refused Form → anyOf l (code "@" ∷ s) now ≡ Refused Form
+    any-refused : (t : Time) → RawDate m s t → markedOf l s ≡ Refused Form → anyOf bound l (code "@" ∷ s) now ≡ Refused Form
     unfolding anyOf ascii
     any-refused t d e =
         let a = d .ascii-is in
-        rw (a, plainOf-of-at l (code "@") s refl, e, isoOf-of-at s a, relativeOf-of-at maxPairs s now a (low-of-raw d), rawOf-of-at l s a)
+        rw (a, plainOf-of-at l (code "@") s refl, e, isoOf-of-at s a, relativeOf-of-at bound s now a (low-of-raw d), rawOf-of-at l s a)
 
-  any-of-at : (s : List ℕ) (now : Now) → ascii s ≡ true → Keeps (anyOf l (code "@" ∷ s) now) (anyOf m (code "@" ∷ s) now)
+  any-of-at : (bound : ℕ) (s : List ℕ) (now : Now) → ascii s ≡ true → Keeps (anyOf bound l (code "@" ∷ s) now) (anyOf bound m (code "@" ∷ s) now)
   unfolding ascii
-  any-of-at s now a h =
+  any-of-at bound s now a h =
       marked-same-or s a
-      (λ same. any-of-plain (code "@" ∷ s) now a (plainOf-of-at m (code "@") s refl ∙ same ∙ sym (plainOf-of-at l (code "@") s refl)) h)
-      (λ t d e. absurd (h (any-refused s now t d e)))
+      (λ same. any-of-plain bound (code "@" ∷ s) now a (plainOf-of-at m (code "@") s refl ∙ same ∙ sym (plainOf-of-at l (code "@") s refl)) h)
+      (λ t d e. absurd (h (any-refused bound s now t d e)))
 
-  any-of-ascii : (s : List ℕ) (now : Now) → ascii s ≡ true → Keeps (anyOf l s now) (anyOf m s now)
+  any-of-ascii : (bound : ℕ) (s : List ℕ) (now : Now) → ascii s ≡ true → Keeps (anyOf bound l s now) (anyOf bound m s now)
   unfolding ascii
-  any-of-ascii [] now a = any-of-plain [] now a (plainOf-nil m ∙ sym (plainOf-nil l))
-  any-of-ascii (b ∷ s) now a =
+  any-of-ascii bound [] now a = any-of-plain bound [] now a (plainOf-nil m ∙ sym (plainOf-nil l))
+  any-of-ascii bound (b ∷ s) now a =
       by-test (eqb b (code "@"))
-      (λ e. let k = eqb-true b (code "@") e in rw k (any-of-at s now (rw k at a)))
-      (λ e. let n = eqb-false b (code "@") e in any-of-plain (b ∷ s) now a (plainOf-of-other m b s n ∙ sym (plainOf-of-other l b s n)))
+      (λ e. let k = eqb-true b (code "@") e in rw k (any-of-at bound s now (rw k at a)))
+      (λ e. let n = eqb-false b (code "@") e in any-of-plain bound (b ∷ s) now a (plainOf-of-other m b s n ∙ sym (plainOf-of-other l b s n)))
 
 -- ---- the theorem
-pub any-within : (l m : Limits) → Within l m → (s : List ℕ) (now : Now) → (anyOf l s now ≡ Refused Form → ⊥) → anyOf m s now ≡ anyOf l s now
+pub any-within : (bound : ℕ) (l m : Limits) → Within l m → (s : List ℕ) (now : Now) → (anyOf bound l s now ≡ Refused Form → ⊥) → anyOf bound m s now ≡ anyOf bound l s now
 unfolding anyOf
-any-within l m within s now h = by-test (ascii s) (λ a. any-of-ascii l m within s now a h) (λ a. rw a)
+any-within bound l m within s now h = by-test (ascii s) (λ a. any-of-ascii l m within bound s now a h) (λ a. rw a)
 
 -- whatever "any" answers by rule 1, other than 2, it answers alike by rule 2
-pub any-by-rule-2-answers-alike : (s : List ℕ) (now : Now) → (anyOf rule1 s now ≡ Refused Form → ⊥) → anyOf rule2 s now ≡ anyOf rule1 s now
-any-by-rule-2-answers-alike = any-within rule1 rule2 rule-1-within-rule-2
+pub any-by-rule-2-answers-alike : (bound : ℕ) (s : List ℕ) (now : Now) → (anyOf bound rule1 s now ≡ Refused Form → ⊥) → anyOf bound rule2 s now ≡ anyOf bound rule1 s now
+any-by-rule-2-answers-alike bound = any-within bound rule1 rule2 rule-1-within-rule-2

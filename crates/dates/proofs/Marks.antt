@@ -31,7 +31,7 @@ use Rattle.iso.specs.Forms.{formOf}
 use Rattle.iso.specs.Iso.{dayOf, momentOf, zoned, isoOf}
 use Rattle.iso.specs.declared.forms.Fields.{Fields}
 use Rattle.iso.specs.declared.forms.Fields.the-variants.{Are, Nothing as NoFields}
-use Rattle.relative.specs.Relative.{maxPairs, relativeOf}
+use Rattle.relative.specs.Relative.{relativeOf}
 use Rattle.relative.proofs.Texts.{Clear}
 use Rattle.relative.proofs.Unmarked.{relative-clear}
 use Rattle.dates.specs.Any.{isSettled, orElse, numbered, numberFrom, least64, leastPlain, markedOf, atOf, anyOf}
@@ -90,16 +90,16 @@ module _ (t : Time) (m : t .mark ≡ true) where
         (λ k. inr (eqb-true b (code "@") k, ⊎-elim (λ r. r) (λ n. absurd (not-number least64 s n)) (time-of-orElse (rawOf l s) (numberFrom least64 s) t (rw k at e))))
         (λ k. let n = rw k at e in absurd (let q : _≡_ {A = ℕ} 0 1 = cc in omega arith))
 
-    pub any-mark-from-raw : (s : List ℕ) (now : Now) → anyOf l s now ≡ At t → ReadAsRaw l s t
-    any-mark-from-raw s now e =
+    pub any-mark-from-raw : (bound : ℕ) (s : List ℕ) (now : Now) → anyOf bound l s now ≡ At t → ReadAsRaw l s t
+    any-mark-from-raw bound s now e =
         ⊎-elim (at-mark-from-raw s)
         (λ k.
         let iso = from-second (numberFrom leastPlain s) _ (λ u n. mark-of-Clear (numberFrom leastPlain s) u (numberFrom-clear leastPlain s) n) k in
         let relative = from-second (isoOf s) _ (iso-clear s) iso in
-        inl (from-second (relativeOf maxPairs s now) (rawOf l s) (relative-clear maxPairs s now) relative))
-        (time-of-orElse (atOf l s) _ t (sym (anyOf-in-turn l s now) ∙ e))
+        inl (from-second (relativeOf bound s now) (rawOf l s) (relative-clear bound s now) relative))
+        (time-of-orElse (atOf l s) _ t (sym (anyOf-in-turn bound l s now) ∙ e))
 
 -- what raw reads behind `@` is the answer
-pub any-at-raw : (l : Limits) (s : List ℕ) (now : Now) (t : Time) → rawOf l s ≡ At t → anyOf l (code "@" ∷ s) now ≡ At t
+pub any-at-raw : (bound : ℕ) (l : Limits) (s : List ℕ) (now : Now) (t : Time) → rawOf l s ≡ At t → anyOf bound l (code "@" ∷ s) now ≡ At t
 unfolding atOf markedOf
-any-at-raw l s now t e = anyOf-in-turn l (code "@" ∷ s) now ∙ rw e
+any-at-raw bound l s now t e = anyOf-in-turn bound l (code "@" ∷ s) now ∙ rw e

@@ -23,7 +23,7 @@ use Rattle.time.specs.declared.Answer.{Answer}
 use Rattle.time.specs.declared.Answer.the-variants.{Refused}
 use Rattle.header.specs.Raw.{Limits, rawOf}
 use Rattle.iso.specs.Iso.{isoOf}
-use Rattle.relative.specs.Relative.{maxPairs, relativeOf}
+use Rattle.relative.specs.Relative.{relativeOf}
 use Rattle.dates.specs.Any.{isSettled, orElse, numbered, least64, leastPlain, numberFrom, markedOf, atOf, plainOf, anyOf}
 
 -- ---- a byte of 128 or more
@@ -75,9 +75,9 @@ plainOf-not-ascii l (b ∷ s) h =
 orElse-orElse : (a b c : Answer) → orElse (orElse a b) c ≡ orElse a (orElse b c)
 orElse-orElse a b c = by-test (isSettled a) (λ e. rw (e, e)) (λ e. rw e)
 
-pub anyOf-in-turn : (l : Limits) (s : List ℕ) (now : Now)
-    → anyOf l s now ≡ orElse (atOf l s) (orElse (numberFrom leastPlain s) (orElse (isoOf s) (orElse (relativeOf maxPairs s now) (rawOf l s))))
+pub anyOf-in-turn : (bound : ℕ) (l : Limits) (s : List ℕ) (now : Now)
+    → anyOf bound l s now ≡ orElse (atOf l s) (orElse (numberFrom leastPlain s) (orElse (isoOf s) (orElse (relativeOf bound s now) (rawOf l s))))
 unfolding anyOf plainOf isoOf
-anyOf-in-turn l s now =
+anyOf-in-turn bound l s now =
     by-test (ascii s) (λ e. rw e (orElse-orElse (atOf l s) (numberFrom leastPlain s) _))
     (λ e. rw e (sym (plainOf-not-ascii l s e) ∙ orElse-orElse (atOf l s) (numberFrom leastPlain s) _))

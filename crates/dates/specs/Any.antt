@@ -1,5 +1,5 @@
--- RULES 8, "any": the forms in the order in which they are tried. The limits on a raw date's offset are a parameter; by RULES 8.3
--- they are those of rule 1 unless the caller names a rule.
+-- RULES 8, "any": the forms in the order in which they are tried. The bound on the pairs of a relative date is a parameter, and so are
+-- the limits on a raw date's offset; by RULES 8.3 these are those of rule 1 unless the caller names a rule.
 -- Assumes nothing.
 use Prim.Native.Nat.{ℕ, _-_, _^_}
 use Prim.Native.Char.{code}
@@ -20,7 +20,7 @@ use Rattle.time.specs.declared.Answer.{Answer}
 use Rattle.time.specs.declared.Answer.the-variants.{Time, Refused}
 use Rattle.header.specs.Raw.{Limits, rawOf}
 use Rattle.iso.specs.Iso.{isoOf}
-use Rattle.relative.specs.Relative.{maxPairs, relativeOf}
+use Rattle.relative.specs.Relative.{relativeOf}
 
 -- whether a refusal ends the search: every one but 2 and 11, after which the next form is tried. No reader answers 7, 8 or 10
 abbrev pub settles : Refusal → Bool
@@ -76,8 +76,8 @@ plainOf l s = orElse (atOf l s) (numberFrom leastPlain s)
 
 -- RULES 8.2: then by the ISO forms; as a relative date, whose refusal other than 2 is the answer; as a raw date, whose refusal, 2 or
 -- 11, is the answer then. By RULES 2.2 the test for 1, a byte of 128 or more, comes first
-unfoldable pub anyOf : Limits → List ℕ → Now → Answer
-anyOf l s now =
+unfoldable pub anyOf : ℕ → Limits → List ℕ → Now → Answer
+anyOf bound l s now =
     cond (ascii s)
-    (orElse (plainOf l s) (orElse (isoOf s) (orElse (relativeOf maxPairs s now) (rawOf l s))))
+    (orElse (plainOf l s) (orElse (isoOf s) (orElse (relativeOf bound s now) (rawOf l s))))
     (Refused NotAscii)

@@ -1,4 +1,4 @@
--- What the theorems about "any" speak of (docs/PROMISES.md): when it answers 11, and where its mark comes from. No contract cites these.
+-- What the theorems about "any" speak of (docs/PROMISES.md): when it answers 11, when 5, and where its mark comes from. No contract cites these.
 -- Assumes nothing.
 use Prim.Native.Nat.{ℕ}
 use Prim.Native.Char.{code}
@@ -13,13 +13,19 @@ use Rattle.time.specs.declared.Answer.the-variants.{Time as At}
 use Rattle.header.specs.Raw.{Limits, rawOf}
 use Rattle.header.specs.Theorems.{RawTooLarge}
 use Rattle.iso.specs.Iso.{isoOf}
-use Rattle.relative.specs.Relative.{maxPairs, relativeOf}
+use Rattle.relative.specs.Relative.{relativeOf}
+use Rattle.relative.specs.Bounds.{BeyondBound}
 use Rattle.dates.specs.Any.{isSettled, orElse, plainOf}
 
 -- no step before the last one ends the search, and the last one, raw, answers 11 (RULES 5.9 and 8.2)
-pub record AnyTooLarge (l : Limits) (s : List ℕ) (now : Now) : Type 0 where
-  pub reached : isSettled (orElse (plainOf l s) (orElse (isoOf s) (relativeOf maxPairs s now))) ≡ false
+pub record AnyTooLarge (bound : ℕ) (l : Limits) (s : List ℕ) (now : Now) : Type 0 where
+  pub reached : isSettled (orElse (plainOf l s) (orElse (isoOf s) (relativeOf bound s now))) ≡ false
   pub last : RawTooLarge s
+
+-- no step before that of relative dates ends the search, and the text is too long for the bound (RULES 7.7 and 8.2)
+pub record AnyBeyondBound (bound : ℕ) (l : Limits) (s : List ℕ) : Type 0 where
+  pub reached : isSettled (orElse (plainOf l s) (isoOf s)) ≡ false
+  pub beyond : BeyondBound bound s
 
 -- the raw reader reads s, or what follows the `@` that s begins with, as t
 abbrev pub ReadAsRaw : Limits → List ℕ → Time → Type 0

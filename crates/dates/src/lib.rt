@@ -2,6 +2,7 @@
 ghost use mathlib.Core.Path.{_≡_};
 ghost use Rattle.calendar.specs.Table.{IsMonths};
 ghost use Rattle.header.specs.Raw.{rule1, limitsOf};
+ghost use Rattle.relative.specs.Relative.{maxPairs};
 ghost use Rattle.dates.specs.Any.{settles as settlesOf, isSettled, numbered as numberedOf, markedOf, atOf, anyOf};
 use header::raw;
 use header::raw::Rule;
@@ -21,7 +22,7 @@ const LEAST_64: i64 = -9223372036854775808;
 
 // Reads a date in any form, raw dates by rule 1. Only a relative date uses the current time.
 pub fn parse(s: &[u8], current: Now) -> Answer
-    ensures { λ r. ⌜ r ≡ anyOf rule1 (now (s .entry)) current ⌝ }
+    ensures { λ r. ⌜ r ≡ anyOf maxPairs rule1 (now (s .entry)) current ⌝ }
 {
     parse_with(&[], s, current)
 }
@@ -29,14 +30,14 @@ pub fn parse(s: &[u8], current: Now) -> Answer
 // The same with a table of months, or a leading part of it, for callers that read many texts.
 pub fn parse_with(months: &[u32], s: &[u8], current: Now) -> Answer
     requires { ⌜ IsMonths (now months) ⌝ }
-    ensures { λ r. ⌜ r ≡ anyOf rule1 (now (s .entry)) current ⌝ }
+    ensures { λ r. ⌜ r ≡ anyOf maxPairs rule1 (now (s .entry)) current ⌝ }
 {
     parse_by_with(months, s, Rule::One, current)
 }
 
 // Reads a date in any form. Raw dates are read by the rule that the caller names.
 pub fn parse_by(s: &[u8], rule: Rule, current: Now) -> Answer
-    ensures { λ r. ⌜ r ≡ anyOf (limitsOf rule) (now (s .entry)) current ⌝ }
+    ensures { λ r. ⌜ r ≡ anyOf maxPairs (limitsOf rule) (now (s .entry)) current ⌝ }
 {
     parse_by_with(&[], s, rule, current)
 }
@@ -48,7 +49,7 @@ pub fn parse_by(s: &[u8], rule: Rule, current: Now) -> Answer
 // a reader gets them by way of memory, and not before plain seconds are read (docs/SPEED.md).
 pub fn parse_by_with(months: &[u32], s: &[u8], rule: Rule, current: Now) -> Answer
     requires { ⌜ IsMonths (now months) ⌝ }
-    ensures { λ r. ⌜ r ≡ anyOf (limitsOf rule) (now (s .entry)) current ⌝ }
+    ensures { λ r. ⌜ r ≡ anyOf maxPairs (limitsOf rule) (now (s .entry)) current ⌝ }
 {
     let marked = parse_at(&*s, rule);
     if is_settled(marked) {

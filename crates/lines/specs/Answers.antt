@@ -26,7 +26,7 @@ answerBy Header t n = headerOf t
 answerBy Raw t n = rawOf rule1 t
 answerBy Iso t n = isoOf t
 answerBy Relative t n = relativeOf maxPairs t n
-answerBy Any t n = anyOf rule1 t n
+answerBy Any t n = anyOf maxPairs rule1 t n
 
 -- the three numbers of an answer; a refusal has its number, seconds 0 and offset 0 (RULES 2.1)
 abbrev pub rowAt : Answer → Row

@@ -56,7 +56,7 @@ not-same-of-pair s t o h =
     (λ e. absurd (not-suc-le-zero (rw (← words-trim Mark s, no-pair (trim s) (same-one (trim s) t e o)) at h)))
     (λ e. e)
 
-namedOf-of-pair : (s : List ℕ) → 0 < length (pairsOf s) → namedOf s ≡ Nothing
+pub namedOf-of-pair : (s : List ℕ) → 0 < length (pairsOf s) → namedOf s ≡ Nothing
 unfolding namedOf isAlphanumeric
 namedOf-of-pair s h =
     rw (not-same-of-pair s (bytes "now") refl h, not-same-of-pair s (bytes "today") refl h, not-same-of-pair s (bytes "yesterday") refl h)

@@ -1,21 +1,25 @@
--- Two texts in a row: their pairs and steps; an answer in range. In order: pairs; steps; what steps keep.
+-- Two texts in a row: their pairs and steps; an answer in range. In order: pairs; steps; what steps keep; the numbers that pairs give.
 -- Assumes nothing.
 use mathlib.Core.Path.{_≡_, refl}
-use mathlib.Core.Bool.{true, false, _&&_}
+use mathlib.Core.Bool.{true, false, _&&_, _||_}
 use mathlib.Core.List.{List, [], _∷_, _++_}
 use Prim.Native.Nat.{ℕ}
+use lib.Dec.{eqb}
 use lib.IntN.{ℤ}
 use Rattle.text.specs.declared.number.Number.{Number}
 use Rattle.text.specs.declared.number.Number.the-variants.{Value, Nothing}
 use Rattle.text.proofs.Lists.{by-test, both}
-use Rattle.time.specs.Answers.{unmarked}
+use Rattle.time.specs.Answers.{unmarked, answerNumber}
 use Rattle.time.specs.Range.{secondsInRange, offsetInRange, timeInRange}
 use Rattle.time.specs.declared.Time.{Time as TimeValue}
+use Rattle.time.specs.declared.Now.{Now}
+use Rattle.time.specs.declared.Now.the-variants.{Missing, At}
 use Rattle.time.specs.declared.Refusal.{Refusal}
 use Rattle.time.specs.declared.Answer.{Answer}
 use Rattle.time.specs.declared.Answer.the-variants.{Time, Refused}
 use Rattle.relative.specs.Pairs.{next, pairsFrom, known, isKnown}
 use Rattle.relative.specs.Steps.{landing, landed, monthsEarlier, step, steps}
+use Rattle.relative.specs.Relative.{from}
 use Rattle.relative.specs.declared.pair.Unit.{Unit as PairUnit}
 use Rattle.relative.specs.declared.pair.Unit.the-variants.{Seconds, Months, Unknown}
 use Rattle.relative.specs.Joined.{waitsFrom}
@@ -50,7 +54,13 @@ unfolding steps step
 steps-refused [] r = refl
 steps-refused (p ∷ ps) r = steps-refused ps r
 
--- ---- what steps keep: an answer in range
+-- ---- what every step keeps, all of them keep
+steps-keep : (P : Answer → Type 0) → ((p : Pair) (x : Answer) → P x → P (step p x)) → (ps : List Pair) (x : Answer) → P x → P (steps ps x)
+unfolding steps
+steps-keep P k [] x h = h
+steps-keep P k (p ∷ ps) x h = steps-keep P k ps (step p x) (k p x h)
+
+-- an answer in range
 abbrev pub Good : Answer → Type 0
 Good (Time x) = timeInRange x ≡ true
 Good (Refused r) = Unit {0}
@@ -65,11 +75,9 @@ step-good p (Time x) g = landed-good (landing x (p .count) (p .unit)) (x .offset
 step-good p (Refused r) g = tt
 
 pub steps-good : (a : List Pair) (x : Answer) → Good x → Good (steps a x)
-unfolding steps
-steps-good [] x g = g
-steps-good (p ∷ a) x g = steps-good a (step p x) (step-good p x g)
+steps-good = steps-keep Good step-good
 
--- ---- and an answer without the mark, which every step gives
+-- an answer without the mark, which every step gives
 abbrev pub Clear : Answer → Type 0
 Clear (Time x) = x .mark ≡ false
 Clear (Refused r) = Unit {0}
@@ -84,9 +92,7 @@ step-clear p (Time x) = landed-clear (landing x (p .count) (p .unit)) (x .offset
 step-clear p (Refused r) = tt
 
 pub steps-clear : (a : List Pair) (x : Answer) → Clear x → Clear (steps a x)
-unfolding steps
-steps-clear [] x c = c
-steps-clear (p ∷ a) x c = steps-clear a (step p x) (step-clear p x)
+steps-clear = steps-keep Clear (λ p x c. step-clear p x)
 
 -- a landing does not depend on the mark
 pub landing-unmarked : (x : TimeValue) (n : ℕ) (u : PairUnit) → landing (unmarked x) n u ≡ landing x n u
@@ -94,3 +100,17 @@ unfolding landing monthsEarlier
 landing-unmarked x n (Seconds k) = refl
 landing-unmarked x n (Months k) = refl
 landing-unmarked x n Unknown = refl
+
+-- ---- pairs applied from the current time give a time, 3, 4 or 6
+abbrev IsNumbered : Answer → Type 0
+IsNumbered x = let n : ℕ = answerNumber x in (eqb n 0 || (eqb n 3 || (eqb n 4 || eqb n 6))) ≡ true
+
+step-number : (p : Pair) (x : Answer) → IsNumbered x → IsNumbered (step p x)
+unfolding step landed
+step-number p (Time x) h = by-test (secondsInRange (landing x (p .count) (p .unit))) (λ e. rw e refl) (λ e. rw e refl)
+step-number p (Refused r) h = h
+
+pub from-number : (current : Now) (ps : List Pair) → IsNumbered (from current ps)
+unfolding from
+from-number Missing ps = refl
+from-number (At x) ps = by-test (timeInRange x) (λ e. rw e (steps-keep IsNumbered step-number ps (Time (unmarked x)) refl)) (λ e. rw e refl)

@@ -23,9 +23,9 @@ use Rattle.relative.specs.Steps.{steps}
 use Rattle.relative.specs.declared.pair.Unit.the-variants.{Seconds}
 use Rattle.relative.specs.declared.pair.Pair.{Pair}
 
--- RULES 1.3: the bound of 32 pairs
+-- RULES 1.3: the bound of 256 pairs
 abbrev pub maxPairs : ℕ
-maxPairs = 32
+maxPairs = 256
 
 -- the pairs applied from the current time, whose mark is not looked at: 3 if it is missing, 4 if it is out of range
 unfoldable pub from : Now → List Pair → Answer

@@ -1,6 +1,6 @@
 -- The laws of books (RULES 13). In order: scans; printed numbers; tails of stamps; stamps, and stamps at the front of a longer text; fields;
 -- `hull` lines, `since` lines and all lines as they are read; lines as they are written, part behind part; books; the marks of lines, and what they pick; copies;
--- listings; lines read back and written back; examples.
+-- listings; lines read back and written back; two bounds on the pairs of a relative date; examples.
 pub mod Scans
 pub mod Printed
 pub mod Tails
@@ -19,6 +19,7 @@ pub mod Copies
 pub mod Listings
 pub mod ReadBack
 pub mod WriteBack
+pub mod Bounds
 pub mod Examples
 pub mod WritingExamples
 pub mod BookExamples

@@ -152,7 +152,7 @@ pub enum Refusal {
     Missing,
     // 4: the text is relative and the current time's seconds or offset is out of range.
     Current,
-    // 5: the text is relative with more than 32 pairs.
+    // 5: the text is relative with more than 256 pairs.
     Pairs,
     // 6: a relative step leaves the range; or the ISO writer is given seconds out of range or a local year, at the cut offset, outside
     // 0 to 9999.

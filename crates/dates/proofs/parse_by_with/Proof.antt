@@ -16,7 +16,7 @@ returns c = rw (anyOf-in-turn, ← c .before .before .parse-at .ensures, ← c .
 
 -- it does not: a plain number is next
 from-number : (c : tie.After-numbered) → let a = c .before .before .before .before .before .before .before .args in
-    anyOf (limitsOf (a .rule)) (a .s .now) (a .current) ≡ orElse (c .numbered .result) (orElse (isoOf (a .s .now)) (orElse (relativeOf maxPairs (a .s .now) (a .current)) (rawOf (limitsOf (a .rule)) (a .s .now))))
+    anyOf maxPairs (limitsOf (a .rule)) (a .s .now) (a .current) ≡ orElse (c .numbered .result) (orElse (isoOf (a .s .now)) (orElse (relativeOf maxPairs (a .s .now) (a .current)) (rawOf (limitsOf (a .rule)) (a .s .now))))
 unfolding numberFrom
 from-number c =
     let at-if = c .before .before in
@@ -27,7 +27,7 @@ returns-2 c = rw (from-number (c .before .before), ← c .before .is-settled2 .e
 
 -- the ISO forms are next
 from-iso : (c : tie.After-parse-git-date-format-with) → let a = c .before .before .before .before .before .before .before .before .before .before .args in
-    anyOf (limitsOf (a .rule)) (a .s .now) (a .current) ≡ orElse (c .parse-git-date-format-with .result) (orElse (relativeOf maxPairs (a .s .now) (a .current)) (rawOf (limitsOf (a .rule)) (a .s .now)))
+    anyOf maxPairs (limitsOf (a .rule)) (a .s .now) (a .current) ≡ orElse (c .parse-git-date-format-with .result) (orElse (relativeOf maxPairs (a .s .now) (a .current)) (rawOf (limitsOf (a .rule)) (a .s .now)))
 from-iso c =
     let at-if = c .before in
     rw (from-number (at-if .before .before), ← at-if .before .is-settled2 .ensures, at-if .if2 .left, c .parse-git-date-format-with .ensures)
@@ -37,7 +37,7 @@ returns-3 c = rw (from-iso (c .before .before), ← c .before .is-settled3 .ensu
 
 -- relative is next
 from-relative : (c : tie.After-parse-with) → let a = c .before .before .before .before .before .before .before .before .before .before .before .before .before .args in
-    anyOf (limitsOf (a .rule)) (a .s .now) (a .current) ≡ orElse (c .parse-with .result) (rawOf (limitsOf (a .rule)) (a .s .now))
+    anyOf maxPairs (limitsOf (a .rule)) (a .s .now) (a .current) ≡ orElse (c .parse-with .result) (rawOf (limitsOf (a .rule)) (a .s .now))
 from-relative c =
     let at-if = c .before in
     rw (from-iso (at-if .before .before), ← at-if .before .is-settled3 .ensures, at-if .if3 .left, c .parse-with .ensures)

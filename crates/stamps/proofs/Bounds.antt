@@ -1,0 +1,162 @@
+-- RULES 13.19: a book by two bounds on the pairs of a relative date, the second at least the first. A line that is good by the first is the
+-- same line by the second (`good-line-stays`); so a book that is good stays good (`good-book-stays`) and lists the same hulls
+-- (`listing-stays`, `list-stays`), and a `since` line that is written is written alike (`since-writing-stays`). Of the lines that are good by
+-- the second, exactly the `since` lines whose text is too long for the first are bad by the first (`bad-by-smaller-bound-iff`), and a book
+-- is refused by 10 at the first of them (`long-since-line-is-10`).
+-- Assumes nothing.
+use mathlib.Core.Path.{_≡_, refl, sym, ap, _∙_}
+use mathlib.Core.Bool.{true, not, _&&_, false≢true}
+use mathlib.Core.Logic.{_↔_, _⊎_, inl, inr, ⊎-elim}
+use mathlib.Core.List.{List, [], _∷_, _++_, append-assoc}
+use Prim.Native.Nat.{ℕ, suc, _+_, _≤_}
+use native.Mathlib.Omega.{arith}
+use lib.ListN.{length}
+use Rattle.text.specs.Bytes.{same}
+use Rattle.text.specs.Quote.{bytes}
+use Rattle.text.specs.Places.{has, part}
+use Rattle.text.specs.Lines.{tab, newline, field, rest, endedLines, left}
+use Rattle.text.specs.declared.number.Integer.{Integer}
+use Rattle.text.specs.declared.number.Integer.the-variants.{Is, Nothing}
+use Rattle.text.specs.declared.number.Number.the-variants.{Value}
+use Rattle.text.proofs.Lists.{by-test, both}
+use Rattle.time.specs.Answers.{timeAt}
+use Rattle.time.specs.declared.Time.{Time}
+use Rattle.time.specs.declared.Now.the-variants.{At as CurrentAt}
+use Rattle.time.specs.declared.Refusal.the-variants.{Pairs, Book}
+use Rattle.time.specs.declared.Answer.the-variants.{Refused as NotRead}
+use Rattle.relative.specs.Relative.{relativeOf}
+use Rattle.relative.specs.Bounds.{BeyondBound}
+use Rattle.relative.proofs.Bounds.{larger-bound-answers-alike, refused-by-bound-iff}
+use Rattle.stamps.specs.Lines.{sinceAt, sinceWith, sinceOf, lineOf, isGood}
+use Rattle.stamps.specs.Writing.{sinceLine, isRead, isSince, sinceWritten}
+use Rattle.stamps.specs.Book.{maxBook, judged, lastPiece, linesIn, firstBad, checkedAt, checkOf}
+use Rattle.stamps.specs.Copies.{joined, copiedAt}
+use Rattle.stamps.specs.Listing.{cutOffBelow, listed, listing, listOf}
+use Rattle.stamps.specs.Theorems.{areGood}
+use Rattle.stamps.specs.declared.line.Since.{Since as SinceValue}
+use Rattle.stamps.specs.declared.line.Line.{Line}
+use Rattle.stamps.specs.declared.line.Line.the-variants.{Since, Bad}
+use Rattle.stamps.specs.declared.book.Checked.{Checked}
+use Rattle.stamps.specs.declared.book.Checked.the-variants.{Good, Refused}
+use Rattle.stamps.proofs.Reading.{bad-of-not-good}
+use Rattle.stamps.proofs.Books.{firstBad-good}
+use Rattle.stamps.proofs.Listings.{good-book-iff, judged-append, checkOf-within}
+use Rattle.stamps.proofs.ReadBack.{since-read-back}
+use Rattle.stamps.proofs.WriteBack.{since-written-back}
+
+-- ---- the book is refused by 10 at its first bad line
+firstBad-behind : (m : ℕ) (above below : List Line) → areGood above ≡ true → firstBad m (above ++ Bad ∷ below) ≡ Value (m + length above)
+unfolding firstBad areGood
+firstBad-behind m [] below g = let k : m ≡ m + 0 = omega arith in ap Value k
+firstBad-behind m (l ∷ above) below g =
+    let p = both (isGood l) (areGood above) g in
+    let k : suc m + length above ≡ m + suc (length above) = omega arith in
+    firstBad-good m l (above ++ Bad ∷ below) (p .0) ∙ firstBad-behind (suc m) above below (p .1) ∙ ap Value k
+
+length-judged : (bound : ℕ) (ls : List (List ℕ)) → length (judged bound ls) ≡ length ls
+unfolding judged
+length-judged bound [] = refl
+length-judged bound (l ∷ ls) = ap suc (length-judged bound ls)
+
+refused-at-bad-line : (bound : ℕ) (book : List ℕ) (above : List (List ℕ)) (l : List ℕ) (below : List (List ℕ))
+    → length book ≤ maxBook → endedLines book ≡ above ++ l ∷ below → areGood (judged bound above) ≡ true → lineOf bound l ≡ Bad → checkOf bound book ≡ Refused Book (1 + length above)
+unfolding linesIn judged
+refused-at-bad-line bound book above l below h e g bad =
+    let lines : judged bound (endedLines book) ≡ judged bound above ++ Bad ∷ judged bound below =
+    ap (judged bound) e ∙ judged-append bound above (l ∷ below) ∙ ap (λ (x : Line). judged bound above ++ x ∷ judged bound below) bad in
+    checkOf-within bound book h
+    ∙ ap (λ (ls : List Line). checkedAt (firstBad 1 (ls ++ lastPiece (left book)))) lines
+    ∙ ap (λ (ls : List Line). checkedAt (firstBad 1 ls)) (append-assoc (judged bound above) (Bad ∷ judged bound below) (lastPiece (left book)))
+    ∙ ap checkedAt (firstBad-behind 1 (judged bound above) (judged bound below ++ lastPiece (left book)) g)
+    ∙ ap (λ (n : ℕ). Refused Book (1 + n)) (length-judged bound above)
+
+-- ---- a text that is refused makes no `since` line
+isSince-not-5 : (bound : ℕ) (text : List ℕ) (current : Time) → isSince bound text current ≡ true → relativeOf bound text (CurrentAt current) ≡ NotRead Pairs → ⊥
+unfolding isSince
+isSince-not-5 bound text current g five =
+    let free = not (has tab text) && not (has newline text) in
+    false≢true (sym (ap isRead five) ∙ both free (isRead (relativeOf bound text (CurrentAt current))) g .1)
+
+-- ---- two bounds
+module _ (a b : ℕ) (within : a ≤ b) where
+  -- a line by the larger bound is as it is by the smaller one, or bad by that
+  sinceWith-alike : (text : List ℕ) (z o : Integer) → (sinceWith b text z o ≡ sinceWith a text z o) ⊎ (sinceWith a text z o ≡ Bad)
+  sinceWith-alike text (Is z) (Is o) =
+      ⊎-elim (λ same. inl (ap (sinceAt text (timeAt z o)) same)) (λ five. inr (ap (sinceAt text (timeAt z o)) five))
+      (larger-bound-answers-alike a b text (CurrentAt (timeAt z o)) within)
+  sinceWith-alike text (Is z) Nothing = inl refl
+  sinceWith-alike text Nothing o = inl refl
+
+  lineOf-alike : (l : List ℕ) → (lineOf b l ≡ lineOf a l) ⊎ (lineOf a l ≡ Bad)
+  unfolding lineOf sinceOf
+  lineOf-alike l =
+      by-test (has newline l) (λ n. rw n (inl refl))
+      (λ n.
+      by-test (same (field l) (bytes "hull")) (λ h. rw (n, h) (inl refl))
+      (λ h. by-test (same (field l) (bytes "since")) (λ k. rw (n, h, k) (sinceWith-alike _ _ _)) (λ k. rw (n, h, k) (inl refl))))
+
+  pub good-line-stays : (l : List ℕ) → isGood (lineOf a l) ≡ true → lineOf b l ≡ lineOf a l
+  good-line-stays l g = ⊎-elim (λ same. same) (λ bad. absurd (false≢true (rw bad at g))) (lineOf-alike l)
+
+  pub judged-stays : (ls : List (List ℕ)) → areGood (judged a ls) ≡ true → judged b ls ≡ judged a ls
+  unfolding judged areGood
+  judged-stays [] g = refl
+  judged-stays (l ∷ ls) g = let p = both (isGood (lineOf a l)) (areGood (judged a ls)) g in λ i. good-line-stays l (p .0) i ∷ judged-stays ls (p .1) i
+
+  listed-stays : (c : Integer) (ls : List (List ℕ)) → areGood (judged a ls) ≡ true → listed b c ls ≡ listed a c ls
+  unfolding judged areGood listed
+  listed-stays c [] g = refl
+  listed-stays c (l ∷ ls) g =
+      let p = both (isGood (lineOf a l)) (areGood (judged a ls)) g in
+      rw (good-line-stays l (p .0), listed-stays (cutOffBelow c (lineOf a l)) ls (p .1))
+
+  module _ (book : List ℕ) (good : checkOf a book ≡ Good) where
+    pub good-book-stays : checkOf b book ≡ Good
+    good-book-stays = let p = good-book-iff a book .0 good in good-book-iff b book .1 (p .0, p .1, ap areGood (judged-stays (endedLines book) (p .2)) ∙ p .2)
+
+    pub listing-stays : listing b book ≡ listing a book
+    unfolding listing
+    listing-stays = ap joined (listed-stays Nothing (endedLines book) (good-book-iff a book .0 good .2))
+
+    -- and so does what the call returns
+    pub list-stays : (room : List ℕ) → listOf b book room ≡ listOf a book room
+    list-stays room = (λ i. copiedAt (good-book-stays i) (listing-stays i) room) ∙ sym (ap (λ (c : Checked). copiedAt c (listing a book) room) good)
+
+  -- ---- a `since` line that is written
+  isSince-stays : (text : List ℕ) (current : Time) → isSince a text current ≡ true → isSince b text current ≡ true
+  unfolding isSince
+  isSince-stays text current g = ⊎-elim (λ same. rw same g) (λ five. absurd (isSince-not-5 a text current g five)) (larger-bound-answers-alike a b text (CurrentAt current) within)
+
+  isSince-same : (text : List ℕ) (current : Time) → relativeOf b text (CurrentAt current) ≡ relativeOf a text (CurrentAt current) → isSince b text current ≡ true → isSince a text current ≡ true
+  unfolding isSince
+  isSince-same text current same g = rw same at g
+
+  pub since-writing-stays : (text : List ℕ) (current : Time) (room : List ℕ) → isSince a text current ≡ true → sinceWritten b text current room ≡ sinceWritten a text current room
+  unfolding sinceWritten
+  since-writing-stays text current room g = rw (g, isSince-stays text current g)
+
+  -- ---- a `since` line whose text is too long for the smaller bound
+  module _ (l : List ℕ) (x : SinceValue) (line : lineOf b l ≡ Since x) where
+    pub bad-by-smaller-bound-iff : (lineOf a l ≡ Bad) ↔ BeyondBound a (part l (x .text))
+    bad-by-smaller-bound-iff =
+        let text = part l (x .text) in
+        let back = since-written-back b l x line in (
+          λ bad.
+              ⊎-elim
+              (λ same.
+              let good : isGood (lineOf a (sinceLine text (x .current))) ≡ true = since-read-back a text (x .current) (isSince-same text (x .current) same (back .1)) .1 in
+              absurd (false≢true (sym (ap (λ (m : List ℕ). isGood (lineOf a m)) (sym (back .0)) ∙ ap isGood bad) ∙ good)))
+              (λ five. refused-by-bound-iff a text (CurrentAt (x .current)) .0 five)
+              (larger-bound-answers-alike a b text (CurrentAt (x .current)) within),
+          λ long.
+              by-test (isGood (lineOf a l))
+              (λ good.
+              let written = since-written-back a l x (sym (good-line-stays l good) ∙ line) .1 in
+              absurd (isSince-not-5 a text (x .current) written (refused-by-bound-iff a text (CurrentAt (x .current)) .1 long)))
+              (λ bad. bad-of-not-good (lineOf a l) bad),
+        )
+
+    pub long-since-line-is-10 : (book : List ℕ) (above below : List (List ℕ))
+        → length book ≤ maxBook → endedLines book ≡ above ++ l ∷ below → areGood (judged a above) ≡ true → BeyondBound a (part l (x .text))
+        → checkOf a book ≡ Refused Book (1 + length above)
+    long-since-line-is-10 book above below h e g long = refused-at-bad-line a book above l below h e g (bad-by-smaller-bound-iff .1 long)
