@@ -19,7 +19,7 @@
  *                                 than the 4096 bytes that chowderbell_relative_turns takes
  *   3  CHOWDERBELL_MISSING        the text is relative and the current time is missing
  *   4  CHOWDERBELL_CURRENT        the text is relative and the current time's seconds or offset is out of range
- *   5  CHOWDERBELL_PAIRS          the text is relative with more than 32 pairs of a count and a unit
+ *   5  CHOWDERBELL_PAIRS          the text is relative with more than 256 pairs of a count and a unit
  *   6  CHOWDERBELL_RANGE          a relative step leaves the range; or the ISO writer is given seconds out of range or a local
  *                                 year, at the cut offset, outside 0 to 9999
  *   7  CHOWDERBELL_OFFSET         a writer is given an offset that is too wide
@@ -69,6 +69,9 @@ extern "C" {
 /* The bytes of the longest header, and of every ISO line. */
 #define CHOWDERBELL_HEADER_MAX 26
 #define CHOWDERBELL_ISO_LENGTH 25
+
+/* The most pairs of a count and a unit that a relative date has. */
+#define CHOWDERBELL_PAIRS_MAX 256
 
 /* The bytes of the longest text that chowderbell_relative_turns reads. */
 #define CHOWDERBELL_TURNS_MAX 4096
@@ -124,7 +127,7 @@ uint8_t chowderbell_relative(const uint8_t *text, size_t len, uint8_t has_now, i
 /* A relative date, read by a second reader, which takes turns: one function waits for a count, the other for its unit, and each
    hands the rest of the text to the other. docs/relative-dates.md explains relative dates by this reader. If you only want the
    answer, call chowderbell_relative: it has no limit on the length, takes less than a kilobyte of stack, and is up to twice as fast.
-   If len is at most 4096, the answer is that of chowderbell_relative in every case, refusals and the bound of 32 pairs included.
+   If len is at most 4096, the answer is that of chowderbell_relative in every case, refusals and the bound of 256 pairs included.
    White space at the ends counts toward len. If len is more, the text is refused: by 1 if it holds a byte of 128 or more,
    otherwise by 2. It calls itself at most once for each word of the text, so it goes at most 2049 calls deep. A call takes 432 bytes
    of stack on x86-64, as measured: 0.9 megabytes for 4096 bytes that are 2048 words. Returns 0 to 6. */

@@ -72,7 +72,7 @@ static void add_hull(book *b)
 
 static void add_since(book *b, const char *text, long cut_off)
 {
-    char line[400];
+    char line[8 * 256 + 64];
     snprintf(line, sizeof line, "since\t%s\t" NOW "\n", text);
     add(b, line);
     b->cut_off = cut_off;
@@ -114,13 +114,24 @@ static void now(book *b, size_t i, size_t n)
     add_since(b, "now", 1622462400);
 }
 
-static void pairs(book *b, size_t i, size_t n)
+static void add_pairs(book *b, size_t count)
 {
-    char text[400] = "";
-    (void)i, (void)n;
-    for (i = 0; i < 32; i++)
+    char text[8 * 256 + 1] = "";
+    for (size_t i = 0; i < count; i++)
         strcat(text, "1 month ");
     add_since(b, text, 0);
+}
+
+static void pairs(book *b, size_t i, size_t n)
+{
+    (void)i, (void)n;
+    add_pairs(b, 32);
+}
+
+static void most_pairs(book *b, size_t i, size_t n)
+{
+    (void)i, (void)n;
+    add_pairs(b, 256);
 }
 
 static void short_hulls(book *b, size_t i, size_t n)
@@ -302,6 +313,7 @@ static const kind TO_LIST[] = {
     {"since `1 month ago`", month, FULL},
     {"since `now`", now, FULL},
     {"since, 32 pairs of months", pairs, FULL},
+    {"since, 256 pairs of months", most_pairs, FULL},
     {"shortest hulls", short_hulls, FULL},
     {"one since of 65,536 bytes", one_since, 1},
 };

@@ -81,7 +81,7 @@ class Rules:
     MIN_SECONDS, MAX_SECONDS = -377705023201, 253402207200  # RULES 2.4
     MAX_CURRENT_OFFSET = 93599
     WIDEST_OFFSET = 360000  # RULES 2.5: refused from here on
-    MOST_PAIRS = 32
+    MOST_PAIRS = 256
     WHITE_SPACE = bytes([9, 10, 11, 12, 13, 32])  # RULES 4.1
     WORD = re.compile(rb"[A-Za-z0-9]+")
     COUNTS = {
@@ -399,9 +399,12 @@ CASES = [
     bad("an unknown unit without ago", S(b"2 ago")),
     bad("an unknown unit beside a known one", S(b"1 day 1 x")),
     bad("a count alone", S(b"5 ago")),
-    good_line("32 pairs", S(b"1 day " * 32)),
-    bad("33 pairs", S(b"1 day " * 33)),
-    good_line("32 pairs and a count", S(b"1 day " * 32 + b"5")),
+    good_line("256 pairs", S(b"1 day " * 256)),
+    bad("257 pairs", S(b"1 day " * 257)),
+    good_line("256 pairs and a count", S(b"1 day " * 256 + b"5")),
+    # 40 less 33 seconds; by the first 32 pairs the cut-off would be 8
+    good("33 pairs, all of them counted", S(b"1 second " * 33, b"40"), H(b"7 +0000"), H(b"6 +0000"), listed=[2]),
+    good("256 pairs, all of them counted", S(b"1 second " * 256, b"256"), H(b"0 +0000"), H(b"-1 +0000"), listed=[2]),
     good_line("the first second of the range", S(b"now", b"-377705023201")),
     bad("one before it", S(b"now", b"-377705023202")),
     bad("a step from there", S(b"1 second", b"-377705023201")),

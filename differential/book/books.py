@@ -517,12 +517,19 @@ def some_offset(rng):
     return rng.choice((*usual, rng.randint(-93599, 93599), rng.randint(-60, 60), rng.randint(-100000, 100000)))
 
 
+def some_count(rng):
+    """How many pairs: mostly few, now and then around 32, and now and then up to two more than are read."""
+    if rng.random() < 0.02:
+        return rng.choice((rng.randint(35, 258), rng.randint(254, 258)))
+    return rng.choice((1, 1, 1, 2, 2, 3, 5, rng.randint(28, 34)))
+
+
 def some_text(rng):
     """A relative text: now and then an odd one, otherwise pairs, with other words and other separators among them."""
     if rng.random() < 0.15:
         return rng.choice(TEXTS)
     words = []
-    for _ in range(rng.choice((1, 1, 1, 2, 2, 3, 5, rng.randint(28, 34)))):
+    for _ in range(some_count(rng)):
         words.append(rng.choice(COUNT_WORDS if rng.random() < 0.3 else COUNTS if rng.random() < 0.3 else COUNTS[:12]))
         words.append(rng.choice(ODD_UNITS if rng.random() < 0.1 else UNITS))
         if rng.random() < 0.1:

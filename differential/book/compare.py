@@ -485,14 +485,26 @@ class WholeMinuteCurrent(Rules):
         return super().is_current(seconds, offset) and offset % 60 == 0
 
 
-class Pairs33(Rules):
-    """33 pairs are read"""
-    MOST_PAIRS = 33
+class Pairs257(Rules):
+    """257 pairs are read"""
+    MOST_PAIRS = 257
 
 
-class Pairs31(Rules):
-    """32 pairs are too many"""
-    MOST_PAIRS = 31
+class Pairs255(Rules):
+    """256 pairs are too many"""
+    MOST_PAIRS = 255
+
+
+class Pairs32(Rules):
+    """33 pairs are too many"""
+    MOST_PAIRS = 32
+
+
+class FirstPairs(Rules):
+    """of more than 32 pairs only the first 32 count"""
+    def pairs(self, text):
+        pairs, marked = super().pairs(text)
+        return pairs[:32], marked
 
 
 class MonthEnd(Rules):

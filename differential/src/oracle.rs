@@ -6,7 +6,7 @@
 //!
 //! Five answers follow from the rules alone, because gix-date has nothing like them: 1 for a byte of 128 or more, 2 for a
 //! number that names no rule, 2 for a text that is too long for the second reader of relative dates, 4 for a current time
-//! out of range, 5 for more than 32 pairs.
+//! out of range, 5 for more than 256 pairs.
 //!
 //! gix-date reads raw dates by rule 1 (RULES 5.7). By rule 2 the answers are those of its own code with the two limits
 //! of that rule.
@@ -32,7 +32,7 @@ pub const MAX_SECONDS: i64 = 253402207200;
 /// The widest offset of a current time.
 pub const MAX_OFFSET: i32 = 93599;
 /// The most pairs that are read.
-pub const MAX_PAIRS: usize = 32;
+pub const MAX_PAIRS: usize = 256;
 /// The most bytes of a text that the second reader of relative dates takes (RULES 7.12).
 pub const MAX_TURNS: usize = 4096;
 /// The least number that "any" reads as seconds without an `@` before it.
@@ -310,7 +310,7 @@ fn landed(zoned: &Zoned) -> Answer {
     Answer { number: 0, seconds: zoned.timestamp().as_second(), offset: zoned.offset().seconds(), mark: 0 }
 }
 
-/// Whether a relative text has more pairs than are read. The shortest such text is 33 times `1 x`, with a byte between.
+/// Whether a relative text has more pairs than are read. The shortest such text is 257 times `1 x`, with a byte between.
 fn has_too_many_pairs(text: &str) -> bool {
     const SHORTEST: usize = (MAX_PAIRS + 1) * 4 - 1;
     text.len() >= SHORTEST && visible::pairs(text).is_some_and(|count| count > MAX_PAIRS)

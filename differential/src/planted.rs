@@ -46,7 +46,9 @@ pub const MISTAKES: &[Mistake] = &[
     Mistake { name: "a bad offset refuses the header", read: bad_offset_refuses, ..RIGHT },
     Mistake { name: "signs inside two-byte fields are refused", read: no_signs_in_fields, ..RIGHT },
     Mistake { name: "`ago` counts only where it comes last", read: ago_only_last, ..RIGHT },
-    Mistake { name: "33 pairs are read", read: no_bound_of_pairs, ..RIGHT },
+    Mistake { name: "257 pairs are read", read: no_bound_of_pairs, ..RIGHT },
+    Mistake { name: "33 pairs are refused", read: refuses_pair_33, ..RIGHT },
+    Mistake { name: "of more than 32 pairs the first 32 are the answer", read: first_32_pairs, ..RIGHT },
     Mistake { name: "the current time is looked at first", read: current_time_first, ..RIGHT },
     Mistake { name: "the first second is out of range", read: |f, t, n| range_less(f, t, n, MIN_SECONDS), ..RIGHT },
     Mistake { name: "the last second is out of range", read: |f, t, n| range_less(f, t, n, MAX_SECONDS), ..RIGHT },
@@ -112,7 +114,7 @@ pub const MISTAKES: &[Mistake] = &[
     },
     Mistake { name: "an ISO hour that is too large is 11", read: hour_too_large, ..RIGHT },
     Mistake { name: "by turns, `ago` counts only in front of an unknown unit", read: mark_only_in_front, ..RIGHT },
-    Mistake { name: "by turns, pairs after the 32nd are dropped", read: drops_pair_33, ..RIGHT },
+    Mistake { name: "by turns, pairs after the 256th are dropped", read: drops_pair_257, ..RIGHT },
     Mistake { name: "by turns, the count of pairs wraps at 256", read: pairs_wrap, ..RIGHT },
     Mistake { name: "by turns, a text of 4,097 bytes is read", read: |f, t, n| reads_length(f, t, n, 4097), ..RIGHT },
     Mistake { name: "by turns, a text of 4,096 bytes is refused", read: longest_is_refused, ..RIGHT },
@@ -132,7 +134,7 @@ pub const MISTAKES: &[Mistake] = &[
     },
     Mistake { name: "by turns, pairs are applied from the last to the first", read: last_pair_first, ..RIGHT },
     Mistake { name: "by turns, a count at the end is seconds", read: count_at_end, ..RIGHT },
-    Mistake { name: "by turns, the 33rd pair is 5 whatever follows", read: pair_33_ends_reading, ..RIGHT },
+    Mistake { name: "by turns, the 257th pair is 5 whatever follows", read: pair_257_ends_reading, ..RIGHT },
     Mistake { name: "by turns, an unknown unit refuses only as the last unit", read: only_last_unit_known, ..RIGHT },
     Mistake { name: "by turns, 6 comes before 5", read: |f, t, n| range_before(f, t, n, 5), ..RIGHT },
     Mistake { name: "by turns, 6 comes before 2", read: |f, t, n| range_before(f, t, n, 2), ..RIGHT },
@@ -321,6 +323,20 @@ fn no_bound_of_pairs(form: Form, text: &[u8], now: &Now) -> Option<Answer> {
     let text = std::str::from_utf8(text).ok()?;
     let landed = gix_date::parse::visible::relative(text, now.zoned())?.ok()?;
     Some(time(landed.timestamp().as_second(), landed.offset().seconds()))
+}
+
+/// The pairs of a text that the relative reader answers with a time, if they are more than 32.
+fn many_pairs(form: Form, text: &[u8], now: &Now) -> Option<Relative> {
+    let is_asked = form == Form::Relative && right(form, text, now).number == 0;
+    is_asked.then(|| held_in(text)).filter(|held| held.pairs.len() > 32)
+}
+
+fn refuses_pair_33(form: Form, text: &[u8], now: &Now) -> Option<Answer> {
+    many_pairs(form, text, now).map(|_| refused(5))
+}
+
+fn first_32_pairs(form: Form, text: &[u8], now: &Now) -> Option<Answer> {
+    many_pairs(form, text, now).map(|held| right_of(&held.pairs[..32], held.marked, now))
 }
 
 fn current_time_first(form: Form, text: &[u8], now: &Now) -> Option<Answer> {
@@ -577,9 +593,12 @@ struct Relative {
 
 /// What the text holds, if the second reader of relative dates was asked and takes it.
 fn by_turns(form: Form, text: &[u8]) -> Option<Relative> {
-    if form != Form::Turns || text.len() > MAX_TURNS || !text.is_ascii() {
-        return None;
-    }
+    let is_taken = form == Form::Turns && text.len() <= MAX_TURNS && text.is_ascii();
+    is_taken.then(|| held_in(text))
+}
+
+/// What an ASCII text holds.
+fn held_in(text: &[u8]) -> Relative {
     let mut held = Relative { pairs: Vec::new(), marked: false, last_count: None };
     for word in words(text) {
         match held.last_count.take() {
@@ -588,7 +607,7 @@ fn by_turns(form: Form, text: &[u8]) -> Option<Relative> {
             None => held.last_count = Some(word).filter(|word| is_count(word)),
         }
     }
-    Some(held)
+    held
 }
 
 /// The right answer to a text of these pairs, with the mark at its end if it is set.
@@ -602,14 +621,15 @@ fn mark_only_in_front(form: Form, text: &[u8], _: &Now) -> Option<Answer> {
     by_turns(form, text)?.pairs.iter().any(is_lost).then_some(refused(2))
 }
 
-fn drops_pair_33(form: Form, text: &[u8], now: &Now) -> Option<Answer> {
+fn drops_pair_257(form: Form, text: &[u8], now: &Now) -> Option<Answer> {
     let Relative { pairs, marked, .. } = by_turns(form, text)?;
     (right(form, text, now).number == 5).then(|| right_of(&pairs[..MAX_PAIRS], marked, now))
 }
 
+/// A count of eight bits: 256 pairs are none.
 fn pairs_wrap(form: Form, text: &[u8], now: &Now) -> Option<Answer> {
-    let count = by_turns(form, text)?.pairs.len() % 256;
-    no_bound_of_pairs(form, text, now).filter(|_| count <= MAX_PAIRS)
+    let count = by_turns(form, text)?.pairs.len();
+    if count > 0 && count % 256 == 0 { Some(refused(2)) } else { no_bound_of_pairs(form, text, now) }
 }
 
 fn reads_length(form: Form, text: &[u8], now: &Now, len: usize) -> Option<Answer> {
@@ -662,7 +682,7 @@ fn count_at_end(form: Form, text: &[u8], now: &Now) -> Option<Answer> {
     Some(right_of(&pairs, marked, now))
 }
 
-fn pair_33_ends_reading(form: Form, text: &[u8], now: &Now) -> Option<Answer> {
+fn pair_257_ends_reading(form: Form, text: &[u8], now: &Now) -> Option<Answer> {
     let count = by_turns(form, text)?.pairs.len();
     (count > MAX_PAIRS && is_2(form, text, now)).then_some(refused(5))
 }

@@ -20,6 +20,9 @@ pub const RULE_1: u32 = 1;
 /// The number of rule 2 for the offset of a raw date: its hours are at most 23, its minutes at most 59.
 pub const RULE_2: u32 = 2;
 
+/// The most pairs of a count and a unit that a relative date has.
+pub const PAIRS_MAX: usize = 256;
+
 /// The length, in bytes, of the longest text that [`parse_relative_turns`] reads.
 pub const TURNS_MAX: usize = 4096;
 

@@ -16,7 +16,7 @@ pub enum Refusal {
     /// 4: the text is relative, and the current time is out of range: seconds -377705023201 to 253402207200, offset
     /// -93599 to 93599.
     Current = 4,
-    /// 5: the text is relative and has more than 32 pairs of a count and a unit.
+    /// 5: the text is relative and has more than [`PAIRS_MAX`](crate::PAIRS_MAX) pairs of a count and a unit.
     Pairs = 5,
     /// 6: a relative step leaves the range; or the ISO writer is given seconds out of range, or a time whose local
     /// year, at the cut offset, is not 0 to 9999.

@@ -269,7 +269,7 @@ fn since_lines() {
     hold(good.map(|line| (line, Ok(()))));
     hold(bad.map(|line| (line, Err(BadLine(1)))));
     let pairs = |count| format!("since\t{}\t0\t0\n", "1 day ".repeat(count));
-    hold([(pairs(32), Ok(())), (pairs(33), Err(BadLine(1)))]);
+    hold([(pairs(33), Ok(())), (pairs(PAIRS_MAX), Ok(())), (pairs(PAIRS_MAX + 1), Err(BadLine(1)))]);
 }
 
 #[test]

@@ -222,7 +222,7 @@ fn too_large() {
 /// "Any" tries the raw date last, so other forms answer first. ISO and relative dates never give 11.
 #[test]
 fn too_large_beside_other_forms() {
-    let pairs = "99999999999999999999 ".to_owned() + &"1 day ".repeat(33);
+    let pairs = "99999999999999999999 ".to_owned() + &"1 day ".repeat(257);
     let now = Some(Time::new(NOW.seconds, 3600));
     let rows: [(&str, Answer, Answer); 11] = [
         // text, relative, any
@@ -333,15 +333,21 @@ fn relative_at_the_ends_of_the_range() {
 /// RULES 11.9, the bound of pairs.
 #[test]
 fn relative_with_many_pairs() {
-    let (most, more) = ("1 day ".repeat(32), "1 day ".repeat(33));
+    assert_eq!(PAIRS_MAX, 256);
+    let (most, more) = ("1 day ".repeat(256), "1 day ".repeat(257));
     let out = Some(Time::new(i64::MIN, 0));
-    let rows: [(&str, Answer); 2] = [(&most, Ok((NOW.seconds - 32 * 86400, 0))), (&more, Err(Pairs))];
+    let rows: [(&str, Answer); 2] = [(&most, Ok((NOW.seconds - 256 * 86400, 0))), (&more, Err(Pairs))];
     hold_relative(&rows, Some(NOW));
     hold_relative(&[(&most, Err(Missing)), (&more, Err(Pairs))], None);
     hold_relative(&[(&most, Err(Current)), (&more, Err(Pairs))], out);
     // 2 is tested before 5, so the whole text is read even if it has too many pairs
-    let unknown = "1 x ".repeat(33);
+    let unknown = "1 x ".repeat(257);
     hold_relative(&[(&unknown, Err(Form)), (&(unknown.clone() + "ago"), Err(Pairs))], Some(NOW));
+    // more than 32 pairs were 5 once; all of them count
+    for count in [33, 100, 255] {
+        let text = "1 day ".repeat(count);
+        hold_relative(&[(&text, Ok((NOW.seconds - count as i64 * 86400, 0)))], Some(NOW));
+    }
 }
 
 #[test]

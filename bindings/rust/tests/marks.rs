@@ -327,7 +327,7 @@ fn a_refusal_stores_0() {
         assert_eq!(raw_entry(7, rule, text.as_bytes()), (number, 0, 0, 0), "raw by {rule} {text:?}");
         assert_eq!(any_entry(7, rule, text.as_bytes(), (1, 7, 7)), (number, 0, 0, 0), "any by {rule} {text:?}");
     }
-    let pairs = "1 day ".repeat(33);
+    let pairs = "1 day ".repeat(257);
     for (text, now, number) in [
         ("now", (0, 1, 0), 3),
         ("now", (1, i64::MIN, 0), 4),

@@ -142,9 +142,10 @@ fn many_words_and_long_words() {
         ("1 day ".to_owned() + &"x ".repeat(2045), day_ago),
         // a count at the end of the text is dropped
         ("1 day  ".to_owned() + &"x ".repeat(2044) + "1", day_ago),
-        // 32 pairs and 33, behind words that are passed over
-        ("x ".repeat(1952) + &"1 day ".repeat(32), Ok(NOW.seconds - 32 * DAY)),
-        ("x ".repeat(1949) + &"1 day ".repeat(33), Err(Pairs)),
+        // 33 pairs, 256 and 257, behind words that are passed over
+        ("x ".repeat(1949) + &"1 day ".repeat(33), Ok(NOW.seconds - 33 * DAY)),
+        ("x ".repeat(1280) + &"1 day ".repeat(256), Ok(NOW.seconds - 256 * DAY)),
+        ("x ".repeat(1277) + &"1 day ".repeat(257), Err(Pairs)),
         // leading zeros change no value, and digits that are too large are passed over
         ("0".repeat(4091) + "1 day", day_ago),
         ("9".repeat(4090) + " 1 day", day_ago),

@@ -96,6 +96,9 @@ others =
     -- so many pairs are read, one more is 5, and that before 3
     reads (many maxPairs "1 day " "" (At (timeAt may (pos 0)))) (at (pos (1622462400 - maxPairs * 86400))) ∷
     reads (many (maxPairs + 1) "1 day " "" Missing) (Refused Pairs) ∷
+    -- 33 pairs by a bound of 32, and now: all of them count
+    reads (relativeOf 32 (times 33 (bytes "1 day ") []) (At (timeAt may (pos 0)))) (Refused Pairs) ∷
+    reads (many 33 "1 day " "" (At (timeAt may (pos 0)))) (at (pos (1622462400 - 33 * 86400))) ∷
     -- L13: the count that is dropped is no pair
     reads (many maxPairs "1 day " "7" (At (timeAt may (pos 0)))) (at (pos (1622462400 - maxPairs * 86400))) ∷
     -- L7: the whole text is read before 5 is decided, and 2 comes first
@@ -107,7 +110,7 @@ others =
 other-examples : AllRight others
 unfolding relativeOf byPairs namedOf from steps step landed landing monthsEarlier monthStart timeInRange secondsInRange offsetInRange pairsFrom agoFrom known unitOf unitNamed singular countOf spelled wordsOf isAlphanumeric ascii sameLetters trim trimEnd trimStart isSpace lowerOf words full pieces fit digitsOf readFrom isDigit monthOf yearOf spanOf monthLength firstDay yearStart yearLength total lengths leap
 other-examples =
-    (refl, (refl, (refl, (refl, (refl, (refl, (refl, (refl, (refl, (refl, (refl, (refl, (refl, (refl, (refl, (refl, (refl, (refl, (refl, (refl, (refl, (refl, (refl, (refl, (refl, (refl, (refl, (refl, (refl, (refl, (refl, (refl, (refl, (refl, (refl, (refl, (refl, (refl, (refl, tt)))))))))))))))))))))))))))))))))))))))
+    (refl, (refl, (refl, (refl, (refl, (refl, (refl, (refl, (refl, (refl, (refl, (refl, (refl, (refl, (refl, (refl, (refl, (refl, (refl, (refl, (refl, (refl, (refl, (refl, (refl, (refl, (refl, (refl, (refl, (refl, (refl, (refl, (refl, (refl, (refl, (refl, (refl, (refl, (refl, (refl, (refl, tt)))))))))))))))))))))))))))))))))))))))))
 
 -- the month before the first that is counted, December of year -10001, has 31 days; and a cycle before it
 months-below-0 : (monthStart (negsuc 0) ≡ negsuc 30) × (monthStart (negsuc 4799) ≡ negsuc 146096)

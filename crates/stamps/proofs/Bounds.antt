@@ -27,6 +27,7 @@ use Rattle.time.specs.declared.Answer.the-variants.{Refused as NotRead}
 use Rattle.relative.specs.Relative.{relativeOf}
 use Rattle.relative.specs.Bounds.{BeyondBound}
 use Rattle.relative.proofs.Bounds.{larger-bound-answers-alike, refused-by-bound-iff}
+use Rattle.stamps.specs.Stamps.{printed}
 use Rattle.stamps.specs.Lines.{sinceAt, sinceWith, sinceOf, lineOf, isGood}
 use Rattle.stamps.specs.Writing.{sinceLine, isRead, isSince, sinceWritten}
 use Rattle.stamps.specs.Book.{maxBook, judged, lastPiece, linesIn, firstBad, checkedAt, checkOf}
@@ -93,7 +94,7 @@ module _ (a b : ℕ) (within : a ≤ b) where
       by-test (has newline l) (λ n. rw n (inl refl))
       (λ n.
       by-test (same (field l) (bytes "hull")) (λ h. rw (n, h) (inl refl))
-      (λ h. by-test (same (field l) (bytes "since")) (λ k. rw (n, h, k) (sinceWith-alike _ _ _)) (λ k. rw (n, h, k) (inl refl))))
+      (λ h. by-test (same (field l) (bytes "since")) (λ k. rw (n, h, k) (sinceWith-alike (field (rest l)) (printed (field (rest (rest l)))) (printed (rest (rest (rest l)))))) (λ k. rw (n, h, k) (inl refl))))
 
   pub good-line-stays : (l : List ℕ) → isGood (lineOf a l) ≡ true → lineOf b l ≡ lineOf a l
   good-line-stays l g = ⊎-elim (λ same. same) (λ bad. absurd (false≢true (rw bad at g))) (lineOf-alike l)

@@ -24,7 +24,7 @@ most 4,096 bytes before its end; the last one may lack its end.
  2  the text is not of the form asked for
  3  the text is relative and the current time is missing
  4  the current time's seconds or offset is out of range
- 5  the text is relative with more than 32 pairs
+ 5  the text is relative with more than 256 pairs
  6  a relative step leaves the range
  9  the line has the wrong layout or is too long
 11  the text starts with a number that is too large for 64 bits

@@ -151,9 +151,10 @@ fn readers<'a>() -> Vec<Row<'a>> {
     let flexible = |k: i64| format!("{} {} {}", date(k), clock(k), offset(k));
     let compact = |k: i64| format!("{}T{}{}", date(k).replace('-', ""), clock(k).replace(':', ""), offset(k));
     let ago = |k: i64| format!("{} {} ago", 1 + k % 30, unit(k));
-    let of_seconds = |k: i64| (0..32).map(|p| format!("{} {} ", 1 + (k + p) % 9, unit(k + p))).collect::<String>();
-    let with_months = |k: i64| {
-        (0..32)
+    let of_seconds =
+        |k: i64, pairs| (0..pairs).map(|p| format!("{} {} ", 1 + (k + p) % 9, unit(k + p))).collect::<String>();
+    let with_months = |k: i64, pairs| {
+        (0..pairs)
             .map(|p| format!("{} {} ", 1 + (k + p) % 3, ["months", "days"][((k + p) % 2) as usize]))
             .collect::<String>()
     };
@@ -168,8 +169,14 @@ fn readers<'a>() -> Vec<Row<'a>> {
             row("one month", &|k| format!("{} months ago", 1 + k % 30)),
             row("one year", &|k| format!("{} years ago", 1 + k % 30)),
             row("month and days", &|k| format!("{} months {} days ago", 1 + k % 12, 1 + k % 30)),
-            row("32 pairs of seconds", &of_seconds),
-            row("32 pairs with months", &with_months),
+            row("32 pairs of seconds", &|k| of_seconds(k, 32)),
+            row("32 pairs with months", &|k| with_months(k, 32)),
+            row("33 pairs of seconds", &|k| of_seconds(k, 33)),
+            row("33 pairs with months", &|k| with_months(k, 33)),
+            row("100 pairs of seconds", &|k| of_seconds(k, 100)),
+            row("100 pairs with months", &|k| with_months(k, 100)),
+            row("256 pairs of seconds", &|k| of_seconds(k, 256)),
+            row("256 pairs with months", &|k| with_months(k, 256)),
             row("1,000 words passed over", &|k| format!("{} days{} ago", 1 + k % 30, " and".repeat(1000))),
             row("refused", &|k| format!("{} things", 1 + k % 30)),
         ]

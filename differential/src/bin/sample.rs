@@ -1,6 +1,6 @@
 //! Writes a fixed sample of gix-date's answers as lines of `whenread`: `gix-date.in` and `gix-date.out`.
 //!
-//! Only answers that gix-date itself determines are taken: ASCII texts of at most 32 pairs, with a current time that is
+//! Only answers that gix-date itself determines are taken: ASCII texts of at most 256 pairs, with a current time that is
 //! missing or in range. gix-date says only "read" or "not read", so the number of a refusal follows from what refused:
 //! - 2 if the text is not of the form, which for a relative text means that `relative::parse` returns `None`;
 //! - 11 in place of 2 if the number that opens a header or a raw date is too large, also where "any" ends with a raw date;
@@ -110,9 +110,19 @@ fn sample() -> Vec<(String, Answer)> {
     }
     // up to the most pairs that are read, also with a count after them, which is dropped
     for form in [Form::Relative, Form::Any] {
-        for (pair, count, tail) in
-            [("1 day ", 31, ""), ("1 day ", 32, ""), ("1 x ", 32, "ago"), ("1 month ", 32, "7"), ("2 ", 64, "ago")]
-        {
+        for (pair, count, tail) in [
+            ("1 day ", 31, ""),
+            ("1 day ", 32, ""),
+            ("1 x ", 32, "ago"),
+            ("1 month ", 32, "7"),
+            ("2 ", 64, "ago"),
+            ("1 day ", 33, ""),
+            ("1 day ", 255, ""),
+            ("1 day ", 256, ""),
+            ("1 x ", 256, "ago"),
+            ("1 month ", 256, "7"),
+            ("2 ", 512, "ago"),
+        ] {
             let text = pair.repeat(count) + tail;
             if let Some(answer) = Sample::determined(form, text.as_bytes(), &noon) {
                 sample.add(form, text.as_bytes(), &noon, answer);

@@ -56,7 +56,7 @@ pub const SUITES: &[Suite] = &[
     suite("words", "every relative text of up to 5 words over 13", relative::words),
     suite("spellings", "every letter case of every relative word", relative::spellings),
     suite("range", "both ends of the range, second by second", relative::range),
-    suite("pairs", "relative texts of 1 to 34 pairs, at random", relative::pairs),
+    suite("pairs", "relative texts of 1 to 258 pairs, at random", relative::pairs),
     suite("random", "good texts at random, each reader", readers::random),
     suite("damaged", "damaged copies of good texts, each reader", readers::damaged),
     suite("long", "texts of up to 20,000 bytes, each reader", readers::long),

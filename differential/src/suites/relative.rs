@@ -1,10 +1,12 @@
 //! Suites for the relative reader.
 
+use std::ops::RangeInclusive;
+
 use jiff::ToSpan as _;
 
 use super::{Size, every, iso, seeded};
 use crate::ledger::Ledger;
-use crate::oracle::{Form, MAX_OFFSET, MAX_SECONDS, MIN_SECONDS, Now};
+use crate::oracle::{Form, MAX_OFFSET, MAX_PAIRS, MAX_SECONDS, MIN_SECONDS, Now};
 use crate::rng::Rng;
 use crate::texts::{self, COUNTS, NAMES, NOON, UNITS, month_length, seconds_of};
 
@@ -209,10 +211,16 @@ fn to_the_first_second(ledger: &mut Ledger) {
     }
 }
 
+/// Every count of pairs up to two more than are read; the long texts less often.
 pub(super) fn pairs(ledger: &mut Ledger, size: Size) {
+    some_pairs(ledger, size, "pairs", 40_000, 1..=34);
+    some_pairs(ledger, size, "many pairs", 2_000, 35..=MAX_PAIRS + 2);
+}
+
+fn some_pairs(ledger: &mut Ledger, size: Size, name: &str, rounds: usize, counts: RangeInclusive<usize>) {
     let mut text = Vec::new();
-    seeded(ledger, size, "pairs", 40_000, |ledger, rng| {
-        for count in 1..=34 {
+    seeded(ledger, size, name, rounds, |ledger, rng| {
+        for count in counts.clone() {
             text.clear();
             let small = rng.below(8) > 0;
             texts::pairs(rng, &mut text, count, small);

@@ -2,7 +2,7 @@
 
 use super::Size;
 use crate::ledger::Ledger;
-use crate::oracle::{Form, Now};
+use crate::oracle::{Form, MAX_PAIRS, Now};
 use crate::texts::NOON;
 
 /// The digits of the largest number that fits. Behind `-`, one more fits.
@@ -150,7 +150,7 @@ pub(super) fn ask(ledger: &mut Ledger, text: &[u8], now: &Now) {
 pub(super) fn too_large(ledger: &mut Ledger, _: Size) {
     let nows = [Now::missing(), Now::at(NOON, 3600), Now::at(i64::MIN, 0)];
     // by the bound of pairs, "any" refuses the second of these before it comes to the raw form
-    let pairs = [32, 33].map(|count| " 1 day".repeat(count).into_bytes());
+    let pairs = [MAX_PAIRS, MAX_PAIRS + 1].map(|count| " 1 day".repeat(count).into_bytes());
     for number in NUMBERS {
         for front in FRONTS {
             for tail in TAILS.into_iter().chain(pairs.iter().map(Vec::as_slice)) {

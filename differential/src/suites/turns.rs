@@ -7,7 +7,7 @@
 use super::readers::some_nows;
 use super::{Size, every, seeded};
 use crate::ledger::Ledger;
-use crate::oracle::{Form, MAX_TURNS, Now};
+use crate::oracle::{Form, MAX_PAIRS, MAX_TURNS, Now};
 use crate::rng::Rng;
 use crate::texts::{self, NOON, SEPARATORS};
 
@@ -122,10 +122,10 @@ fn filled(ask: &mut impl FnMut(&[u8])) {
     }
 }
 
-/// Around 32 pairs with words between them that are passed over, as many as make the length.
+/// Around 256 pairs, and around 32, with words between them that are passed over, as many as make the length.
 fn spread(ask: &mut impl FnMut(&[u8])) {
     for len in LENGTHS {
-        for count in [1, 2, 31, 32, 33, 34] {
+        for count in [1, 2, 32, 33, MAX_PAIRS - 1, MAX_PAIRS, MAX_PAIRS + 1, MAX_PAIRS + 2] {
             for pair in ["1 day", "1 month", "1 x", "1 second"] {
                 for filler in [" and", " x", " 99999999999999999999", ".", " now", " ago"] {
                     for tail in ["", " ago", " 5"] {
@@ -158,11 +158,11 @@ fn not_ascii(ask: &mut impl FnMut(&[u8])) {
 }
 
 /// Texts to which more than one refusal applies, so that their order shows: first a pair that leaves the range, then up to
-/// 33 others, then unknown units with and without the mark.
+/// 257 others, then unknown units with and without the mark.
 fn which_refusal(ask: &mut impl FnMut(&[u8])) {
     for front in ["", "ago ", "999999 years ", "9223372036854775807 weeks ", "9223372036854775807 x ", "300000 months "]
     {
-        for count in [0, 1, 30, 31, 32, 33] {
+        for count in [0, 1, 32, 33, MAX_PAIRS - 2, MAX_PAIRS - 1, MAX_PAIRS, MAX_PAIRS + 1] {
             for pair in ["1 day ", "1 month ", "1 x "] {
                 for tail in ["", "5", "5 x", "5 x 5", "ago", "5 ago", "5 x ago", "5 ago ago", "999999 years"] {
                     ask(format!("{front}{}{tail}", pair.repeat(count)).as_bytes());
@@ -172,7 +172,7 @@ fn which_refusal(ask: &mut impl FnMut(&[u8])) {
     }
 }
 
-/// Every count of pairs that fits. A count that is kept in few bits would come around.
+/// Every count of pairs that fits. A count that is kept in few bits would come around. "Any" is asked too.
 fn counts_of_pairs(ledger: &mut Ledger) {
     let nows = [Now::missing(), Now::at(NOON, 3600), Now::at(NOON, i32::MIN)];
     for (pair, tail) in [("1 x ", ""), ("1 x ", "ago"), ("1 day ", ""), ("1 month ", "ago"), ("7 ", "ago")] {
@@ -180,6 +180,7 @@ fn counts_of_pairs(ledger: &mut Ledger) {
             let text = pair.repeat(count) + tail;
             for now in &nows {
                 ask(ledger, text.as_bytes(), now);
+                ledger.ask(Form::Any, text.as_bytes(), now);
             }
         }
     }
