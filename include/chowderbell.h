@@ -189,6 +189,7 @@ uint8_t chowderbell_write_iso(int64_t seconds, int32_t offset, uint8_t *room, si
    TIME     exactly the bytes that chowderbell_write_header_marked writes for some time at an offset of whole minutes, as
             "1745582210 +0200". It may end in "-0000". Not of that form are "+5 +0000", "05 +0000", "5 +0060" and "5 -000000".
    TEXT     a relative date without tab and newline, for which chowderbell_relative returns 0 at the current time SECONDS, OFFSET.
+            So it has at most 256 pairs of a count and a unit.
    SECONDS, OFFSET
             plain decimals, as chowderbell_write_header prints seconds: "0", "-18000". Not of that form are "+5", "05" and "-0".
 

@@ -129,6 +129,9 @@ pub fn parse_iso(text: impl AsRef<[u8]>) -> Result<Time, Refusal> {
 /// assert_eq!(parse_relative("1 month ago", Some(now)), Ok(Time::new(1619870400, 0)));
 /// assert_eq!(parse_relative("now", None), Err(Refusal::Missing));
 /// assert_eq!(parse_relative("now", Some(Time::with_mark(5, 0, true))), Ok(Time::new(5, 0)));
+/// // at most PAIRS_MAX pairs
+/// assert_eq!(parse_relative("1 day ".repeat(256), Some(now)), Ok(Time::new(1600344000, 0)));
+/// assert_eq!(parse_relative("1 day ".repeat(257), Some(now)), Err(Refusal::Pairs));
 /// ```
 pub fn parse_relative(text: impl AsRef<[u8]>, now: Option<Time>) -> Result<Time, Refusal> {
     let (has_now, at) = current(now);

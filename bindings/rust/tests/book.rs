@@ -2,7 +2,7 @@
 //! RULES 13, none by running the library.
 
 use chowderbell::book::{self, BookError, BookError::*};
-use chowderbell::{entries, Refusal, Time};
+use chowderbell::{entries, Refusal, Time, PAIRS_MAX};
 
 /// A hull line with this time.
 fn hull(time: &str) -> String {

@@ -4,7 +4,7 @@
 use chowderbell::Refusal::{self, *};
 use chowderbell::{parse, parse_by, parse_header, parse_iso, parse_raw, parse_raw_by};
 use chowderbell::{parse_relative, parse_relative_turns};
-use chowderbell::{Time, RULE_1, RULE_2};
+use chowderbell::{Time, PAIRS_MAX, RULE_1, RULE_2};
 
 /// Noon of 31 May 2021 at offset 0.
 const NOW: Time = Time::new(1622462400, 0);

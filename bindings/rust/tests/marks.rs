@@ -389,7 +389,7 @@ fn the_entries_without_a_mark_answer_alike() {
     ] {
         hold_alike(text.as_bytes());
     }
-    hold_alike("1 day ".repeat(33).as_bytes());
+    hold_alike("1 day ".repeat(257).as_bytes());
     // every second word of 5 bytes over these
     let bytes = b"-+0159 x";
     for n in 0..bytes.len().pow(5) {

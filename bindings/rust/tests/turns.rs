@@ -40,8 +40,8 @@ fn the_longest_text_has_4096_bytes() {
     hold(format!("now{}", " ".repeat(4093)).as_bytes(), now, Ok(NOW.seconds), Ok(NOW.seconds));
     hold(format!("now{}", " ".repeat(4094)).as_bytes(), now, Ok(NOW.seconds), Err(Form));
 
-    let (most, more) = ("1 day ".repeat(32), "1 day ".repeat(33));
-    let unknown = "1 x ".repeat(33);
+    let (most, more) = ("1 day ".repeat(256), "1 day ".repeat(257));
+    let unknown = "1 x ".repeat(257);
     let rows = [
         ("now", Ok(NOW.seconds)),
         ("Today", Ok(NOW.seconds)),
@@ -58,7 +58,7 @@ fn the_longest_text_has_4096_bytes() {
         ("5 6 days", Err(Form)),
         ("5 6 days ago", Ok(NOW.seconds - 5)),
         // RULES 11.9
-        (&most, Ok(NOW.seconds - 32 * DAY)),
+        (&most, Ok(NOW.seconds - 256 * DAY)),
         (&more, Err(Pairs)),
         (&unknown, Err(Form)),
         ("9223372036854775807 weeks", Err(Range)),

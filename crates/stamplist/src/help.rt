@@ -21,9 +21,9 @@ since, text, current seconds, current offset
 A path has 1 to 255 bytes from 32 to 126. A key has 16 lower-case hexadecimal
 digits. A time is seconds since 1970 and an offset in hours and minutes, as in
 1745582210 +0200; the offset may be -0000. A text is a relative date, as in
-2 weeks ago; the time that it means at the current time is the cut-off. Seconds
-and the current offset are in plain decimal. A book has at most 65,536 bytes;
-the empty book is good.
+2 weeks ago, of at most 256 pairs of a count and a unit; the time that it means
+at the current time is the cut-off. Seconds and the current offset are in plain
+decimal. A book has at most 65,536 bytes; the empty book is good.
 
 Numbers and times are exact: with +5, 05, -0, 5 +0060 or 5 -000000 a line is
 bad. So is a line with a carriage return before its newline, or an empty line. A

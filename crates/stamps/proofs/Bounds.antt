@@ -10,14 +10,14 @@ use mathlib.Core.Logic.{_↔_, _⊎_, inl, inr, ⊎-elim}
 use mathlib.Core.List.{List, [], _∷_, _++_, append-assoc}
 use Prim.Native.Nat.{ℕ, suc, _+_, _≤_}
 use native.Mathlib.Omega.{arith}
-use lib.ListN.{length}
+use lib.ListN.{length, take, drop}
+use lib.Seq.{take-append-seam, drop-append-seam, drop-append-add}
 use Rattle.text.specs.Bytes.{same}
 use Rattle.text.specs.Quote.{bytes}
 use Rattle.text.specs.Places.{has, part}
 use Rattle.text.specs.Lines.{tab, newline, field, rest, endedLines, left}
 use Rattle.text.specs.declared.number.Integer.{Integer}
 use Rattle.text.specs.declared.number.Integer.the-variants.{Is, Nothing}
-use Rattle.text.specs.declared.number.Number.the-variants.{Value}
 use Rattle.text.proofs.Lists.{by-test, both}
 use Rattle.time.specs.Answers.{timeAt}
 use Rattle.time.specs.declared.Time.{Time}
@@ -30,7 +30,7 @@ use Rattle.relative.proofs.Bounds.{larger-bound-answers-alike, refused-by-bound
 use Rattle.stamps.specs.Stamps.{printed}
 use Rattle.stamps.specs.Lines.{sinceAt, sinceWith, sinceOf, lineOf, isGood}
 use Rattle.stamps.specs.Writing.{sinceLine, isRead, isSince, sinceWritten}
-use Rattle.stamps.specs.Book.{maxBook, judged, lastPiece, linesIn, firstBad, checkedAt, checkOf}
+use Rattle.stamps.specs.Book.{maxBook, judged, lastPiece, linesIn, checkOf}
 use Rattle.stamps.specs.Copies.{joined, copiedAt}
 use Rattle.stamps.specs.Listing.{cutOffBelow, listed, listing, listOf}
 use Rattle.stamps.specs.Theorems.{areGood}
@@ -40,20 +40,11 @@ use Rattle.stamps.specs.declared.line.Line.the-variants.{Since, Bad}
 use Rattle.stamps.specs.declared.book.Checked.{Checked}
 use Rattle.stamps.specs.declared.book.Checked.the-variants.{Good, Refused}
 use Rattle.stamps.proofs.Reading.{bad-of-not-good}
-use Rattle.stamps.proofs.Books.{firstBad-good}
-use Rattle.stamps.proofs.Listings.{good-book-iff, judged-append, checkOf-within}
+use Rattle.stamps.proofs.Listings.{good-book-iff, judged-append, refused-at-line-iff}
 use Rattle.stamps.proofs.ReadBack.{since-read-back}
 use Rattle.stamps.proofs.WriteBack.{since-written-back}
 
 -- ---- the book is refused by 10 at its first bad line
-firstBad-behind : (m : ℕ) (above below : List Line) → areGood above ≡ true → firstBad m (above ++ Bad ∷ below) ≡ Value (m + length above)
-unfolding firstBad areGood
-firstBad-behind m [] below g = let k : m ≡ m + 0 = omega arith in ap Value k
-firstBad-behind m (l ∷ above) below g =
-    let p = both (isGood l) (areGood above) g in
-    let k : suc m + length above ≡ m + suc (length above) = omega arith in
-    firstBad-good m l (above ++ Bad ∷ below) (p .0) ∙ firstBad-behind (suc m) above below (p .1) ∙ ap Value k
-
 length-judged : (bound : ℕ) (ls : List (List ℕ)) → length (judged bound ls) ≡ length ls
 unfolding judged
 length-judged bound [] = refl
@@ -63,13 +54,18 @@ refused-at-bad-line : (bound : ℕ) (book : List ℕ) (above : List (List ℕ)) 
     → length book ≤ maxBook → endedLines book ≡ above ++ l ∷ below → areGood (judged bound above) ≡ true → lineOf bound l ≡ Bad → checkOf bound book ≡ Refused Book (1 + length above)
 unfolding linesIn judged
 refused-at-bad-line bound book above l below h e g bad =
-    let lines : judged bound (endedLines book) ≡ judged bound above ++ Bad ∷ judged bound below =
-    ap (judged bound) e ∙ judged-append bound above (l ∷ below) ∙ ap (λ (x : Line). judged bound above ++ x ∷ judged bound below) bad in
-    checkOf-within bound book h
-    ∙ ap (λ (ls : List Line). checkedAt (firstBad 1 (ls ++ lastPiece (left book)))) lines
-    ∙ ap (λ (ls : List Line). checkedAt (firstBad 1 ls)) (append-assoc (judged bound above) (Bad ∷ judged bound below) (lastPiece (left book)))
-    ∙ ap checkedAt (firstBad-behind 1 (judged bound above) (judged bound below ++ lastPiece (left book)) g)
-    ∙ ap (λ (n : ℕ). Refused Book (1 + n)) (length-judged bound above)
+    let front = judged bound above in
+    let behind = judged bound below ++ lastPiece (left book) in
+    let lines : linesIn bound book ≡ front ++ Bad ∷ behind =
+    ap (λ (ls : List (List ℕ)). judged bound ls ++ lastPiece (left book)) e
+    ∙ ap (λ (ls : List Line). ls ++ lastPiece (left book)) (judged-append bound above (l ∷ below))
+    ∙ append-assoc front (lineOf bound l ∷ judged bound below) (lastPiece (left book))
+    ∙ ap (λ (x : Line). front ++ x ∷ behind) bad in
+    let next : suc (length front) ≡ length front + 1 = omega arith in
+    let rest : drop (suc (length front)) (front ++ Bad ∷ behind) ≡ behind = ap (λ (n : ℕ). drop n (front ++ Bad ∷ behind)) next ∙ drop-append-add front (Bad ∷ behind) 1 in
+    let good = ap (λ (ls : List Line). areGood (take (length front) ls)) lines ∙ ap areGood (take-append-seam front (Bad ∷ behind)) ∙ g in
+    let first = ap (drop (length front)) lines ∙ drop-append-seam front (Bad ∷ behind) ∙ ap (λ (ls : List Line). Bad ∷ ls) (sym (ap (drop (suc (length front))) lines ∙ rest)) in
+    refused-at-line-iff bound (length front) book .1 (h, good, first) ∙ ap (λ (n : ℕ). Refused Book (1 + n)) (length-judged bound above)
 
 -- ---- a text that is refused makes no `since` line
 isSince-not-5 : (bound : ℕ) (text : List ℕ) (current : Time) → isSince bound text current ≡ true → relativeOf bound text (CurrentAt current) ≡ NotRead Pairs → ⊥

@@ -109,7 +109,7 @@ checked-at (Value m) n e = let q : m ≡ n = cc in ap Value q
 checked-at NoNumber n e = let z : _≡_ {A = ℕ} 0 1 = cc in absurd (omega arith)
 
 -- a book that is not too long is refused at its first bad line
-pub checkOf-within : (bound : ℕ) (book : List ℕ) → length book ≤ maxBook → checkOf bound book ≡ checkedAt (firstBad 1 (linesIn bound book))
+checkOf-within : (bound : ℕ) (book : List ℕ) → length book ≤ maxBook → checkOf bound book ≡ checkedAt (firstBad 1 (linesIn bound book))
 unfolding checkOf
 checkOf-within bound book h = rw (le-leb (length book) maxBook h)
 

@@ -1,7 +1,7 @@
 -- RULES 12.10: two bounds on the number of pairs, for the second reader. A text of more than 4,096 bytes is refused by either bound; to any
 -- other the second reader answers as the first.
 -- Assumes nothing.
-use mathlib.Core.Path.{_≡_, refl, sym, ap, _∙_}
+use mathlib.Core.Path.{_≡_, refl, ap, _∙_}
 use mathlib.Core.Logic.{_↔_, inl}
 use mathlib.Core.Bool.{_&&_}
 use mathlib.Core.List.{List}

@@ -34,6 +34,9 @@ fn counted_as(number: u8) -> u8 {
     if number == 11 { 2 } else { number }
 }
 
+/// The most bytes of a text: with the fields in front of it a line has at most 4,096.
+const LONGEST: usize = 4000;
+
 /// The lines, each of them once.
 struct Sample {
     lines: Vec<(String, Answer)>,
@@ -43,7 +46,7 @@ struct Sample {
 impl Sample {
     /// The answer, if gix-date determines it and the text fits into a line.
     fn determined(form: Form, text: &[u8], now: &Now) -> Option<Answer> {
-        let fits = text.iter().all(|byte| (1..128).contains(byte) && *byte != b'\n') && text.len() <= 700;
+        let fits = text.iter().all(|byte| (1..128).contains(byte) && *byte != b'\n') && text.len() <= LONGEST;
         if !fits {
             return None;
         }
