@@ -105,7 +105,7 @@ hull-is-not-since path key time = by-test (isPath path && isKey key) (λ e. rw e
     hullAt-is-not-since (At t) = refl
     hullAt-is-not-since NoStamp = refl
 
-since-is-not-hull : (bound : ℕ) (text seconds offset : List ℕ) → isHullLine (sinceOf bound text seconds offset) ≡ false
+pub since-is-not-hull : (bound : ℕ) (text seconds offset : List ℕ) → isHullLine (sinceOf bound text seconds offset) ≡ false
 unfolding sinceOf
 since-is-not-hull bound text seconds offset = sinceWith-is-not-hull (printed seconds) (printed offset)
   where

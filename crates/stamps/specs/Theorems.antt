@@ -1,17 +1,23 @@
 -- What the theorems about books speak of (docs/PROMISES.md). No contract cites these.
 -- Assumes nothing.
 use Prim.Native.Nat.{ℕ}
+use mathlib.Core.Path.{_≡_}
 use mathlib.Core.Bool.{Bool, true, false, cond, _&&_, _||_}
-use mathlib.Core.List.{List, [], _∷_}
+use mathlib.Core.List.{List, [], _∷_, _++_}
+use lib.ListN.{length}
 use Rattle.text.specs.declared.number.Integer.{Integer}
 use Rattle.text.specs.declared.number.Integer.the-variants.{Nothing}
 use Rattle.text.specs.Places.{part}
+use Rattle.text.specs.Lines.{endedLines}
 use Rattle.time.specs.Answers.{timeMarked}
 use Rattle.time.specs.Header.{isMinusZero}
 use Rattle.time.specs.declared.Time.{Time}
+use Rattle.relative.specs.Bounds.{BeyondBound}
 use Rattle.stamps.specs.Lines.{lineOf, isGood}
+use Rattle.stamps.specs.Book.{judged}
 use Rattle.stamps.specs.Writing.{hullLine, sinceLine, isHull, isSince}
 use Rattle.stamps.specs.Listing.{cutOffIn, orAbove}
+use Rattle.stamps.specs.declared.line.Since.{Since as SinceValue}
 use Rattle.stamps.specs.declared.line.Line.{Line}
 use Rattle.stamps.specs.declared.line.Line.the-variants.{Hull, Since, Bad}
 
@@ -61,3 +67,15 @@ rewritten bound l Bad = []
 unfoldable pub rewrittenLines : ℕ → List (List ℕ) → List (List ℕ)
 rewrittenLines bound [] = []
 rewrittenLines bound (l ∷ ls) = rewritten bound l (lineOf bound l) ∷ rewrittenLines bound ls
+
+-- n lines of a book are good by the bound a, and the next one is a `since` line, good by the bound b, whose text is too long for a
+pub record LongLineBehind (a b n : ℕ) (book : List ℕ) : Type 0 where
+  pub above : List (List ℕ)
+  pub line : List ℕ
+  pub below : List (List ℕ)
+  pub since : SinceValue
+  pub lines-are : endedLines book ≡ above ++ line ∷ below
+  pub number-is : length above ≡ n
+  pub above-are-good : areGood (judged a above) ≡ true
+  pub line-is : lineOf b line ≡ Since since
+  pub too-long : BeyondBound a (part line (since .text))
