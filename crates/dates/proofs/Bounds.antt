@@ -1,5 +1,5 @@
 -- RULES 12.10: two bounds on the number of pairs, for "any". The larger one answers as the smaller one does, unless that is 5
--- (`any-larger-bound-answers-alike`). A bound answers 5 exactly to a text that comes to the relative reader and is too long for it
+-- (`any-larger-bound-answers-alike`). A bound answers 5 exactly to a text that comes to the relative reader and is beyond the bound
 -- (`any-refused-by-bound-iff`), and so to one that a larger bound reads there (`any-longer-text-is-5`).
 -- Assumes nothing.
 use mathlib.Core.Path.{_≡_, refl, ap}

@@ -3,17 +3,13 @@
 -- (`at-never-too-large`).
 -- Assumes nothing.
 use mathlib.Core.Path.{_≡_, sym, ap, _∙_}
-use mathlib.Core.Bool.{false, not, _&&_, _||_, false≢true}
-use mathlib.Core.List.{List, [], _∷_}
+use mathlib.Core.Bool.{false, false≢true}
+use mathlib.Core.List.{List, _∷_}
 use mathlib.Core.Logic.{_↔_}
 use Prim.Native.Char.{code}
 use Prim.Native.Nat.{ℕ}
 use native.Mathlib.Omega.{arith}
-use lib.Dec.{leb, ltb}
-use lib.ListN.{length}
 use Rattle.text.specs.Bytes.{ascii}
-use Rattle.text.specs.declared.number.Number.{Number}
-use Rattle.text.specs.declared.number.Number.the-variants.{Value, Nothing as NoNumber}
 use Rattle.text.proofs.Lists.{by-test}
 use Rattle.time.specs.Answers.{answerNumber}
 use Rattle.time.specs.declared.Now.{Now}
@@ -23,11 +19,8 @@ use Rattle.time.specs.declared.Answer.the-variants.{Refused}
 use Rattle.header.specs.Raw.{Limits}
 use Rattle.header.proofs.RawDates.{raw-too-large}
 use Rattle.iso.specs.Iso.{isoOf}
-use Rattle.relative.specs.Pairs.{pairsOf, agoIn, known}
-use Rattle.relative.specs.Relative.{namedOf, byName, byPairs, relativeOf}
-use Rattle.relative.specs.declared.pair.Unit.the-variants.{Seconds}
-use Rattle.relative.specs.declared.pair.Pair.{Pair}
-use Rattle.relative.proofs.Texts.{from-number}
+use Rattle.relative.specs.Relative.{relativeOf}
+use Rattle.relative.proofs.Texts.{from-number, relativeOf-keeps}
 use Rattle.dates.specs.Any.{isSettled, orElse, plainOf, anyOf}
 use Rattle.dates.specs.Theorems.{AnyTooLarge}
 use Rattle.dates.proofs.AtSign.{rawOf-of-at}
@@ -37,17 +30,10 @@ use Rattle.dates.proofs.Numbers.{iso-number}
 pub iso-never-too-large : (s : List ℕ) → isoOf s ≡ Refused TooLarge → ⊥
 iso-never-too-large s e = false≢true (rw e at (iso-number s))
 
-byName-not : (x : Number) (bound : ℕ) (s : List ℕ) (now : Now) → byName x bound s now ≡ Refused TooLarge → ⊥
-unfolding byPairs
-byName-not (Value k) bound s now e = let named : List Pair = record { count = k; unit = Seconds 1 } ∷ [] in false≢true (rw e at (from-number now named))
-byName-not NoNumber bound s now e =
-    let ps = pairsOf s in
-    by-test (not (ltb 0 (length ps) && (known ps || agoIn s))) (λ a. omega (arith, ap answerNumber (rw a at e)))
-    (λ a. by-test (not (leb (length ps) bound)) (λ b. omega (arith, ap answerNumber (rw (a, b) at e))) (λ b. false≢true (rw (rw (a, b) at e) at (from-number now ps))))
-
 pub relative-never-too-large : (bound : ℕ) (s : List ℕ) (now : Now) → relativeOf bound s now ≡ Refused TooLarge → ⊥
-unfolding relativeOf
-relative-never-too-large bound s now e = by-test (ascii s) (λ a. byName-not (namedOf s) bound s now (rw a at e)) (λ a. omega (arith, ap answerNumber (rw a at e)))
+relative-never-too-large bound s now =
+    relativeOf-keeps (λ (a : Answer). a ≡ Refused TooLarge → ⊥) bound s now (λ e. omega (arith, ap answerNumber e)) (λ e. omega (arith, ap answerNumber e)) (λ e. omega (arith, ap answerNumber e))
+    (λ ps e. false≢true (rw e at (from-number now ps)))
 
 -- ---- "any"
 -- 11 does not end the search, so it comes from the second of two steps

@@ -22,7 +22,7 @@ pub record AnyTooLarge (bound : ℕ) (l : Limits) (s : List ℕ) (now : Now) : T
   pub reached : isSettled (orElse (plainOf l s) (orElse (isoOf s) (relativeOf bound s now))) ≡ false
   pub last : RawTooLarge s
 
--- no step before that of relative dates ends the search, and the text is too long for the bound (RULES 2.1 and 8.2)
+-- no step before that of relative dates ends the search, and the text is beyond the bound on pairs (RULES 2.1 and 8.2)
 pub record AnyBeyondBound (bound : ℕ) (l : Limits) (s : List ℕ) : Type 0 where
   pub reached : isSettled (orElse (plainOf l s) (isoOf s)) ≡ false
   pub beyond : BeyondBound bound s

@@ -1,7 +1,7 @@
 -- RULES 12.10: two bounds on the number of pairs. The larger one answers as the smaller one does, unless that is 5
 -- (`larger-bound-answers-alike`), so a time by the smaller one is the answer by the larger one too (`read-by-larger-bound`). A bound
--- answers 5 exactly to the texts that are too long for it (`refused-by-bound-iff`): what a larger bound reads, a smaller one that it is
--- too long for refuses by 5 (`longer-text-is-5`).
+-- answers 5 exactly to the texts that are beyond it (`refused-by-bound-iff`). A text that a larger bound reads and that has more pairs than
+-- a smaller one is 5 by the smaller (`longer-text-is-5`): its first pairs are never used.
 -- Assumes nothing.
 use mathlib.Core.Path.{_≡_, refl, sym, ap, _∙_}
 use mathlib.Core.Logic.{_↔_, inl, inr, ⊎-elim}

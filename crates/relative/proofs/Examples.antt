@@ -33,7 +33,7 @@ use Rattle.relative.specs.Examples.{read, at, may, marked}
 use Rattle.relative.specs.Relative.{maxPairs, from, namedOf, byPairs, relativeOf}
 
 -- a text repeated n times, and an end
-abbrev times : ℕ → List ℕ → List ℕ → List ℕ
+abbrev pub times : ℕ → List ℕ → List ℕ → List ℕ
 times zero s e = e
 times (suc n) s e = s ++ times n s e
 

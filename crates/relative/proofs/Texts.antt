@@ -1,11 +1,14 @@
--- Two texts in a row: their pairs and steps; an answer in range. In order: pairs; steps; what steps keep; the numbers that pairs give.
+-- Two texts in a row: their pairs and steps; an answer in range. In order: pairs; steps; what steps keep; the numbers that pairs give; what
+-- the answer of a text keeps.
 -- Assumes nothing.
 use mathlib.Core.Path.{_≡_, refl}
 use mathlib.Core.Bool.{true, false, _&&_, _||_}
 use mathlib.Core.List.{List, [], _∷_, _++_}
 use Prim.Native.Nat.{ℕ}
-use lib.Dec.{eqb}
+use lib.Dec.{eqb, leb, ltb}
 use lib.IntN.{ℤ}
+use lib.ListN.{length}
+use Rattle.text.specs.Bytes.{ascii}
 use Rattle.text.specs.declared.number.Number.{Number}
 use Rattle.text.specs.declared.number.Number.the-variants.{Value, Nothing}
 use Rattle.text.proofs.Lists.{by-test, both}
@@ -15,11 +18,12 @@ use Rattle.time.specs.declared.Time.{Time as TimeValue}
 use Rattle.time.specs.declared.Now.{Now}
 use Rattle.time.specs.declared.Now.the-variants.{Missing, At}
 use Rattle.time.specs.declared.Refusal.{Refusal}
+use Rattle.time.specs.declared.Refusal.the-variants.{NotAscii, Form, Pairs}
 use Rattle.time.specs.declared.Answer.{Answer}
 use Rattle.time.specs.declared.Answer.the-variants.{Time, Refused}
-use Rattle.relative.specs.Pairs.{next, pairsFrom, known, isKnown}
+use Rattle.relative.specs.Pairs.{next, pairsFrom, known, isKnown, pairsOf, agoIn}
 use Rattle.relative.specs.Steps.{landing, landed, monthsEarlier, step, steps}
-use Rattle.relative.specs.Relative.{from}
+use Rattle.relative.specs.Relative.{from, namedOf, byPairs, byName, relativeOf}
 use Rattle.relative.specs.declared.pair.Unit.{Unit as PairUnit}
 use Rattle.relative.specs.declared.pair.Unit.the-variants.{Seconds, Months, Unknown}
 use Rattle.relative.specs.Joined.{waitsFrom}
@@ -114,3 +118,14 @@ pub from-number : (current : Now) (ps : List Pair) → IsNumbered (from current 
 unfolding from
 from-number Missing ps = refl
 from-number (At x) ps = by-test (timeInRange x) (λ e. rw e (steps-keep IsNumbered step-number ps (Time (unmarked x)) refl)) (λ e. rw e refl)
+
+-- ---- a text answers 1, 2 or 5, or what its pairs give
+pub relativeOf-keeps : (P : Answer → Type 0) (bound : ℕ) (s : List ℕ) (current : Now) → P (Refused NotAscii) → P (Refused Form) → P (Refused Pairs) → ((ps : List Pair) → P (from current ps)) → P (relativeOf bound s current)
+unfolding relativeOf byPairs
+relativeOf-keeps P bound s current one two five h = by-test (ascii s) (λ a. rw a (by-name (namedOf s))) (λ a. rw a one)
+  where
+    by-name : (x : Number) → P (byName x bound s current)
+    by-name (Value k) = h (record { count = k; unit = Seconds 1 } ∷ [])
+    by-name Nothing =
+        let ps = pairsOf s in
+        by-test (ltb 0 (length ps) && (known ps || agoIn s)) (λ e. by-test (leb (length ps) bound) (λ l. rw (e, l) (h ps)) (λ l. rw (e, l) five)) (λ e. rw e two)

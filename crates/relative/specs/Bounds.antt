@@ -1,4 +1,4 @@
--- RULES 12.10: the answers by two bounds on the number of pairs, and the texts that are too long for a bound. No contract cites these.
+-- RULES 12.10: the answers by two bounds on the number of pairs, and the texts that are beyond a bound. No contract cites these.
 -- Assumes nothing.
 use Prim.Native.Nat.{ℕ, _<_}
 use mathlib.Core.Path.{_≡_}

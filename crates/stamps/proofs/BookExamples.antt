@@ -1,6 +1,6 @@
 -- Examples of books (RULES 13), worked out by hand and computed, as one table: each is under the words that it shows.
 -- Assumes nothing.
-use Prim.Native.Nat.{ℕ, zero, suc}
+use Prim.Native.Nat.{ℕ}
 use Prim.Native.String.{String}
 use mathlib.Core.Path.{_≡_, refl}
 use mathlib.Core.List.{List, [], _∷_, _++_}
@@ -21,6 +21,7 @@ use Rattle.relative.specs.Words.{wordsOf, spelled, countOf, singular, unitNamed
 use Rattle.relative.specs.Pairs.{pairsFrom, agoFrom, known}
 use Rattle.relative.specs.Steps.{landing, landed, step, steps}
 use Rattle.relative.specs.Relative.{maxPairs, from, namedOf, byPairs, relativeOf}
+use Rattle.relative.proofs.Examples.{times}
 use Rattle.stamps.specs.Stamps.{printed, isWholeMinutes, stampOf}
 use Rattle.stamps.specs.Lines.{every, isPathByte, isPath, isHexDigit, isKey, hullOf, sinceOf, lineOf}
 use Rattle.stamps.specs.Book.{judged, linesIn, firstBad, checkOf}
@@ -86,12 +87,8 @@ book-examples = (refl, (refl, (refl, (refl, (refl, (refl, (refl, (refl, (refl, (
 
 -- ---- a `since` line of 33 pairs, whose cut-off is 7; by its first 32 pairs it would be 8. By a bound of 32 a book with it is refused at that
 -- line, and now it is good
-abbrev times : ℕ → List ℕ → List ℕ
-times zero s = []
-times (suc n) s = s ++ times n s
-
 abbrev long : List (List ℕ)
-long = hull "a" "1 +0000" ∷ since (times 33 (bytes "1 second ")) "40" "0" ∷ hull "b" "6 +0000" ∷ hull "c" "7 +0000" ∷ []
+long = hull "a" "1 +0000" ∷ since (times 33 (bytes "1 second ") []) "40" "0" ∷ hull "b" "6 +0000" ∷ hull "c" "7 +0000" ∷ []
 
 long-since-line : (checkOf 32 (joined long) ≡ Refused Book 2) × (checkOf maxPairs (joined long) ≡ Good) × (listing maxPairs (joined long) ≡ joined (hull "a" "1 +0000" ∷ hull "c" "7 +0000" ∷ []))
 unfolding checkOf firstBad linesIn judged lineOf sinceOf hullOf isKey isHexDigit isPath isPathByte every stampOf isWholeMinutes printed joined relativeOf byPairs namedOf from steps step landed landing pairsFrom agoFrom known unitOf unitNamed singular countOf spelled wordsOf headerOf headerOfWords headerOffset secondsOf offsetOf fieldsOf lastField fieldOf fiveOrSeven timeInRange offsetInRange secondsInRange wholeMinutes signByte headerSign headerBytes left takenBy endedLines fitSigned fit signedOf unsignedOf digitsOf readFrom has firstPlace run signedBefore signed decimal digitsUpTo full pieces words trimStart trimEnd trim sameLetters same ascii lowerOf isSign isAlphanumeric isDigit isSpace listing listed

@@ -1,7 +1,7 @@
 -- RULES 13.19: a book by two bounds on the pairs of a relative date, the second at least the first. A line that is good by the first is the
 -- same line by the second (`good-line-stays`); so a book that is good stays good (`good-book-stays`) and lists the same hulls
 -- (`listing-stays`, `list-stays`), and a `since` line that is written is written alike (`since-writing-stays`). Of the lines that are good by
--- the second, exactly the `since` lines whose text is too long for the first are bad by the first (`bad-by-smaller-bound-iff`); a book that is
+-- the second, exactly the `since` lines whose text is beyond the first are bad by the first (`bad-by-smaller-bound-iff`); a book that is
 -- good by the second is refused by the first exactly at the first of them, by 10 (`refused-by-smaller-bound-iff`).
 -- Assumes nothing.
 use mathlib.Core.Path.{_≡_, refl, sym, ap, _∙_}
@@ -146,7 +146,7 @@ module _ (a b : ℕ) (within : a ≤ b) where
   unfolding sinceWritten
   since-writing-stays text current room g = rw (g, isSince-stays text current g)
 
-  -- ---- a `since` line whose text is too long for the smaller bound
+  -- ---- a `since` line whose text is beyond the smaller bound
   module _ (l : List ℕ) (x : SinceValue) (line : lineOf b l ≡ Since x) where
     beyond-of-bad : lineOf a l ≡ Bad → BeyondBound a (part l (x .text))
     beyond-of-bad bad =
@@ -179,7 +179,7 @@ module _ (a b : ℕ) (within : a ≤ b) where
   module _ (book : List ℕ) (good : checkOf b book ≡ Good) where
     long-line-refused : (n : ℕ) → LongLineBehind a b n book → checkOf a book ≡ Refused Book (1 + n)
     long-line-refused n long =
-        refused-at-bad-line a book (long .above) (long .line) (long .below) (good-book-iff b book .0 good .0) (long .lines-are) (long .above-are-good) (bad-of-beyond (long .line) (long .since) (long .line-is) (long .too-long))
+        refused-at-bad-line a book (long .above) (long .line) (long .below) (good-book-iff b book .0 good .0) (long .lines-are) (long .above-are-good) (bad-of-beyond (long .line) (long .since) (long .line-is) (long .beyond))
         ∙ ap (λ (k : ℕ). Refused Book (1 + k)) (long .number-is)
 
     -- its lines are good by the smaller bound too, or one is the first that is not
@@ -196,7 +196,7 @@ module _ (a b : ℕ) (within : a ≤ b) where
         first-long (above ++ l ∷ []) ls (e ∙ sym (append-assoc above (l ∷ []) ls)) with-line (p .1))
         (λ y.
         let long = bad-by-smaller-bound-iff l (p .0) .0 (bad-of-not-good (lineOf a l) y) in
-        inr (length above, record { above = above; line = l; below = ls; since = long .0; lines-are = e; number-is = refl; above-are-good = g; line-is = long .1; too-long = long .2 }))
+        inr (length above, record { above = above; line = l; below = ls; since = long .0; lines-are = e; number-is = refl; above-are-good = g; line-is = long .1; beyond = long .2 }))
 
     pub refused-by-smaller-bound-iff : (n : ℕ) → (checkOf a book ≡ Refused Book (1 + n)) ↔ LongLineBehind a b n book
     unfolding judged areGood

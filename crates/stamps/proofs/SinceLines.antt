@@ -2,22 +2,19 @@
 -- their widths if the line is good; a line from its text on, from its current seconds on.
 -- Assumes nothing.
 use mathlib.Core.Path.{_≡_, refl, sym, ap, _∙_}
-use mathlib.Core.Bool.{true, false, not, _&&_, _||_, false≢true}
+use mathlib.Core.Bool.{true, false, _&&_, false≢true}
 use mathlib.Core.List.{List, []}
 use Prim.Native.Nat.{ℕ, _+_, _-_, _^_, _≤_, _<_}
 use native.Mathlib.Omega.{arith}
 use borrow.Author.Tests.{ltb-true, ltb-false}
-use lib.Dec.{leb, ltb}
+use lib.Dec.{ltb}
 use lib.IntN.{ℤ, pos, negℤ}
 use lib.ListN.{length, take, drop}
 use lib.Signed.{leZ, ltZ, _≤ℤ_, _<ℤ_}
 use Rattle.ints.specs.Range.{In, isIn}
 use Rattle.ints.proofs.Parts.{up, dn, le-parts, parts-le, parts-lt, up-neg, dn-neg}
 use Rattle.ints.proofs.Machine.{leZ-true, ltZ-true, In-of-isIn}
-use Rattle.text.specs.Bytes.{ascii}
 use Rattle.text.specs.Number.{signedOf, fitSigned, numeral}
-use Rattle.text.specs.declared.number.Number.{Number}
-use Rattle.text.specs.declared.number.Number.the-variants.{Value, Nothing as NoNumber}
 use Rattle.text.specs.declared.number.Integer.{Integer}
 use Rattle.text.specs.declared.number.Integer.the-variants.{Is, Nothing as NoInteger}
 use Rattle.text.specs.Places.{past, firstPlace, opensWith}
@@ -30,9 +27,9 @@ use Rattle.time.specs.declared.Time.{Time}
 use Rattle.time.specs.declared.Now.the-variants.{At as CurrentAt}
 use Rattle.time.specs.declared.Answer.{Answer}
 use Rattle.time.specs.declared.Answer.the-variants.{Time as Read, Refused as NotRead}
-use Rattle.relative.specs.Pairs.{pairsOf, agoIn, known}
-use Rattle.relative.specs.Relative.{from, namedOf, byName, byPairs, relativeOf}
+use Rattle.relative.specs.Relative.{from, relativeOf}
 use Rattle.relative.specs.declared.pair.Pair.{Pair}
+use Rattle.relative.proofs.Texts.{relativeOf-keeps}
 use Rattle.stamps.specs.Stamps.{printed}
 use Rattle.stamps.specs.Writing.{isRead}
 use Rattle.stamps.specs.Lines.{sinceAt, sinceWith, sinceOf}
@@ -49,15 +46,7 @@ unfolding from
 not-read-from c ps e = rw e
 
 pub not-read-of-not-timeInRange : (bound : ℕ) (s : List ℕ) (c : Time) → timeInRange c ≡ false → isRead (relativeOf bound s (CurrentAt c)) ≡ false
-unfolding relativeOf byPairs
-not-read-of-not-timeInRange bound s c e = by-test (ascii s) (λ a. rw a (byName-not-read (namedOf s))) (λ a. rw a)
-  where
-    byName-not-read : (x : Number) → isRead (byName x bound s (CurrentAt c)) ≡ false
-    byName-not-read (Value k) = not-read-from c _ e
-    byName-not-read NoNumber =
-        let ps = pairsOf s in
-        by-test (not (ltb 0 (length ps) && (known ps || agoIn s))) (λ a. rw a)
-        (λ a. rw a (by-test (not (leb (length ps) bound)) (λ b. rw b) (λ b. rw b (not-read-from c ps e))))
+not-read-of-not-timeInRange bound s c e = relativeOf-keeps (λ (a : Answer). isRead a ≡ false) bound s (CurrentAt c) refl refl refl (λ ps. not-read-from c ps e)
 
 sinceAt-of-not-read : (text : List ℕ) (c : Time) (a : Answer) → isRead a ≡ false → sinceAt text c a ≡ Bad
 sinceAt-of-not-read text c (Read t) e = absurd (false≢true (sym e))

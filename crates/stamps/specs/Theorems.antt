@@ -68,7 +68,7 @@ unfoldable pub rewrittenLines : ℕ → List (List ℕ) → List (List ℕ)
 rewrittenLines bound [] = []
 rewrittenLines bound (l ∷ ls) = rewritten bound l (lineOf bound l) ∷ rewrittenLines bound ls
 
--- n lines of a book are good by the bound a, and the next one is a `since` line, good by the bound b, whose text is too long for a
+-- n lines of a book are good by the bound a on pairs, and the next one is a `since` line, good by the bound b, whose text is beyond a
 pub record LongLineBehind (a b n : ℕ) (book : List ℕ) : Type 0 where
   pub above : List (List ℕ)
   pub line : List ℕ
@@ -78,4 +78,4 @@ pub record LongLineBehind (a b n : ℕ) (book : List ℕ) : Type 0 where
   pub number-is : length above ≡ n
   pub above-are-good : areGood (judged a above) ≡ true
   pub line-is : lineOf b line ≡ Since since
-  pub too-long : BeyondBound a (part line (since .text))
+  pub beyond : BeyondBound a (part line (since .text))

@@ -27,7 +27,7 @@ pub turns-larger-bound-answers-alike : (a b : ℕ) (s : List ℕ) (current : Now
 unfolding turnsOf
 turns-larger-bound-answers-alike a b s current h = by-test (ascii s && ltb maxLength (length s)) (λ e. rw e (inl refl)) (λ e. rw e (larger-bound-answers-alike a b s current h))
 
--- 5 exactly to a text that is too long for the bound, but within 4,096 bytes
+-- 5 exactly to a text of at most 4,096 bytes that is beyond the bound
 pub turns-refused-by-bound-iff : (bound : ℕ) (s : List ℕ) (current : Now) → (turnsOf bound s current ≡ Refused Pairs) ↔ ((length s ≤ maxLength) × BeyondBound bound s)
 unfolding turnsOf
 turns-refused-by-bound-iff bound s current = (

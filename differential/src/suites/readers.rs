@@ -2,7 +2,7 @@
 
 use super::{Size, every, seeded};
 use crate::ledger::Ledger;
-use crate::oracle::{MAX_OFFSET, MAX_SECONDS, MIN_SECONDS, Now};
+use crate::oracle::{MAX_OFFSET, MAX_PAIRS, MAX_SECONDS, MIN_SECONDS, Now};
 use crate::texts::{self, NOON, TELLING, every_edge};
 
 /// Current times of every kind.
@@ -34,7 +34,7 @@ pub(super) fn telling(ledger: &mut Ledger, _: Size) {
             ledger.ask_all(text.as_bytes(), &now);
         }
     }
-    for count in 30..=35 {
+    for count in (30..=35).chain(MAX_PAIRS - 2..=MAX_PAIRS + 3) {
         for (pair, tail) in [("1 day ", ""), ("1 x ", ""), ("1 x ", "ago"), ("1 day ", "7"), ("1 month ", "ago")] {
             for now in some_nows() {
                 let text = pair.repeat(count) + tail;
