@@ -265,56 +265,6 @@ class NoNewlineListed(Rules):
         return b"\n".join(hulls)
 
 
-class Key15(Rules):
-    """a key may have 15 digits"""
-    KEY = re.compile(rb"[0-9a-f]{15,16}")
-
-
-class Key17(Rules):
-    """a key may have 17 digits"""
-    KEY = re.compile(rb"[0-9a-f]{16,17}")
-
-
-class KeyCapitals(Rules):
-    """a key may have capitals"""
-    KEY = re.compile(rb"[0-9a-fA-F]{16}")
-
-
-class EmptyPath(Rules):
-    """a path may be empty"""
-    SHORTEST_PATH = 0
-
-
-class Path256(Rules):
-    """a path may have 256 bytes"""
-    LONGEST_PATH = 256
-
-
-class Path254(Rules):
-    """a path of 255 bytes is too long"""
-    LONGEST_PATH = 254
-
-
-class Byte127(Rules):
-    """a path may hold byte 127"""
-    LARGEST_IN_PATH = 127
-
-
-class Byte126(Rules):
-    """a path may not hold byte 126"""
-    LARGEST_IN_PATH = 125
-
-
-class Byte31(Rules):
-    """a path may hold byte 31"""
-    SMALLEST_IN_PATH = 31
-
-
-class NoSpaces(Rules):
-    """a path may not hold a space"""
-    SMALLEST_IN_PATH = 33
-
-
 class MarkRefused(Rules):
     """a time may not end in `-0000`"""
     def header(self, seconds, offset, mark):
@@ -420,11 +370,6 @@ class StampInRange(Rules):
         return super().is_time(seconds, offset) and self.in_range(seconds)
 
 
-class NarrowOffset(Rules):
-    """a time's offset must be under 24 hours"""
-    WIDEST_OFFSET = 86400
-
-
 class Seconds65(Rules):
     """a time may have 2^63 seconds"""
     def is_time(self, seconds, offset):
@@ -469,35 +414,10 @@ class SecondsBeyond(Rules):
         return super().is_current(seconds, offset) or (seconds == self.MAX_SECONDS + 1 and offset == 0)
 
 
-class OffsetBeyond(Rules):
-    """a current offset may be 93600"""
-    MAX_CURRENT_OFFSET = 93600
-
-
-class FirstSecondOut(Rules):
-    """the first second is out of range"""
-    MIN_SECONDS = Rules.MIN_SECONDS + 1
-
-
 class WholeMinuteCurrent(Rules):
     """a current offset must be of whole minutes"""
     def is_current(self, seconds, offset):
         return super().is_current(seconds, offset) and offset % 60 == 0
-
-
-class Pairs257(Rules):
-    """257 pairs are read"""
-    MOST_PAIRS = 257
-
-
-class Pairs255(Rules):
-    """256 pairs are too many"""
-    MOST_PAIRS = 255
-
-
-class Pairs32(Rules):
-    """33 pairs are too many"""
-    MOST_PAIRS = 32
 
 
 class FirstPairs(Rules):
@@ -561,11 +481,6 @@ class EmptyLines(Rules):
         return ("empty", 0) if line == b"" else super().judge_alone(line)
 
 
-class LinesFromZero(Rules):
-    """lines are counted from 0"""
-    FIRST_LINE = 0
-
-
 class LastBadLine(Rules):
     """the last bad line is found"""
     def answer(self, book):
@@ -577,11 +492,6 @@ class LastBadLine(Rules):
         return number, line, listing, need
 
 
-class LongAtLineOne(Rules):
-    """a book that is too long is refused at line 1"""
-    LINE_OF_LONG_BOOK = 1
-
-
 class LongTestedLast(Rules):
     """bad lines are looked for before the length"""
     LONGEST_BOOK = 1 << 30
@@ -589,16 +499,6 @@ class LongTestedLast(Rules):
     def answer(self, book):
         answer = super().answer(book)
         return (10, 0, b"", 0) if answer[0] == 0 and len(book) > 65536 else answer
-
-
-class Book65535(Rules):
-    """65,536 bytes are too long"""
-    LONGEST_BOOK = 65535
-
-
-class Book65537(Rules):
-    """65,537 bytes are not too long"""
-    LONGEST_BOOK = 65537
 
 
 class RoomOfBook(Rules):
@@ -1004,11 +904,43 @@ OF_MEMORY = [
 OF_CHECK = OF_MEMORY[:4]
 
 
+# rules with another value in the place of one of theirs
+OTHER_VALUES = [
+    ("a key may have 15 digits", "KEY", re.compile(rb"[0-9a-f]{15,16}")),
+    ("a key may have 17 digits", "KEY", re.compile(rb"[0-9a-f]{16,17}")),
+    ("a key may have capitals", "KEY", re.compile(rb"[0-9a-fA-F]{16}")),
+    ("a path may be empty", "SHORTEST_PATH", 0),
+    ("a path may have 256 bytes", "LONGEST_PATH", 256),
+    ("a path of 255 bytes is too long", "LONGEST_PATH", 254),
+    ("a path may hold byte 127", "LARGEST_IN_PATH", 127),
+    ("a path may not hold byte 126", "LARGEST_IN_PATH", 125),
+    ("a path may hold byte 31", "SMALLEST_IN_PATH", 31),
+    ("a path may not hold a space", "SMALLEST_IN_PATH", 33),
+    ("a time's offset must be under 24 hours", "WIDEST_OFFSET", 86400),
+    ("a current offset may be 93600", "MAX_CURRENT_OFFSET", 93600),
+    ("the first second is out of range", "MIN_SECONDS", Rules.MIN_SECONDS + 1),
+    ("257 pairs are read", "MOST_PAIRS", 257),
+    ("256 pairs are too many", "MOST_PAIRS", 255),
+    ("33 pairs are too many", "MOST_PAIRS", 32),
+    ("lines are counted from 0", "FIRST_LINE", 0),
+    ("a book that is too long is refused at line 1", "LINE_OF_LONG_BOOK", 1),
+    ("65,536 bytes are too long", "LONGEST_BOOK", 65535),
+    ("65,537 bytes are not too long", "LONGEST_BOOK", 65537),
+]
+
+
+def with_value(name, value):
+    rules = Rules()
+    setattr(rules, name, value)
+    return rules
+
+
 def planted(chosen, options):
     """Every mistake must be found. Prints how many books that took, and the smallest."""
     missed = 0
     right = Library(options.program)
     mistakes = [(mistake.__doc__, mistake(), "none", 0) for mistake in Rules.__subclasses__()]
+    mistakes += [(sentence, with_value(name, value), "none", 0) for sentence, name, value in OTHER_VALUES]
     for entry, names in ("check", OF_CHECK), ("list", OF_MEMORY), ("compact", OF_MEMORY):
         mistakes += [(f"{entry}: {name}", Rules(), entry, number) for number, name in enumerate(names, 1)]
     for name, rules, entry, number in mistakes:

@@ -4,7 +4,7 @@
 use mathlib.Core.Path.{_≡_, refl, sym, _∙_}
 use mathlib.Core.Bool.{Bool, true, false, _&&_, _||_, and-assoc, and-true, or-false, or-assoc}
 use mathlib.Core.List.{List, [], _∷_}
-use Prim.Native.Nat.{ℕ, _+_, _≤_}
+use Prim.Native.Nat.{ℕ, _+_, _≤_, _<_}
 use native.Mathlib.Nat.{zero-add, add-zero}
 use native.Mathlib.Omega.{arith}
 use borrow.Author.Tests.{lt-ltb, lt-leb}
@@ -78,10 +78,10 @@ module _ (bound : ℕ) where
           rw (n, and-assoc, subtracted-cons p ps (r .answer))
 
       -- or it is one too many, and the answer is 5, or 2 if its units are not allowed
-      pub readOn-beyond : (a : Answer) → bound ≤ r .pairs → AnswersBy bound (record { pairs = bound + 1; known = r .known && isKnown (p .unit); ago = r .ago; answer = a }) (λ ps ago. readOn bound r (p ∷ ps) ago)
+      pub readOn-beyond : (a : Answer) (k : ℕ) → bound ≤ r .pairs → bound < k → AnswersBy bound (record { pairs = k; known = r .known && isKnown (p .unit); ago = r .ago; answer = a }) (λ ps ago. readOn bound r (p ∷ ps) ago)
       unfolding readOn known
-      readOn-beyond a h ps ago =
-          let n : ℕ = bound + 1 + length ps in
+      readOn-beyond a k h j ps ago =
+          let n : ℕ = k + length ps in
           let m : ℕ = r .pairs + length (p ∷ ps) in
           rw (lt-ltb 0 n (omega arith), lt-ltb 0 m (omega arith), lt-leb n bound (omega arith), lt-leb m bound (omega arith), and-assoc)
 

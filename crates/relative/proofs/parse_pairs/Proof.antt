@@ -36,7 +36,7 @@ returns c = sym (byPairs-of-nothing _ _ _ _ (how-many (c .before .before)) (c .e
 
 -- 5
 returns-2 : tie.Need-returns-2
-returns-2 c = let at-pairs = c .before .before in sym (byPairs-of-lt _ _ _ _ (how-many (at-pairs .before .before)) (at-pairs .counted .given .1) (c .if1 .taken))
+returns-2 c = let at-pairs = c .before .before in sym (byPairs-of-lt maxPairs _ _ _ (how-many (at-pairs .before .before)) (at-pairs .counted .given .1) (omega (arith, c .if1 .taken)))
 
 -- pairs that may go on
 module _ (c : tie.Else1) where
@@ -44,7 +44,7 @@ module _ (c : tie.Else1) where
   at-verdict = c .before .before .before .before
 
   few : let current = at-start at-verdict .before .before .before .args .current in byPairs maxPairs (text at-verdict) current ≡ from current (pairsOf (text at-verdict))
-  few = byPairs-of-le _ _ _ _ (how-many at-verdict) (c .before .before .counted .given .1) (c .if1 .left)
+  few = byPairs-of-le maxPairs _ _ _ (how-many at-verdict) (c .before .before .counted .given .1) (omega (arith, c .if1 .left))
 
   within-bound : at-scan at-verdict .scan .result .n ≤ maxPairs
   within-bound =

@@ -174,7 +174,7 @@ loop-again-4 c =
     let inv = at-loop (at-first at) .loop .inv in (
       omega (arith, inv .0, moved (at-first at), moved2 at),
       inv .1,
-      beyond (second at) (not-ago (at-other (at-count at))) (counts (at-count at)) (unit-is at-unit) (at-unit .is-known .ensures) (c .if2 .left),
+      beyond (second at) (not-ago (at-other (at-count at))) (counts (at-count at)) (unit-is at-unit) (at-unit .is-known .ensures) (omega (arith, c .if2 .left)),
     )
 
 pub scan-spec : {M : Type 1} → statement M

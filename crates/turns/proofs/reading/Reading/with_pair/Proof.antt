@@ -1,5 +1,7 @@
 -- `turns::reading::Reading::with_pair` meets its contract.
 -- Assumes nothing.
+use native.Mathlib.Omega.{arith}
+use Rattle.relative.specs.Relative.{maxPairs}
 use borrow.Author.Needs.{needs}
 use Rattle.turns.proofs.Readings.{readOn-pair, readOn-beyond}
 use Rattle.turns.proofs.reading.Reading.with_pair.Statement.{statement}
@@ -13,7 +15,7 @@ returns c =
 returns-2 : tie.Need-returns-2
 returns-2 c =
     let a = c .before .before .before .before .args in
-    rw (c .before .before .before .is-known .ensures) (readOn-beyond _ (a .self) (a .pair) _ (c .if1 .left))
+    rw (c .before .before .before .is-known .ensures) (readOn-beyond maxPairs (a .self) (a .pair) _ _ (omega (arith, c .if1 .left)) (omega arith))
 
 pub with-pair-spec : {M : Type 1} → statement M
 with-pair-spec =
