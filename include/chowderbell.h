@@ -1,4 +1,4 @@
-/* Chowderbell: reads and writes the dates that Git writes and people type, and lists and compacts books of stamps.
+/* Chowderbell: reads and writes the dates that Git writes and people type, lists and compacts books of stamps, and shows months.
  *
  * A time is signed 64-bit seconds since 1970, a signed 32-bit offset from UTC in seconds, and a mark. The library uses no heap,
  * keeps no state and no pointer, and never looks at the clock, the time zone or the locale of the machine: the current time is an
@@ -21,7 +21,8 @@
  *   4  CHOWDERBELL_CURRENT        the text is relative and the current time's seconds or offset is out of range
  *   5  CHOWDERBELL_PAIRS          the text is relative with more than 256 pairs of a count and a unit
  *   6  CHOWDERBELL_RANGE          a relative step leaves the range; or the ISO writer is given seconds out of range or a local
- *                                 year, at the cut offset, outside 0 to 9999
+ *                                 year, at the cut offset, outside 0 to 9999; or the year of a strip is outside -9999 to 9999 or
+ *                                 its month outside 1 to 12
  *   7  CHOWDERBELL_OFFSET         a writer is given an offset that is too wide
  *   8  CHOWDERBELL_ROOM           the room is shorter than the bytes to be written
  *  10  CHOWDERBELL_BOOK           the book has more than 65536 bytes or a bad line
@@ -30,7 +31,7 @@
  *
  * No function returns 9: by that number the program whenread refuses a line of the wrong layout.
  *
- * Readers test 1, 2, 5, 3, 4, 6 in that order; writers 7, 6, 8; the functions for a book 10, 8. A header and a raw date are tested
+ * Readers test 1, 2, 5, 3, 4, 6 in that order; writers 7, 6, 8; the functions for a book 10, 8; a strip 6, 8. A header and a raw date are tested
  * for 11 after 1, after the number of the rule and after the ":" of a header, and before all else that is 2, such as the missing or
  * bad offset of a raw date.
  *
@@ -80,6 +81,9 @@ extern "C" {
 #define CHOWDERBELL_BOOK_MAX 65536
 #define CHOWDERBELL_PATH_MAX 255
 #define CHOWDERBELL_KEY_LENGTH 16
+
+/* The bytes of every strip. */
+#define CHOWDERBELL_STRIP_LENGTH 50
 
 /* Readers. When they return 0, *seconds and *offset are the time, with *mark where there is one; otherwise these are set to 0.
    They read text[0] to text[len - 1] and no other byte. */
@@ -236,6 +240,28 @@ uint8_t chowderbell_book_list(const uint8_t *book, size_t len, uint8_t *room, si
    before the cut-off, an older line of it may have been listed, and that line is gone.
    It uses some 28 KB of stack more than a check, for the paths that it has met and the places of the lines that stay. */
 uint8_t chowderbell_book_compact(const uint8_t *book, size_t len, uint8_t *room, size_t room_len, size_t *length, size_t *line);
+
+/* A month's strip: what a calendar shows of one month, with a row for each week. Rows begin on Monday. The calendar is the proleptic
+   Gregorian calendar of ISO 8601: year 0 is there, and is a leap year.
+
+     room[0]         the length of the month, 28 to 31
+     room[1]         the weekday of its first day, 1 for Monday to 7 for Sunday
+     room[2 + r]     the ISO week of row r, 1 to 53; r is 0 to 5
+     room[8 + 7 * r + c]
+                     the number of the day in row r and column c, 1 to room[0], or 0 if it is a day of another month; c is 0 for
+                     Monday to 6 for Sunday
+
+   The first row holds the 1st. Each day of the month is there once, in order and under its weekday. The week of a row is that of its
+   Thursday, also where that is a day of a neighbouring year: in January 2021 the weeks are 53, 1, 2, 3, 4, 0. A row with no day of
+   the month has week 0; only the last two rows can be such rows.
+
+   `len` is the length of the room.
+     0   room[0] to room[49] are the strip, the bytes beyond them are as they were, and *length is set to 50.
+     6   The year is not -9999 to 9999, or the month is not 1 to 12. *length is set to 0, and every byte of the room is as it was.
+     8   The room has fewer than 50 bytes. *length and the room are as for 6.
+
+   A call builds the table of 4,800 months that the library reads first days from, which takes 19 KB of stack. */
+uint8_t chowderbell_strip(int64_t year, int64_t month, uint8_t *room, size_t len, size_t *length);
 
 #ifdef __cplusplus
 }

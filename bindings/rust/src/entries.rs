@@ -112,6 +112,7 @@ mod c {
             length: *mut usize,
             line: *mut usize,
         ) -> u8;
+        pub fn chowderbell_strip(year: i64, month: i64, room: *mut u8, len: usize, length: *mut usize) -> u8;
     }
 }
 
@@ -316,4 +317,15 @@ pub fn book_list(book: &[u8], room: &mut [u8], length: &mut usize, line: &mut us
 #[must_use]
 pub fn book_compact(book: &[u8], room: &mut [u8], length: &mut usize, line: &mut usize) -> u8 {
     unsafe { c::chowderbell_book_compact(book.as_ptr(), book.len(), room.as_mut_ptr(), room.len(), length, line) }
+}
+
+/// Writes the strip of a month, [`strip::LENGTH`](crate::strip::LENGTH) bytes, at the start of `room`. Returns 0, 6 or 8.
+///
+/// The bytes are the month's length; the weekday of its first day, Monday 1 to Sunday 7; six ISO weeks, one for each row; and
+/// six rows of seven days, Monday first. Where a row has no day of the month there is 0, and a row without days has week 0.
+/// 6 is tested before 8.
+#[inline]
+#[must_use]
+pub fn strip(year: i64, month: i64, room: &mut [u8], length: &mut usize) -> u8 {
+    unsafe { c::chowderbell_strip(year, month, room.as_mut_ptr(), room.len(), length) }
 }

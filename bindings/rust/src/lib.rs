@@ -10,6 +10,7 @@
 pub mod book;
 pub mod entries;
 mod refusal;
+pub mod strip;
 mod time;
 
 pub use refusal::{Refusal, UnknownNumber};

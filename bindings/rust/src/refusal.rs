@@ -1,7 +1,7 @@
 use core::fmt;
 
-/// Why a text was not read, a time was not written or a book was not listed or compacted. The numbers are those of the C
-/// entries (RULES 2).
+/// Why a text was not read, a time was not written, a book was not listed or compacted, or a month has no strip. The numbers
+/// are those of the C entries (RULES 2).
 #[derive(Clone, Copy, PartialEq, Eq, Hash, Debug)]
 #[non_exhaustive]
 #[repr(u8)]
@@ -19,7 +19,8 @@ pub enum Refusal {
     /// 5: the text is relative and has more than [`PAIRS_MAX`](crate::PAIRS_MAX) pairs of a count and a unit.
     Pairs = 5,
     /// 6: a relative step leaves the range; or the ISO writer is given seconds out of range, or a time whose local
-    /// year, at the cut offset, is not 0 to 9999.
+    /// year, at the cut offset, is not 0 to 9999; or there is no strip, since the year is not -9999 to 9999 or the month is
+    /// not 1 to 12.
     Range = 6,
     /// 7: the offset is too wide to be written: 100 hours or more in a header, 24 hours or more in an ISO line.
     Offset = 7,
@@ -78,7 +79,7 @@ impl fmt::Display for Refusal {
             Refusal::Missing => "the text is relative, and the current time is missing",
             Refusal::Current => "the current time is out of range",
             Refusal::Pairs => "the text is relative and has too many pairs",
-            Refusal::Range => "the time is out of range",
+            Refusal::Range => "the time or the month is out of range",
             Refusal::Offset => "the offset is too wide to be written",
             Refusal::Room => "the room is shorter than the bytes to be written",
             Refusal::Book => "the book is too long or has a bad line",

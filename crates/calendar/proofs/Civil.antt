@@ -63,7 +63,7 @@ civilDay-civilAt d =
     ap (λ (n : ℕ). pos n -ℤ pos 4371953) e
 
 -- the first day of year -9999
-firstDay-12 : firstDay 12 ≡ 366
+pub firstDay-12 : firstDay 12 ≡ 366
 unfolding firstDay yearStart yearLength total lengths leap
 firstDay-12 = refl
 

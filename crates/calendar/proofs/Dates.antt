@@ -1,5 +1,5 @@
 -- Days and dates: a day has one date (`IsDate-month-unique`, `IsDate-day-unique`), it is the one that `monthOf` and `dateOf` give
--- (`IsDate-monthOf`, `monthOf-of-IsDate`, `dateOf-of-IsDate`), and a date is in range where its day is (`IsDate-month-lt`,
+-- (`IsDate-monthOf`, `monthOf-of-IsDate`, `dateOf-of-IsDate`), its year is that of its month (`yearOf-unique`, `yearOf-monthOf`), and a date is in range where its day is (`IsDate-month-lt`,
 -- `IsDate-lt`; `lt-of-Below` of an answer). Last the estimate of a day's month: right, or one month late (`IsDate-estimate`,
 -- `IsDate-estimate-pred`).
 -- Assumes nothing.
@@ -15,7 +15,7 @@ use Rattle.calendar.specs.declared.Date.{Date}
 use Rattle.calendar.specs.declared.Found.{Found}
 use Rattle.calendar.specs.declared.Found.the-variants.{At}
 use Rattle.calendar.proofs.Lengths.{yearStart-suc, firstDay-year, firstDay-suc, monthLength-le}
-use Rattle.calendar.proofs.Cycle.{yearStart-mul-400, yearStart-add-400, firstDay-lower, firstDay-upper, le-of-firstDay, lt-of-firstDay-in-range, pos-of-lt-firstDay}
+use Rattle.calendar.proofs.Cycle.{yearStart-mul-400, yearStart-add-400, firstDay-lower, firstDay-upper, firstDay-le, le-of-firstDay, lt-of-firstDay-in-range, pos-of-lt-firstDay}
 
 -- ---- a day has one date
 
@@ -46,7 +46,7 @@ module _ (start size : ℕ → ℕ) (step : (i : ℕ) → start (suc i) ≡ star
       ]
 
 -- a year has begun by a day of it, and the next has not
-yearOf-between : (d : ℕ) → (yearStart (yearOf d) ≤ d) × (d < yearStart (suc (yearOf d)))
+pub yearOf-between : (d : ℕ) → (yearStart (yearOf d) ≤ d) × (d < yearStart (suc (yearOf d)))
 unfolding yearOf
 yearOf-between d =
     let q = d / 146097 in
@@ -65,6 +65,24 @@ monthOf-between d =
     let i : suc (11 + y * 12) ≡ suc y * 12 = omega arith in
     let h : firstDay (y * 12) + (d - yearStart y) < firstDay (suc (11 + y * 12)) = rw (e, i, firstDay-year (suc y)) (b .1) in
     rw e at (spanOf-between firstDay monthLength firstDay-suc 11 (y * 12) (d - yearStart y) h)
+
+-- and it is the only such year
+pub yearOf-unique : (d y : ℕ) → yearStart y ≤ d → d < yearStart (suc y) → yearOf d ≡ y
+yearOf-unique d y a b = le-antisymm (in-order (yearOf d) y (yearOf-between d .0) b) (in-order y (yearOf d) a (yearOf-between d .1))
+  where
+    in-order : (x z : ℕ) → yearStart x ≤ d → d < yearStart (suc z) → x ≤ z
+    in-order x z h k =
+        let i : suc (11 + z * 12) ≡ suc z * 12 = omega arith in
+        let le : x * 12 ≤ 11 + z * 12 = le-of-firstDay (x * 12) (11 + z * 12) d (rw firstDay-year h) (rw (i, firstDay-year) k) in
+        omega arith
+
+-- the year of a day is that of its month
+pub yearOf-monthOf : (d : ℕ) → yearOf d ≡ monthOf d / 12
+yearOf-monthOf d =
+    let y = monthOf d / 12 in
+    let low : firstDay (y * 12) ≤ firstDay (monthOf d) = firstDay-le (y * 12) (monthOf d) (omega arith) in
+    let high : firstDay (suc (monthOf d)) ≤ firstDay (suc y * 12) = firstDay-le (suc (monthOf d)) (suc y * 12) (omega arith) in
+    yearOf-unique d y (omega (arith, firstDay-year y, monthOf-between d .0)) (omega (arith, firstDay-year (suc y), monthOf-between d .1))
 
 -- the month that is computed makes a date
 pub IsDate-monthOf : (d : ℕ) → IsDate d (monthOf d) (d - firstDay (monthOf d))

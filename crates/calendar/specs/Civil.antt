@@ -3,8 +3,9 @@
 -- 1 January 1970 is day 4,371,953. Nothing is meant of years before -10000.
 -- Assumes nothing.
 use Prim.Native.Nat.{ℕ, _+_, _-_, _/_, _%_, _≤_}
+use mathlib.Core.Bool.{Bool}
 use lib.IntN.{ℤ, pos, negsuc, natAbs, _+ℤ_, _-ℤ_}
-use Rattle.ints.specs.Range.{In}
+use Rattle.ints.specs.Range.{In, isIn}
 use Rattle.calendar.specs.Calendar.{firstDay, monthLength, monthOf}
 use Rattle.calendar.specs.Dates.{monthNumber}
 
@@ -13,6 +14,10 @@ pub record Civil : Type 0 where
   pub year : ℤ
   pub month : ℕ
   pub day : ℕ
+
+-- the years that there are
+abbrev pub isYear : ℤ → Bool
+isYear y = isIn (negsuc 9998) (pos 9999) y
 
 -- year y, counted from year -10000
 abbrev pub yearCount : ℤ → ℕ

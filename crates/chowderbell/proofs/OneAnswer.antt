@@ -1,6 +1,6 @@
 -- RULES 12.5: two answers that meet the contract of a public call are equal. Each statement is about the contract itself: `Post` is what
 -- the `ensures` lines of a call say, in the form that the proofs of its callers use. At exit `e .0` is the first parameter, `e .1 .0` the
--- second, `e .1 .1 .0` the third. In order: times; writers; readers; books of stamps; the entries for C; the calendar; the number at the
+-- second, `e .1 .1 .0` the third. In order: times; writers; readers; books of stamps; a month's strip; the entries for C; the calendar; the number at the
 -- start of a text. Not here: the other calls of `text`, each of which has an equation for its result, and `lines`.
 -- Assumes nothing.
 use mathlib.Core.Path.{_≡_}
@@ -61,6 +61,10 @@ use Rattle.stamps.proofs.book.list.Reads as book-list
 use Rattle.stamps.proofs.book.list_with.Reads as book-list-with
 use Rattle.compact.proofs.compact.Reads as book-compact
 use Rattle.compact.proofs.compact_with.Reads as book-compact-with
+use Rattle.strip.proofs.of_month.Reads as of-month
+use Rattle.strip.proofs.of_month_with.Reads as of-month-with
+use Rattle.strip.proofs.write.write_month.Reads as write-month
+use Rattle.strip.proofs.write.write_month_with.Reads as write-month-with
 use Rattle.chowderbell.proofs.times.chowderbell_header.Reads as chowderbell-header
 use Rattle.chowderbell.proofs.times.chowderbell_header_marked.Reads as chowderbell-header-marked
 use Rattle.chowderbell.proofs.times.chowderbell_raw.Reads as chowderbell-raw
@@ -79,6 +83,7 @@ use Rattle.chowderbell.proofs.times.chowderbell_write_iso.Reads as chow
 use Rattle.chowderbell.proofs.book.chowderbell_book_check.Reads as chowderbell-book-check
 use Rattle.chowderbell.proofs.book.chowderbell_book_list.Reads as chowderbell-book-list
 use Rattle.chowderbell.proofs.book.chowderbell_book_compact.Reads as chowderbell-book-compact
+use Rattle.chowderbell.proofs.month.chowderbell_strip.Reads as chowderbell-strip
 use Rattle.calendar.proofs.months.Reads as months
 use Rattle.calendar.proofs.first_day.Reads as first-day
 use Rattle.calendar.proofs.month_length.Reads as month-length
@@ -227,6 +232,19 @@ book-compact-unique κ a r s e f p q = (one-answer (p .0) (q .0), one-answer (p 
 pub book-compact-with-unique : OneAnswerAnd book-compact-with.Post (List ℕ) (λ κ e. now (e .1 .1 .0))
 book-compact-with-unique κ a r s e f p q = (one-answer (p .0) (q .0), one-answer (p .1) (q .1))
 
+-- ---- a month's strip: by value, and written with every byte of the room
+pub of-month-unique : OneAnswer of-month.Post
+of-month-unique κ a r s e f = one-answer
+
+pub of-month-with-unique : OneAnswer of-month-with.Post
+of-month-with-unique κ a r s e f = one-answer
+
+pub write-month-unique : OneAnswerAnd write-month.Post (List ℕ) (λ κ e. now (e .1 .1 .0))
+write-month-unique κ a r s e f p q = (one-answer (p .0) (q .0), one-answer (p .1) (q .1))
+
+pub write-month-with-unique : OneAnswerAnd write-month-with.Post (List ℕ) (λ κ e. now (e .1 .1 .1 .0))
+write-month-with-unique κ a r s e f p q = (one-answer (p .0) (q .0), one-answer (p .1) (q .1))
+
 -- ---- the readers for C: the number returned, and the seconds and the offset stored
 HandedOut-unique : {a : Answer} {n m : ℕ} {s t o u : ℤ} → HandedOut a n s o → HandedOut a m t u → (n ≡ m) × _≡_ {A = ℤ × ℤ} (s, o) (t, u)
 HandedOut-unique p q =
@@ -287,6 +305,9 @@ chowderbell-write-header-marked-unique κ a r s e f = written-unique
 
 pub chowderbell-write-iso-unique : OneAnswerAnd chowderbell-write-iso.Post (ℕ × List ℕ) (λ κ e. (now (e .1 .1 .1 .0), now (e .1 .1 .0)))
 chowderbell-write-iso-unique κ a r s e f = written-unique
+
+pub chowderbell-strip-unique : OneAnswerAnd chowderbell-strip.Post (ℕ × List ℕ) (λ κ e. (now (e .1 .1 .1 .0), now (e .1 .1 .0)))
+chowderbell-strip-unique κ a r s e f = written-unique
 
 -- ---- a book for C: the number returned, the length and the line stored, and every byte of the room
 HandedCheck-unique : {c : Checked} {n m k l : ℕ} → HandedCheck c n k → HandedCheck c m l → (n ≡ m) × (k ≡ l)

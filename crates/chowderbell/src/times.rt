@@ -406,7 +406,7 @@ fn mark_byte(mark: bool) -> u8
 }
 
 // Returns the number of a writer's answer and stores its length, which is 0 for a refusal.
-fn hand_length(w: Written, length: &mut usize) -> u8
+pub(crate) fn hand_length(w: Written, length: &mut usize) -> u8
     ensures { λ r. ⌜ HandedLength w r (now (length .exit)) ⌝ }
 {
     match w {

@@ -5,10 +5,9 @@ use Prim.Native.Nat.{ℕ, _+_, _*_}
 use mathlib.Core.Bool.{cond}
 use mathlib.Core.List.{List}
 use lib.IntN.{ℤ, pos, negsuc, _-ℤ_}
-use Rattle.ints.specs.Range.{isIn}
 use Rattle.text.specs.Bytes.{ascii}
 use Rattle.text.specs.Trim.{trim}
-use Rattle.calendar.specs.Civil.{yearCount}
+use Rattle.calendar.specs.Civil.{yearCount, isYear}
 use Rattle.calendar.specs.Dates.{dayNumber}
 use Rattle.calendar.specs.declared.Found.{Found}
 use Rattle.calendar.specs.declared.Found.the-variants.{At, Nothing}
@@ -23,7 +22,7 @@ use Rattle.iso.specs.declared.forms.Fields.the-variants.{Are, Nothing as
 
 -- the day of a date, which must exist and be in the years -9999 to 9999; no month or day is negative
 unfoldable pub dayOf : ℤ → ℤ → ℤ → Found
-dayOf y (pos m) (pos d) = cond (isIn (negsuc 9998) (pos 9999) y) (dayNumber (yearCount y) m d) Nothing
+dayOf y (pos m) (pos d) = cond (isYear y) (dayNumber (yearCount y) m d) Nothing
 dayOf y (pos m) (negsuc d) = Nothing
 dayOf y (negsuc m) d = Nothing
 

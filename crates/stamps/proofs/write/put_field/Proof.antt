@@ -3,7 +3,7 @@
 use native.Mathlib.Omega.{arith}
 use mathlib.Core.List.{[], _∷_}
 use Rattle.text.specs.Lines.{tab}
-use Rattle.stamps.proofs.Putting.{putAt-behind}
+use Rattle.text.proofs.Behind.{putAt-behind}
 use borrow.Author.Needs.{needs}
 use Rattle.stamps.proofs.write.put_field.Statement.{statement}
 use Rattle.stamps.proofs.write.put_field.Tie as tie

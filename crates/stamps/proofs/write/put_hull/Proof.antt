@@ -7,7 +7,7 @@ use Rattle.text.specs.Lines.{tab, newline}
 use Rattle.text.specs.Quote.{bytes}
 use Rattle.time.specs.Header.{headerBytes}
 use Rattle.stamps.specs.Writing.{hullLine}
-use Rattle.stamps.proofs.Putting.{Front, front-append, front-room, front-whole}
+use Rattle.text.proofs.Behind.{Front, front-append, front-room, front-whole}
 use Rattle.stamps.proofs.Writing.{goodHull, length-ended-hullLine}
 use borrow.Author.Needs.{needs}
 use Rattle.stamps.proofs.write.put_hull.Statement.{statement}

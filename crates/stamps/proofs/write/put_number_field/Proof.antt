@@ -10,7 +10,7 @@ use mir.Facts.{toZ-ofZ}
 use Rattle.text.specs.Decimal.{signed}
 use Rattle.text.specs.Lines.{tab}
 use Rattle.text.specs.Room.{putAt}
-use Rattle.stamps.proofs.Putting.{length-putAt, putAt-behind}
+use Rattle.text.proofs.Behind.{length-putAt, putAt-behind}
 use borrow.Author.Needs.{needs}
 use Rattle.stamps.proofs.write.put_number_field.Statement.{statement}
 use Rattle.stamps.proofs.write.put_number_field.Tie as tie

@@ -14,7 +14,7 @@ use Rattle.text.specs.Decimal.{signed}
 use Rattle.text.specs.Lines.{tab, newline}
 use Rattle.text.specs.Quote.{bytes}
 use Rattle.stamps.specs.Writing.{sinceLine}
-use Rattle.stamps.proofs.Putting.{Front, front-append, front-room, front-whole}
+use Rattle.text.proofs.Behind.{Front, front-append, front-room, front-whole}
 use Rattle.stamps.proofs.Writing.{length-ended-sinceLine}
 use borrow.Author.Needs.{needs}
 use Rattle.stamps.proofs.write.put_since.Statement.{statement}

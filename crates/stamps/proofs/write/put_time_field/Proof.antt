@@ -4,7 +4,7 @@ use native.Mathlib.Omega.{arith}
 use mathlib.Core.List.{[], _∷_}
 use Rattle.text.specs.Lines.{tab}
 use Rattle.time.specs.Header.{headerBytes}
-use Rattle.stamps.proofs.Putting.{putAt-behind}
+use Rattle.text.proofs.Behind.{putAt-behind}
 use borrow.Author.Needs.{needs}
 use Rattle.stamps.proofs.write.put_time_field.Statement.{statement}
 use Rattle.stamps.proofs.write.put_time_field.Tie as tie
