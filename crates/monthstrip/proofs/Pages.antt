@@ -1,22 +1,23 @@
 -- A page that is written from its end to its front: what it holds from a place on, after each write in front of that place. In order: a
--- text; one blank more; one day more; a row; one row more; the title; the page. Then lengths: of a row, of a month's name, of a heading.
+-- text; one blank more; one day more; a row; one row more; the title; the page. Then lengths: of a row, of a month's name, of a heading, of rows, of a title.
 -- Assumes nothing.
 use mathlib.Core.Path.{_≡_, refl, ap, _∙_}
 use mathlib.Core.List.{List, [], _∷_, _++_, append-assoc, append-nil}
 use Prim.Native.Nat.{ℕ, zero, suc, _+_, _-_, _*_, _/_, _≤_, _<_}
+use native.Mathlib.Nat.{min-le-left}
 use native.Mathlib.Omega.{arith}
 use mathlib.Core.Bool.{Bool, true, _&&_}
 use borrow.Author.Tests.{ne-eqb, leb-true}
-use lib.Dec.{leb}
+use lib.Dec.{eqb, leb}
 use lib.IntN.{ℤ}
-use lib.ListN.{length, length-append, take, drop, getD, replicate}
+use lib.ListN.{length, length-append, length-take, length-replicate, take, drop, getD, replicate}
 use lib.Seq.{drop-at, drop-drop, drop-length, length-take-le}
 use Rattle.text.specs.Bytes.{isSpace}
 use Rattle.text.specs.Words.{words, pieces, full}
 use Rattle.text.specs.Decimal.{signed}
 use Rattle.text.specs.Lines.{newline}
 use Rattle.text.specs.Room.{putAt}
-use Rattle.text.proofs.Lists.{both, drop-sub-one}
+use Rattle.text.proofs.Lists.{both, by-test, drop-sub-one}
 use Rattle.strip.specs.declared.Strip.{Strip}
 use Rattle.monthstrip.specs.Page.{blank, cell, cells, row, rows, dayNames, monthNames, monthName, heading, title, pageOf}
 
@@ -102,3 +103,22 @@ length-monthName-le m = length-getD-le 9 monthNames (m - 1) refl
 
 pub length-heading : (year : ℤ) (m : ℕ) → length (heading year m) ≡ length (monthName m) + (1 + length (signed year))
 length-heading year m = length-append (monthName m) (blank ∷ signed year) ∙ omega arith
+
+length-row-le : (week : ℕ) (days : List ℕ) → length days ≤ 7 → length (row week days) ≤ 24
+unfolding row
+length-row-le week days k =
+    by-test (eqb week 0) (λ e. rw e (omega arith))
+    (λ e. rw e (omega (arith, length-append (cell week ++ cells days) (newline ∷ []), length-cells days)))
+
+pub length-rows-le : (weeks days : List ℕ) → length (rows weeks days) ≤ 24 * length weeks
+unfolding rows
+length-rows-le [] days = omega arith
+length-rows-le (w ∷ weeks) days =
+    let seven : length (take 7 days) ≤ 7 = omega (arith, length-take 7 days, min-le-left 7 (length days)) in
+    omega (arith, length-append (row w (take 7 days)) (rows weeks (drop 7 days)), length-row-le w (take 7 days) seven, length-rows-le weeks (drop 7 days))
+
+pub length-title-le : (year : ℤ) (m : ℕ) → length (signed year) ≤ 20 → length (title year m) ≤ 31
+unfolding title
+length-title-le year m h =
+    let n = (23 - length (heading year m)) / 2 in
+    omega (arith, length-append (replicate n blank ++ heading year m) (newline ∷ []), length-append (replicate n blank) (heading year m), length-replicate n blank, length-heading year m, length-monthName-le m)

@@ -94,8 +94,8 @@ fn answer_month(word: &[u8]) {
     print_month(y, m);
 }
 
-// Prints a month. The buffer is longer than every page, so a page is refused only if there is no such
-// month.
+// Prints a month. No page is longer than 199 bytes (`length-pageBytes-le`) and the buffer is, so a page is
+// refused only if there is no such month.
 fn print_month(year: i64, month: i64) {
     let mut room = io::buffer();
     let written = page::write_page(year, month, &mut room);

@@ -19,7 +19,8 @@ use Rattle.strip.specs.Weeks.{weekday}
 use Rattle.strip.specs.declared.Answered.{Answered}
 use Rattle.strip.specs.Strip.{shownAt, monthIn, monthStrip, noStrip, stripAt, stripOf}
 use Rattle.strip.proofs.Months.{monthIn-of-year, monthIn-of-month, monthIn-of-In, HasStrip-of-In}
-use Rattle.strip.proofs.Theorems.{placeOf, day-shown, day-shown-once}
+use Rattle.strip.specs.Theorems.{placeOf}
+use Rattle.strip.proofs.Theorems.{day-shown, day-shown-once}
 
 pub strip-of-In : (y m : ℤ) → In (negsuc 9998) (pos 9999) y → In (pos 1) (pos 12) m → stripOf y m ≡ record { number = 0; strip = monthStrip (monthNumber (yearCount y) (natAbs m)) }
 unfolding stripOf

@@ -13,7 +13,8 @@ use borrow.Author.Tests.{eq-eqb, ne-eqb}
 use Rattle.calendar.specs.Calendar.{yearStart, yearOf}
 use Rattle.calendar.proofs.Lengths.{yearStart-suc}
 use Rattle.calendar.proofs.Dates.{yearOf-between, yearOf-unique}
-use Rattle.strip.specs.Weeks.{weekday, following, monday, thursday, firstThursday, weekYear, week}
+use Rattle.strip.specs.Weeks.{weekday, monday, thursday, firstThursday, weekYear, week}
+use Rattle.strip.specs.Theorems.{following}
 use Rattle.strip.proofs.Weeks.{weekday-is, weekday-ge, weekday-le, monday-add, thursday-of-thursday, firstThursday-is, week-of-thursday, days-into-year, yearLength-ge}
 
 -- ---- weekdays

@@ -15,16 +15,13 @@ use Rattle.calendar.proofs.Cycle.{firstDay-le, firstDay-in-range}
 use Rattle.calendar.proofs.Civil.{firstDay-12}
 use Rattle.strip.specs.Weeks.{weekday, monday, week}
 use Rattle.strip.specs.Strip.{along, placeDay, shownAt, weekAt, daysOf}
+use Rattle.strip.specs.Theorems.{placeOf, fullRows}
 use Rattle.strip.proofs.Weeks.{weekday-is, monday-add}
 use Rattle.strip.proofs.IsoWeeks.{same-week, weeks-count-on, weeks-1-to-53}
 use Rattle.strip.proofs.Filling.{along-append, along-eq, along-zeros}
 use Rattle.strip.proofs.Places.{before, firstDay-ge, monday-firstDay, shownAt-is, weekAt-is, numberFrom-before, numberFrom-at, numberFrom-behind, weekFrom-in, weekFrom-behind}
 
 -- ---- places
-
--- where day k of the month is shown: in the first row under the weekday of the 1st, and on from there
-abbrev pub placeOf : ℕ → ℕ → ℕ
-placeOf m k = weekday (firstDay m) - 1 + (k - 1)
 
 -- the columns are Monday to Sunday
 pub weekday-of-place : (m i : ℕ) → 12 ≤ m → weekday (placeDay m i) ≡ i % 7 + 1
@@ -159,11 +156,7 @@ thursdays-in-calendar m r h l p =
 
 -- ---- the next month
 
--- the rows of a strip up to the end of the month, as far as they are full
-abbrev pub fullRows : ℕ → ℕ
-fullRows m = (weekday (firstDay m) - 1 + monthLength m) / 7
-
--- the strip of the next month begins with the row behind them
+-- the strip of the next month begins with the row behind the full ones
 pub next-strip-goes-on : (m i : ℕ) → 12 ≤ m → placeDay (suc m) i ≡ placeDay m (fullRows m * 7 + i)
 unfolding placeDay
 next-strip-goes-on m i h =

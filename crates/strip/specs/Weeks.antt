@@ -11,10 +11,6 @@ use Rattle.calendar.specs.Calendar.{yearStart, yearOf}
 unfoldable pub weekday : ℕ → ℕ
 weekday d = (d + 5) % 7 + 1
 
--- the weekday after weekday k: Monday follows Sunday
-abbrev pub following : ℕ → ℕ
-following k = cond (eqb k 7) 1 (suc k)
-
 -- the Monday and the Thursday of the week that day d is in
 unfoldable pub monday : ℕ → ℕ
 monday d = d - (weekday d - 1)

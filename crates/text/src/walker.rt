@@ -1,6 +1,6 @@
-// A walker of words (RULES 4.5), for tools that keep a text and a place in it in one value. No
-// crate here calls it: the readers of dates have the text at hand and use the reader
-// `words::Words`, which does the walker's scanning too and gives the same words.
+// A walker of words (RULES 4.5), for tools that keep a text and a place in it in one value. The
+// program `monthstrip` takes a month's name by `nth_word`. The readers of dates have the text at hand
+// and use the reader `words::Words`, which does the walker's scanning too and gives the same words.
 //
 // A step is three calls: `next` returns the bounds of a word and the reader past it, `word` returns
 // the bytes of the word, and `moved` returns the walker past it. The separator is a parameter of
