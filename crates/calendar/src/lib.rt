@@ -1,8 +1,8 @@
 // The calendar of ISO 8601: days, months and dates (RULES 3).
 //
 // Everything is counted from 1 January of year -10000. That is day 0, of month 0; 1 January 1970 is
-// day 4,371,953, of month 143,640. Days end with year 9999, before day 7,304,850. No number here is
-// signed: a caller with a signed year adds 10000 to it, and 4,371,953 to a signed day.
+// day 4,371,953, of month 143,640. Days end with year 9999, before day 7,304,850. No function here takes
+// a signed number: a caller with a signed year adds `YEAR_0` to it, and 4,371,953 to a signed day.
 //
 // `months` builds a table of some 19 KB. Build it once if you make many calls. Every other function
 // borrows it: the whole table, any leading part of it, or `&[]`; beyond its end, first days are
@@ -31,6 +31,13 @@ const DAYS_PER_CYCLE: u64 = 146097;
 
 // Years are counted from -10000, so year 10000, the first one that is not counted, is 20000.
 const YEARS_COUNTED: u64 = 20000;
+
+// For callers with a signed year: the years that they take, and how year 0 is counted from -10000.
+pub const LEAST_YEAR: i64 = -9999;
+
+pub const MOST_YEAR: i64 = 9999;
+
+pub const YEAR_0: i64 = 10000;
 
 // A month, and a day of it from 0.
 pub struct Date {

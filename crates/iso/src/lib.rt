@@ -19,19 +19,15 @@ ghost use Rattle.calendar.specs.Table.{IsMonths};
 ghost use Rattle.calendar.specs.Dates.{Below};
 ghost use Rattle.iso.specs.Iso.{dayOf, momentOf, isoOf};
 use calendar::Found;
+use calendar::LEAST_YEAR;
+use calendar::MOST_YEAR;
 use calendar::SECONDS_PER_DAY;
+use calendar::YEAR_0;
 use forms::Fields;
 use time::Answer;
 use time::Refusal;
 use time::Time;
 use time::range;
-
-// The years that are read. The calendar counts them from -10000, so that its year 10000 is year 0.
-const LEAST_YEAR: i64 = -9999;
-
-const MOST_YEAR: i64 = 9999;
-
-const YEAR_0: i64 = 10000;
 
 // A date in any of the three forms.
 pub fn parse_git_date_format(s: &[u8]) -> Answer

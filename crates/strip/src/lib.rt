@@ -6,20 +6,19 @@
 pub mod write;
 
 ghost use mathlib.Core.Path.{_≡_};
-ghost use Prim.Native.Nat.{_+_, _≤_, _<_, _/_};
+ghost use Prim.Native.Nat.{_+_, _≤_, _<_};
 ghost use Rattle.calendar.specs.Table.{IsMonths};
 ghost use Rattle.strip.specs.Weeks.{weekday, week};
 ghost use Rattle.strip.specs.Strip.{along, monthIn, monthStrip, noStrip, stripOf};
 ghost use Rattle.strip.specs.Held.{HasStrip, numberFrom, weekFrom};
 use calendar::Found;
+use calendar::LEAST_YEAR;
+use calendar::MOST_YEAR;
+use calendar::YEAR_0;
 use time::Refusal;
 
-// The years and months that have a strip. Years are counted from -10000, so year 0 is 10000.
-const LEAST_YEAR: i64 = -9999;
-
-const MOST_YEAR: i64 = 9999;
-
-const YEAR_0: i64 = 10000;
+// Months are counted from 1 by callers.
+const FIRST_MONTH: i64 = 1;
 
 const LAST_MONTH: i64 = 12;
 
@@ -90,7 +89,7 @@ pub(crate) fn month_of(year: i64, month: i64) -> Found
     if year > MOST_YEAR {
         return Found::Nothing;
     }
-    if month < 1 {
+    if month < FIRST_MONTH {
         return Found::Nothing;
     }
     if month > LAST_MONTH {

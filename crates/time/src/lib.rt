@@ -155,7 +155,7 @@ pub enum Refusal {
     // 5: the text is relative with more than 256 pairs.
     Pairs,
     // 6: a relative step leaves the range; or the ISO writer is given seconds out of range or a local year, at the cut offset, outside
-    // 0 to 9999.
+    // 0 to 9999; or a strip is asked for a year or a month that has none.
     Range,
     // 7: a writer is given an offset that is too wide.
     Offset,
