@@ -7,6 +7,11 @@ use Rattle.calendar.specs.Calendar.{leap, lengths, monthLength, yearLength, yea
 use Rattle.strip.specs.Weeks.{weekday, monday, thursday, thursdayFrom, firstThursday, weekYear, week}
 use Rattle.strip.specs.Strip.{along, placeDay, shownAt, weekAt, monthIn, monthStrip, noStrip, stripOf}
 
+-- "1 January 1970 is a Thursday"
+january-1970 : stripOf (pos 1970) (pos 1) .strip .weekday ≡ 4
+unfolding stripOf monthIn monthStrip weekday monthLength firstDay yearStart yearLength total lengths leap
+january-1970 = refl
+
 -- January 2021 begins on a Friday, and its first row is week 53 of 2020
 january-2021 : stripOf (pos 2021) (pos 1) ≡ record {
   number = 0;
