@@ -4,8 +4,7 @@
  * numbers, the records and the bytes that follow; then the records, each nine 32-bit numbers (the length of the book; for a
  * listing and then for compacting the number wanted, the line wanted, the length of what is written, and the room that it needs)
  * and the bytes of the book, of the listing and of the compacted book. A check is held to the number and the line of a listing.
- * The answer to a batch is a 32-bit number, the records that differ, and for each of them, at most MOST_KEPT, its place in the
- * batch and a text with its length. All numbers are as the machine stores them.
+ * All numbers are as the machine stores them. fence.h says how a batch is answered.
  *
  * With two arguments, the name of an entry (check, list, compact) and the number of a mistake below, every answer of that entry
  * has that mistake, and differences must be found.
@@ -13,14 +12,7 @@
  * A book lies against a page that cannot be read, in front or behind, and a room against one that cannot be written: a call
  * that goes beyond ends the program, and compare.py sees that it did.
  */
-#define _DEFAULT_SOURCE
-#include <stdarg.h>
-#include <stdint.h>
-#include <stdio.h>
-#include <stdlib.h>
-#include <string.h>
-#include <sys/mman.h>
-#include <unistd.h>
+#include "../shared/fence.h"
 
 #include "chowderbell.h"
 
@@ -29,7 +21,7 @@ uint8_t chowderbell_book_check(const uint8_t *book, size_t len, size_t *line);
 uint8_t chowderbell_book_list(const uint8_t *book, size_t len, uint8_t *room, size_t room_len, size_t *length, size_t *line);
 uint8_t chowderbell_book_compact(const uint8_t *book, size_t len, uint8_t *room, size_t room_len, size_t *length, size_t *line);
 
-enum { PAGE = 4096, LARGEST = 1 << 18, FRONT = 64, MOST_KEPT = 64, TEXT = 200, SECONDS_FOR_A_BATCH = 120 };
+enum { LARGEST = 1 << 18 };
 
 /* An entry that writes lines of the book to a room. */
 typedef uint8_t writer(const uint8_t *book, size_t len, uint8_t *room, size_t room_len, size_t *length, size_t *line);
@@ -46,9 +38,6 @@ enum { NONE, LEAVES_LINE, READS_BEHIND, READS_IN_FRONT, CHANGES_BOOK, CHANGES_BE
 static int mistake = NONE;
 static const char *mistaken = "";
 
-/* What `*line` and `*length` hold before a call. */
-static const size_t LEFT_OVER = (size_t)0x5aa55aa55aa55aa5u;
-
 typedef struct {
     uint32_t number, line, length, need;
 } answer;
@@ -58,43 +47,8 @@ typedef struct {
     answer list, compact;
 } record;
 
-typedef struct {
-    uint32_t place, length;
-    char text[TEXT];
-} difference;
-
 static uint8_t *book_pages, *room_pages;
 static uint8_t pattern[LARGEST], wanted_room[LARGEST], compacted[LARGEST], again[LARGEST];
-static difference differences[MOST_KEPT];
-static uint32_t differing;
-
-static void give_up(const char *why)
-{
-    fprintf(stderr, "compare: %s\n", why);
-    exit(2);
-}
-
-/* LARGEST bytes between two pages that cannot be touched. */
-static uint8_t *fenced(void)
-{
-    uint8_t *pages = mmap(NULL, LARGEST + 2 * PAGE, PROT_NONE, MAP_PRIVATE | MAP_ANONYMOUS, -1, 0);
-    if (pages == MAP_FAILED || mprotect(pages + PAGE, LARGEST, PROT_READ | PROT_WRITE) != 0)
-        give_up("no memory");
-    return pages + PAGE;
-}
-
-/* Tells the first difference of a record. Always answers 1. */
-static int differ(const char *format, ...)
-{
-    if (differing < MOST_KEPT) {
-        va_list values;
-        va_start(values, format);
-        vsnprintf(differences[differing].text, TEXT, format, values);
-        va_end(values);
-    }
-    differing++;
-    return 1;
-}
 
 /* The mistakes that need no room. */
 static void spoil(const char *name, const uint8_t *book, size_t len, unsigned number, size_t *line, size_t held_line)
@@ -262,21 +216,6 @@ static int record_differs(const record *want, const uint8_t *book, const uint8_t
     return want->list.number == 0 && laws_differ(last, want->book);
 }
 
-/* Reads `len` bytes. Answers 0 at the end of the input. */
-static int take(void *to, size_t len)
-{
-    size_t got = fread(to, 1, len, stdin);
-    if (got != 0 && got != len)
-        give_up("the input ends inside a batch");
-    return got == len;
-}
-
-static void give(const void *from, size_t len)
-{
-    if (fwrite(from, 1, len, stdout) != len)
-        give_up("cannot write");
-}
-
 int main(int count, char **arguments)
 {
     uint32_t head[2], i;
@@ -286,17 +225,15 @@ int main(int count, char **arguments)
     }
     if (mistake < NONE || mistake >= MISTAKES)
         give_up("there is no such mistake");
-    book_pages = fenced();
-    room_pages = fenced();
-    for (i = 0; i < LARGEST; i++)
-        pattern[i] = (uint8_t)(i * 167 + (i >> 8) + 128);
+    book_pages = fenced(LARGEST);
+    room_pages = fenced(LARGEST);
+    fill(pattern, LARGEST);
 
     while (take(head, sizeof head)) {
         uint8_t *batch = malloc(head[1] + 1), *at = batch, *end = batch + head[1];
         if (batch == NULL || (head[1] > 0 && !take(batch, head[1])))
             give_up("no batch");
-        alarm(SECONDS_FOR_A_BATCH);
-        differing = 0;
+        begin_batch();
         for (i = 0; i < head[0]; i++) {
             record want;
             memcpy(&want, at, sizeof want);
@@ -305,22 +242,14 @@ int main(int count, char **arguments)
                 want.list.length > want.book || want.compact.length > want.book)
                 give_up("a book is too long for this program");
             const uint8_t *listing = at + want.book, *kept = listing + want.list.length;
-            if (record_differs(&want, at, listing, kept) && differing <= MOST_KEPT)
-                differences[differing - 1].place = i;
+            if (record_differs(&want, at, listing, kept))
+                place_of_difference(i);
             at += want.book + want.list.length + want.compact.length;
         }
-        alarm(0);
         if (at != end)
             give_up("a batch is not what its numbers say");
         free(batch);
-
-        give(&differing, sizeof differing);
-        for (i = 0; i < differing && i < MOST_KEPT; i++) {
-            differences[i].length = (uint32_t)strlen(differences[i].text);
-            give(&differences[i], 2 * sizeof(uint32_t) + differences[i].length);
-        }
-        if (fflush(stdout) != 0)
-            give_up("cannot write");
+        answer_batch();
     }
     return 0;
 }

@@ -13,11 +13,9 @@ Usage: compare.py --program FILE [--seed N] [--books N] [--save FILE] [--list] [
 Exit status: 0 if nothing differs (with --planted: if every mistake is found), otherwise 1.
 """
 
-import argparse
 import random
 import re
 import struct
-import subprocess
 import sys
 import time
 from itertools import chain
@@ -26,61 +24,25 @@ from pathlib import Path
 from book import DAY, Rules, date_of_day, first_day_of_month, fits
 from books import SUITES, bucket_of, hash_of
 
+sys.path.append(str(Path(__file__).resolve().parents[1] / "shared"))
+from asking import Program, command_line
+
 BATCH = 1 << 20  # bytes
 MOST_TRIED = 20 << 20  # bytes of smaller books that are tried
 MOST_REMEMBERED = 200000
 
 
-class Library:
-    """The program that calls the library. If a call ends it, it is started again."""
-
-    def __init__(self, program, entry="none", mistake=0):
-        self.command = [program, entry, str(mistake)]
-        self.process = None
-
-    def start(self):
-        self.stop()
-        self.process = subprocess.Popen(self.command, stdin=subprocess.PIPE, stdout=subprocess.PIPE)
-
-    def stop(self):
-        """The status of the program, which ends with its input."""
-        if self.process is None:
-            return 0
-        try:
-            self.process.stdin.close()
-        except BrokenPipeError:
-            pass
-        self.process.stdout.close()
-        status = self.process.wait()
-        self.process = None
-        return status
+class Library(Program):
+    """The program that calls the library for batches of books."""
 
     def send(self, wanted):
         """The differences of a batch, as places and texts; nothing if the program ended."""
-        if self.process is None:
-            self.start()
         records = []
         for text, *both in wanted:
             numbers = [value for number, line, written, need in both for value in (number, line, len(written), need)]
             records += struct.pack("=9I", len(text), *numbers), text, *(written for _, _, written, _ in both)
         records = b"".join(records)
-        try:
-            self.process.stdin.write(struct.pack("=2I", len(wanted), len(records)) + records)
-            self.process.stdin.flush()
-            count, = struct.unpack("=I", self.read(4))
-            found = []
-            for _ in range(min(count, 64)):
-                place, length = struct.unpack("=2I", self.read(8))
-                found.append((place, self.read(length).decode()))
-            return count, found
-        except (BrokenPipeError, EOFError):
-            return None
-
-    def read(self, length):
-        data = self.process.stdout.read(length)
-        if len(data) != length:
-            raise EOFError
-        return data
+        return self.ask(struct.pack("=2I", len(wanted), len(records)) + records)
 
     def differences(self, wanted):
         """As `send`. If the program ended, the books are sent one by one until it ends again."""
@@ -91,9 +53,7 @@ class Library:
         for place, one in enumerate(wanted):
             answer = self.send([one])
             if answer is None:
-                status = self.stop()
-                how = f"signal {-status}" if status < 0 else f"status {status}"
-                return 1, [(place, f"the program was ended by {how}")]
+                return 1, [(place, f"the program was ended by {self.how_it_ended()}")]
         raise SystemExit("compare: the program ended on a batch, but on no book of it alone")
 
 
@@ -968,24 +928,8 @@ def planted(chosen, options):
 
 
 def main():
-    parser = argparse.ArgumentParser(usage=__doc__.split("Usage: ")[1])
-    parser.add_argument("--program")
-    parser.add_argument("--seed", type=int, default=1)
-    parser.add_argument("--books", type=int, default=300000)
-    parser.add_argument("--save")
-    parser.add_argument("--list", action="store_true")
-    parser.add_argument("--planted", action="store_true")
-    parser.add_argument("suites", nargs="*", metavar="SUITE")
-    options = parser.parse_args()
-    if options.list:
-        for name, suite in SUITES.items():
-            print(f"{name:10} {suite.__doc__}")
-        return 0
-    for name in options.suites:
-        if name not in SUITES:
-            parser.error(f"there is no suite {name}")
-    if options.program is None:
-        parser.error("--program is missing")
+    sentences = {name: suite.__doc__ for name, suite in SUITES.items()}
+    options = command_line(__doc__.split("Usage: ")[1], sentences, books={"type": int, "default": 300000}, save={})
     chosen = options.suites or list(SUITES)
     return planted(chosen, options) if options.planted else compare(chosen, options)
 

@@ -11,26 +11,11 @@
 # Exit status: 0 if all is as the page says, 1 if anything differs, or that of rt or cc where these fail.
 set -eu
 
-here=$(cd "$(dirname "$0")" && pwd)
-top=$(cd "$here/../.." && pwd)
-work=$top/target/differential/git
+. "$(dirname "$0")/../shared/build.sh"
 
-answers=compare
 case ${1-} in
-    compare | rules) answers=$1; shift ;;
-    --help) sed -n '2,/^set/{/^set/d; s/^# \{0,1\}//; p;}' "$0"; exit 0 ;;
+    rules) shift; exec python3 "$here/compare.py" "$@" ;;
+    compare) shift ;;
 esac
-
-# no compiled Python beside the sources
-export PYTHONDONTWRITEBYTECODE=1
-if [ "$answers" = rules ]; then
-    exec python3 "$here/compare.py" "$@"
-fi
-
-library=${CHOWDERBELL_LIB_DIR:-$top/target/staticlib}
-if [ -z "${CHOWDERBELL_LIB_DIR-}" ]; then
-    (cd "$top" && rt staticlib chowderbell)
-fi
-mkdir -p "$work"
-cc -O2 -Wall -Wextra -I"$top/include" "$here/compare.c" "$library/libchowderbell.a" -o "$work/compare"
+build compare
 exec python3 "$here/compare.py" --program "$work/compare" "$@"

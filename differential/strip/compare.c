@@ -1,9 +1,8 @@
 /* Asks the library for the strips of months from standard input and says which answers differ from those wanted.
  *
  * compare.py starts it, knows what is wanted and reads what differs. Input is a sequence of batches: a 32-bit number, how many
- * records follow, and then the records, as the struct below. The answer to a batch is a 32-bit number, how many of its records
- * differ, and for each of them, at most MOST_KEPT, its place in the batch and a text with its length. All numbers are as the
- * machine stores them.
+ * records follow, and then the records, as the struct below. All numbers are as the machine stores them. fence.h says how a batch
+ * is answered.
  *
  * A record may hold a planted answer. Then the library is not asked: the answer is the planted one, as an entry would give it that
  * is right in all else. With an argument, the number of a mistake below, every answer of the library has that mistake. In both
@@ -12,14 +11,7 @@
  * The room and the variable for the length lie against pages that cannot be touched, in turn in front and behind: a call that goes
  * beyond ends the program, and compare.py sees that it did.
  */
-#define _DEFAULT_SOURCE
-#include <stdarg.h>
-#include <stdint.h>
-#include <stdio.h>
-#include <stdlib.h>
-#include <string.h>
-#include <sys/mman.h>
-#include <unistd.h>
+#include "../shared/fence.h"
 
 #include "chowderbell.h"
 
@@ -29,7 +21,7 @@ uint8_t chowderbell_strip(int64_t year, int64_t month, uint8_t *room, size_t len
 #error "a strip has 50 bytes"
 #endif
 
-enum { LENGTH = 50, PAGE = 4096, LARGEST = 2 * PAGE, FRONT = 64, MOST_KEPT = 16, TEXT = 480, SECONDS_FOR_A_BATCH = 120 };
+enum { LENGTH = 50, LARGEST = 2 * PAGE };
 enum { SOME_ROOMS, ALL_ROOMS, LONGEST_OF_ALL = 130, LONG_ROOM = 5000 };
 
 /* Mistakes that the library might make with memory, numbers or the order of its tests. mistakes.py has their names, in this
@@ -38,9 +30,6 @@ enum { NONE, CHANGES_BEHIND, CLEARS_BEHIND, CHANGES_ON_RANGE, CHANGES_ON_ROOM, W
        WRITES_NULL, LEAVES_LENGTH, STORES_NEED, STORES_NO_LENGTH, STORES_ROOM, STORES_WIDE, STORES_IN_FRONT, ROOM_FIRST, ROOM_OF_49,
        ROOM_OF_51, YEAR_OF_32_BITS, YEAR_OF_16_BITS, MONTH_OF_32_BITS, MONTH_OF_8_BITS, MISTAKES };
 static int mistake = NONE;
-
-/* What `*length` holds before a call. */
-static const size_t LEFT_OVER = (size_t)0x5aa55aa55aa55aa5u;
 
 /* A month and the answer wanted: its number, 0 or 6, and its strip. A room that is too short is 8 in the place of 0. */
 typedef struct {
@@ -52,43 +41,8 @@ typedef struct {
 } record;
 enum { NOT_PLANTED = 255, RECORD = 128 };
 
-typedef struct {
-    uint32_t place, length;
-    char text[TEXT];
-} difference;
-
 static uint8_t *room_pages, *length_pages;
 static uint8_t pattern[LARGEST], wanted_room[LARGEST];
-static difference differences[MOST_KEPT];
-static uint32_t differing;
-
-static void give_up(const char *why)
-{
-    fprintf(stderr, "compare: %s\n", why);
-    exit(2);
-}
-
-/* LARGEST bytes between two pages that cannot be touched. */
-static uint8_t *fenced(void)
-{
-    uint8_t *pages = mmap(NULL, LARGEST + 2 * PAGE, PROT_NONE, MAP_PRIVATE | MAP_ANONYMOUS, -1, 0);
-    if (pages == MAP_FAILED || mprotect(pages + PAGE, LARGEST, PROT_READ | PROT_WRITE) != 0)
-        give_up("no memory");
-    return pages + PAGE;
-}
-
-/* Keeps the first difference of a record as a text. Always answers 1. */
-static int differ(const char *format, ...)
-{
-    if (differing < MOST_KEPT) {
-        va_list values;
-        va_start(values, format);
-        vsnprintf(differences[differing].text, TEXT, format, values);
-        va_end(values);
-    }
-    differing++;
-    return 1;
-}
 
 /* A strip as compare.py shows it too: length and weekday, the weeks, the rows of days. */
 static const char *shown(const uint8_t *strip)
@@ -263,21 +217,6 @@ static int record_differs(const record *want, uint32_t place)
     return call_differs(want, LONG_ROOM, 1, 0) || call_differs(want, LONG_ROOM, 0, 0) || call_differs(want, 0, 1, 1);
 }
 
-/* Reads `len` bytes. Answers 0 at the end of the input. */
-static int take(void *to, size_t len)
-{
-    size_t got = fread(to, 1, len, stdin);
-    if (got != 0 && got != len)
-        give_up("the input ends inside a batch");
-    return got == len;
-}
-
-static void give(const void *from, size_t len)
-{
-    if (fwrite(from, 1, len, stdout) != len)
-        give_up("cannot write");
-}
-
 int main(int count, char **arguments)
 {
     uint32_t records, i;
@@ -287,29 +226,20 @@ int main(int count, char **arguments)
         give_up("there is no such mistake");
     if (sizeof(record) != RECORD)
         give_up("a record has another size");
-    room_pages = fenced();
-    length_pages = fenced();
-    for (i = 0; i < LARGEST; i++)
-        pattern[i] = (uint8_t)(i * 167 + (i >> 8) + 128);
+    room_pages = fenced(LARGEST);
+    length_pages = fenced(LARGEST);
+    fill(pattern, LARGEST);
 
     while (take(&records, sizeof records)) {
-        alarm(SECONDS_FOR_A_BATCH);
-        differing = 0;
+        begin_batch();
         for (i = 0; i < records; i++) {
             record want;
             if (!take(&want, sizeof want))
                 give_up("the input ends inside a batch");
-            if (record_differs(&want, i) && differing <= MOST_KEPT)
-                differences[differing - 1].place = i;
+            if (record_differs(&want, i))
+                place_of_difference(i);
         }
-        alarm(0);
-        give(&differing, sizeof differing);
-        for (i = 0; i < differing && i < MOST_KEPT; i++) {
-            differences[i].length = (uint32_t)strlen(differences[i].text);
-            give(&differences[i], 2 * sizeof(uint32_t) + differences[i].length);
-        }
-        if (fflush(stdout) != 0)
-            give_up("cannot write");
+        answer_batch();
     }
     return 0;
 }

@@ -11,18 +11,19 @@ Usage: compare.py --program FILE [--seed N] [--list] [--planted] [SUITE...]
 Exit status: 0 if nothing differs (with --planted: if every mistake is found), otherwise 1.
 """
 
-import argparse
 import random
 import struct
-import subprocess
 import sys
 import time
+from pathlib import Path
 
 from mistakes import OF_THE_CALL, RANGE, Almanac
 from strip import FIRST_YEAR, LAST_YEAR, LENGTH, SOURCES, Skipped, by_python, name_of, shown, year_from_1_on
 
+sys.path.append(str(Path(__file__).resolve().parents[1] / "shared"))
+from asking import Program, command_line
+
 BATCH = 2000  # records
-MOST_KEPT = 16  # differences of a batch that compare.c describes
 SOME_ROOMS, ALL_ROOMS = 0, 1
 NOT_PLANTED = 255
 NO_STRIP = bytes(LENGTH)
@@ -30,52 +31,13 @@ NO_STRIP = bytes(LENGTH)
 INT64_MIN, INT64_MAX = -(1 << 63), (1 << 63) - 1
 
 
-class Library:
-    """The program that calls the library. If a call ends it, it is started again."""
-
-    def __init__(self, program, mistake=0):
-        self.command = [program, str(mistake)]
-        self.process = None
-
-    def start(self):
-        self.stop()
-        self.process = subprocess.Popen(self.command, stdin=subprocess.PIPE, stdout=subprocess.PIPE)
-
-    def stop(self):
-        """The status of the program, which ends with its input."""
-        if self.process is None:
-            return 0
-        try:
-            self.process.stdin.close()
-        except BrokenPipeError:
-            pass
-        self.process.stdout.close()
-        status = self.process.wait()
-        self.process = None
-        return status
+class Library(Program):
+    """The program that calls the library for batches of months."""
 
     def send(self, records):
         """How many records differ, and the first of them as places and texts. Nothing if the program ended."""
-        if self.process is None:
-            self.start()
         packed = b"".join(struct.pack("=2q3I50s50s", *record) for record in records)
-        try:
-            self.process.stdin.write(struct.pack("=I", len(records)) + packed)
-            self.process.stdin.flush()
-            count, = struct.unpack("=I", self.read(4))
-            found = []
-            for _ in range(min(count, MOST_KEPT)):
-                place, length = struct.unpack("=2I", self.read(8))
-                found.append((place, self.read(length).decode()))
-            return count, found
-        except (BrokenPipeError, EOFError):
-            return None
-
-    def read(self, length):
-        data = self.process.stdout.read(length)
-        if len(data) != length:
-            raise EOFError
-        return data
+        return self.ask(struct.pack("=I", len(records)) + packed)
 
     def differences(self, records):
         """As `send`. If the program ended, the batch is sent again up to ever later records, until it ends there too."""
@@ -93,9 +55,7 @@ class Library:
         self.start()
         if self.send(records[:most]) is not None:
             raise SystemExit("compare: the program ended on a batch, but not when it was sent again")
-        status = self.stop()
-        how = f"signal {-status}" if status < 0 else f"status {status}"
-        return 1, [(most - 1, f"got an end of the program by {how}")]
+        return 1, [(most - 1, f"got an end of the program by {self.how_it_ended()}")]
 
 
 # --- the suites: years, months, the number wanted, which rooms, and the strip wanted -------------------------------------------
@@ -261,22 +221,7 @@ def planted(chosen, options):
 
 
 def main():
-    parser = argparse.ArgumentParser(usage=__doc__.split("Usage: ")[1])
-    parser.add_argument("--program")
-    parser.add_argument("--seed", type=int, default=1)
-    parser.add_argument("--list", action="store_true")
-    parser.add_argument("--planted", action="store_true")
-    parser.add_argument("suites", nargs="*", metavar="SUITE")
-    options = parser.parse_args()
-    if options.list:
-        for name in SUITES:
-            print(f"{name:10} {WHAT[name]}")
-        return 0
-    for name in options.suites:
-        if name not in SUITES:
-            parser.error(f"there is no suite {name}")
-    if options.program is None:
-        parser.error("--program is missing")
+    options = command_line(__doc__.split("Usage: ")[1], {name: WHAT[name] for name in SUITES})
     chosen = [name for name in SUITES if name in options.suites] or list(SUITES)
     return planted(chosen, options) if options.planted else compare(chosen, options)
 

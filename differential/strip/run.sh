@@ -11,29 +11,12 @@
 # Exit status: that of the program (compare: 1 if anything differs), or that of rt or cc where these fail.
 set -eu
 
-here=$(cd "$(dirname "$0")" && pwd)
-top=$(cd "$here/../.." && pwd)
-work=$top/target/differential/strip
+. "$(dirname "$0")/../shared/build.sh"
 
-program=compare
 case ${1-} in
-    compare | bench | selftest) program=$1; shift ;;
-    --help) sed -n '2,/^set/{/^set/d; s/^# \{0,1\}//; p;}' "$0"; exit 0 ;;
+    selftest) exec python3 "$here/strip.py" selftest ;;
+    bench) shift; build bench; exec "$work/bench" "$@" ;;
+    compare) shift ;;
 esac
-
-# no compiled Python beside the sources
-export PYTHONDONTWRITEBYTECODE=1
-if [ "$program" = selftest ]; then
-    exec python3 "$here/strip.py" selftest
-fi
-
-library=${CHOWDERBELL_LIB_DIR:-$top/target/staticlib}
-if [ -z "${CHOWDERBELL_LIB_DIR-}" ]; then
-    (cd "$top" && rt staticlib chowderbell)
-fi
-mkdir -p "$work"
-cc -O2 -Wall -Wextra -I"$top/include" "$here/$program.c" "$library/libchowderbell.a" -o "$work/$program"
-case $program in
-    compare) exec python3 "$here/compare.py" --program "$work/compare" "$@" ;;
-    bench) exec "$work/bench" "$@" ;;
-esac
+build compare
+exec python3 "$here/compare.py" --program "$work/compare" "$@"
