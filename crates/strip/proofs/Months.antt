@@ -29,9 +29,6 @@ pub monthIn-of-In : (y m : ℤ) → In (negsuc 9998) (pos 9999) y → In (pos 1)
 unfolding monthIn
 monthIn-of-In y m p q = rw (isIn-of-In p, isIn-of-In q)
 
-pub At-of-In : (y m : ℤ) {n : ℕ} → In (negsuc 9998) (pos 9999) y → In (pos 1) (pos 12) m → n ≡ monthNumber (yearCount y) (natAbs m) → At n ≡ monthIn y m
-At-of-In y m p q e = ap At e ∙ sym (monthIn-of-In y m p q)
-
 pub HasStrip-of-In : (y m : ℤ) → In (negsuc 9998) (pos 9999) y → In (pos 1) (pos 12) m → HasStrip (At (monthNumber (yearCount y) (natAbs m)))
 HasStrip-of-In y m p q =
     let up : pos 0 ≤ℤ (y +ℤ pos 10000) = omega (ints, p .low, add-parts y (pos 10000)) in
@@ -43,6 +40,10 @@ HasStrip-of-In y m p q =
     let first : 1 ≤ natAbs m = omega (ints, b, q .low) in
     let last : natAbs m ≤ 12 = omega (ints, b, q .high) in
     (omega arith, omega arith)
+
+-- the number of such a month
+pub At-of-In : (y m : ℤ) {n : ℕ} → In (negsuc 9998) (pos 9999) y → In (pos 1) (pos 12) m → n ≡ monthNumber (yearCount y) (natAbs m) → (At n ≡ monthIn y m) × HasStrip (At n)
+At-of-In y m p q e = (ap At e ∙ sym (monthIn-of-In y m p q), subst HasStrip (ap At (sym e)) (HasStrip-of-In y m p q))
 
 -- what a caller learns of a month that was found
 pub in-of-HasStrip : {f : Found} {m : ℕ} → f ≡ At m → HasStrip f → (12 ≤ m) × (m < 240000)

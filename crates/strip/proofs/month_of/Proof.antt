@@ -70,13 +70,7 @@ add-t9 c =
 
 -- a month that there is
 returns-5 : tie.Need-returns-5
-returns-5 c =
-    let y = y-at c in
-    let m = m-at c in
-    let least = size-ge tt y in
-    let most = size-le tt y in
-    let last = size-le tt m in
-    (At-of-In _ _ (y-in c) (m-in c) (omega (arith, ap natAbs (y .is), ap natAbs (m .is))), (omega arith, omega arith))
+returns-5 c = At-of-In _ _ (y-in c) (m-in c) (omega (arith, ap natAbs (y-at c .is), ap natAbs (m-at c .is)))
 
 pub month-of-spec : {M : Type 1} → statement M
 month-of-spec =
