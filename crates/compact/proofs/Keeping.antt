@@ -2,12 +2,12 @@
 -- kept; the state of the walk from the start, by one line more, and at its end.
 -- Assumes nothing.
 use mathlib.Core.Path.{_≡_, refl, sym, ap, _∙_}
-use mathlib.Core.Bool.{Bool, true, false, not, _||_, false≢true}
+use mathlib.Core.Bool.{Bool, true, false, cond, not, _||_, false≢true}
 use mathlib.Core.List.{List, [], _∷_, _++_}
-use Prim.Native.Nat.{ℕ, _+_, _-_, _≤_, _<_}
+use Prim.Native.Nat.{ℕ, suc, _+_, _-_, _≤_, _<_}
 use native.Mathlib.Nat.{le-refl}
 use native.Mathlib.Omega.{arith}
-use borrow.Author.Tests.{ltb-true, ltb-false}
+use borrow.Author.Tests.{ltb-true, ltb-false, lt-ltb}
 use lib.Dec.{ltb}
 use lib.ListN.{length, take, drop, getD, set, length-set, length-append, take-append-drop}
 use lib.Seq.{take-length, drop-length}
@@ -24,11 +24,11 @@ use Rattle.stamps.proofs.Books.{areGood-append, takenBy-le, endedLines-nil}
 use Rattle.stamps.proofs.Marks.{lines-fit}
 use Rattle.stamps.proofs.Listings.{good-book-iff, judged-append}
 use Rattle.compact.specs.Compact.{holdsPath, isKept, kept, compacted}
-use Rattle.compact.specs.Held.{pathAt, bucketOf, lineAt, linesDown, inChain, isOvertaken}
+use Rattle.compact.specs.Held.{pathAt, bucketOf, lineAt, linesDown, numberIn, foundNumber, isOvertaken, IsTable}
 use Rattle.compact.proofs.LastLines.{endedLines-append, LineBack}
 use Rattle.compact.proofs.Paths.{holdsPath-cons, isKept-no-path, isKept-path}
 use Rattle.compact.proofs.Kept.{kept-dropped, kept-taken}
-use Rattle.compact.proofs.Chains.{Down, linesDown-enter, isFound, isFound-enter, heads-enter, down-enter}
+use Rattle.compact.proofs.Chains.{Down, linesDown-enter, foundNumber-enter, heads-enter, down-enter}
 
 -- ---- the lines of a good book
 -- a book cut at the place behind a newline
@@ -66,14 +66,14 @@ pub record Keeping (bound : ℕ) (book heads links places : List ℕ) (at count 
   pub size-is : size ≡ length (joined (kept bound (endedLines (drop at book))))
   pub heads-le : (b : ℕ) → getD heads b 0 ≤ count
   pub down : Down links count
-  pub known : (p : List ℕ) → 0 < length p → isFound book heads links places p ≡ holdsPath bound p (endedLines (drop at book))
+  pub known : (p : List ℕ) → 0 < length p → ltb 0 (foundNumber book heads links places p) ≡ holdsPath bound p (endedLines (drop at book))
   pub head-places : length heads ≡ 2049
   pub link-places : length links ≡ 5957
   pub place-places : length places ≡ 5957
 
 pub keeping-start : (bound : ℕ) (book heads links places : List ℕ) → checkOf bound book ≡ Good → ((b : ℕ) → getD heads b 0 ≡ 0)
     → length heads ≡ 2049 → length links ≡ 5957 → length places ≡ 5957 → Keeping bound book heads links places (length book) 0 0
-unfolding linesDown kept joined holdsPath inChain
+unfolding linesDown kept joined holdsPath numberIn
 keeping-start bound book heads links places good none h l p =
     let d : endedLines (drop (length book) book) ≡ [] = ap endedLines (drop-length book) ∙ endedLines-nil in
     record {
@@ -85,22 +85,26 @@ keeping-start bound book heads links places good none h l p =
       size-is = sym (ap (λ (ls : List (List ℕ)). length (joined (kept bound ls))) d);
       heads-le = λ b. omega (arith, none b);
       down = λ k lt. absurd (omega arith);
-      known = λ q some. ap (λ (k : ℕ). inChain book links places q k k) (none (bucketOf q)) ∙ sym (ap (holdsPath bound q) d);
+      known = λ q some. ap (λ (k : ℕ). ltb 0 (numberIn book links places q k k)) (none (bucketOf q)) ∙ sym (ap (holdsPath bound q) d);
       head-places = h;
       link-places = l;
       place-places = p;
     }
 
 -- a path that is overtaken is not empty, and it is found
-found-of-overtaken : (book links places p : List ℕ) (first : ℕ) → isOvertaken book links places p first ≡ true → (0 < length p) × (inChain book links places p first first ≡ true)
+found-of-overtaken : (book links places p : List ℕ) (first : ℕ) → isOvertaken book links places p first ≡ true → (0 < length p) × (ltb 0 (numberIn book links places p first first) ≡ true)
 unfolding isOvertaken
 found-of-overtaken book links places [] first e = absurd (false≢true e)
 found-of-overtaken book links places (b ∷ p) first e = (omega arith, e)
 
-not-found-of-not-overtaken : (book links places p : List ℕ) (first : ℕ) → isOvertaken book links places p first ≡ false → 0 < length p → inChain book links places p first first ≡ false
+not-found-of-not-overtaken : (book links places p : List ℕ) (first : ℕ) → isOvertaken book links places p first ≡ false → 0 < length p → ltb 0 (numberIn book links places p first first) ≡ false
 unfolding isOvertaken
 not-found-of-not-overtaken book links places [] first e some = absurd (omega arith)
 not-found-of-not-overtaken book links places (b ∷ p) first e some = e
+
+cond-or : (b : Bool) (n k : ℕ) → ltb 0 (cond b (suc n) k) ≡ (b || ltb 0 k)
+cond-or true n k = lt-ltb 0 (suc n) (omega arith)
+cond-or false n k = refl
 
 or-of-true : (a b : Bool) → (a ≡ true → b ≡ true) → (a || b) ≡ b
 or-of-true true b h = sym (h refl)
@@ -112,13 +116,21 @@ module _ {bound : ℕ} {book heads links places : List ℕ} {at count size : ℕ
   count-le good = omega (arith, j .few, few-lines bound book good at (j .whole))
 
   -- the walk is at its end
-  pub keeping-end : checkOf bound book ≡ Good → at ≤ 0 → (count ≤ length places) × (linesDown book places count ≡ kept bound (endedLines book)) × (size ≡ length (compacted bound book))
+  pub keeping-end : checkOf bound book ≡ Good → at ≤ 0 → IsTable bound book heads links places count × (size ≡ length (compacted bound book))
   unfolding compacted
   keeping-end good h =
       let z : at ≡ 0 = omega arith in
       let e : drop at book ≡ book = ap (λ (k : ℕ). drop k book) z in (
-        omega (arith, count-le good, j .place-places),
-        j .lines-are ∙ ap (λ (s : List ℕ). kept bound (endedLines s)) e,
+        record {
+          lines-are = j .lines-are ∙ ap (λ (s : List ℕ). kept bound (endedLines s)) e;
+          heads-le = j .heads-le;
+          down = j .down;
+          known = λ p some. j .known p some ∙ ap (λ (s : List ℕ). holdsPath bound p (endedLines s)) e;
+          few = omega (arith, count-le good, j .place-places);
+          head-places = j .head-places;
+          link-places = j .link-places;
+          place-places = j .place-places;
+        },
         j .size-is ∙ ap (λ (s : List ℕ). length (joined (kept bound (endedLines s)))) e,
       )
 
@@ -209,8 +221,8 @@ module _ {bound : ℕ} {book heads links places : List ℕ} {at count size : ℕ
             heads-le = λ b. rw hs-is (heads-enter book heads links places count start (j .heads-le) (j .down) head-in link-in place-in b);
             down = rw ls-is (down-enter book heads links places count start (j .heads-le) (j .down) head-in link-in place-in);
             known = λ p some.
-                (λ i. isFound book (hs-is i) (ls-is i) (ps i) p) ∙ isFound-enter book heads links places count start (j .heads-le) (j .down) head-in link-in place-in p
-                ∙ ap (λ (t : Bool). same path p || t) (j .known p some) ∙ sym (holds-cons p some);
+                ap (ltb 0) ((λ i. foundNumber book (hs-is i) (ls-is i) (ps i) p) ∙ foundNumber-enter book heads links places count start (j .heads-le) (j .down) head-in link-in place-in p)
+                ∙ cond-or (same path p) count (foundNumber book heads links places p) ∙ ap (λ (t : Bool). same path p || t) (j .known p some) ∙ sym (holds-cons p some);
             head-places = ap length hs ∙ length-set heads bucket (count + 1) ∙ j .head-places;
             link-places = ap length ls ∙ length-set links count (getD heads bucket 0) ∙ j .link-places;
             place-places = ap length ps ∙ length-set places count start ∙ j .place-places;

@@ -63,13 +63,13 @@ module _ (bound : ℕ) where
       (λ n. ap (holdsPath bound p) (kept-dropped bound l ls n) ∙ same-paths p ls ∙ sym (or-of-gone p l ls n))
 
   -- ---- different paths
-  isIn-withPath : (p l : List ℕ) (ps ls : List (List ℕ)) → isIn p ps ≡ holdsPath bound p ls → (x : Line) → isIn p (withPath l x ps) ≡ (hasPath p l x || holdsPath bound p ls)
+  pub isIn-withPath : (p l : List ℕ) (ps ls : List (List ℕ)) → isIn p ps ≡ holdsPath bound p ls → (x : Line) → isIn p (withPath l x ps) ≡ (hasPath p l x || holdsPath bound p ls)
   unfolding isIn
   isIn-withPath p l ps ls e (Hull h) = ap (λ (t : Bool). same (part l (h .path)) p || t) e
   isIn-withPath p l ps ls e (Since x) = e
   isIn-withPath p l ps ls e Bad = e
 
-  isIn-pathsIn : (p : List ℕ) (ls : List (List ℕ)) → isIn p (pathsIn bound ls) ≡ holdsPath bound p ls
+  pub isIn-pathsIn : (p : List ℕ) (ls : List (List ℕ)) → isIn p (pathsIn bound ls) ≡ holdsPath bound p ls
   unfolding isIn pathsIn holdsPath
   isIn-pathsIn p [] = refl
   isIn-pathsIn p (l ∷ ls) = isIn-withPath p l (pathsIn bound ls) ls (isIn-pathsIn p ls) (lineOf bound l)

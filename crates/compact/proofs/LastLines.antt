@@ -61,14 +61,14 @@ lines-append [] t h = refl
 lines-append (l ∷ ls) t h =
     ap endedLines (append-assoc l (newline ∷ joined ls) t) ∙ endedLines-line l (joined ls ++ t) (h .0) ∙ ap (λ (v : List (List ℕ)). l ∷ v) (lines-append ls t (h .1))
 
-joined-of-whole : (s : List ℕ) → left s ≡ [] → joined (endedLines s) ≡ s
+pub joined-of-whole : (s : List ℕ) → left s ≡ [] → joined (endedLines s) ≡ s
 joined-of-whole s e = sym (append-nil (joined (endedLines s))) ∙ ap (λ (v : List ℕ). joined (endedLines s) ++ v) (sym e) ∙ joined-endedLines s
 
 pub endedLines-append : (s t : List ℕ) → left s ≡ [] → endedLines (s ++ t) ≡ endedLines s ++ endedLines t
 endedLines-append s t e = ap (λ (v : List ℕ). endedLines (v ++ t)) (sym (joined-of-whole s e)) ∙ lines-append (endedLines s) t (lacking-endedLines s)
 
 -- ---- one line back
-before-line : (l t : List ℕ) → has newline l ≡ false → before newline (l ++ newline ∷ t) ≡ l
+pub before-line : (l t : List ℕ) → has newline l ≡ false → before newline (l ++ newline ∷ t) ≡ l
 before-line l t h =
     let s = l ++ newline ∷ t in
     let e : endedLines s ≡ l ∷ endedLines t = endedLines-line l t h in

@@ -1,15 +1,17 @@
 -- What the code holds on the way to an answer. Nothing here is needed to read what the public calls ensure. In order: the path of the line
--- at the front of a text; the bucket of a path; the lines that are kept, and the chains that link them.
+-- at the front of a text; the bucket of a path; the lines that are kept, the chains that link them, and all of them as a table.
 -- Assumes nothing.
-use Prim.Native.Nat.{ℕ, zero, suc, _+_, _*_, _%_, _/_}
+use Prim.Native.Nat.{ℕ, zero, suc, _+_, _*_, _%_, _/_, _≤_, _<_}
 use Prim.Native.Char.{code}
-use mathlib.Core.Bool.{Bool, false, cond, _||_}
+use mathlib.Core.Path.{_≡_}
+use mathlib.Core.Bool.{Bool, false, cond}
 use mathlib.Core.List.{List, [], _∷_}
-use lib.Dec.{eqb}
-use lib.ListN.{drop, getD}
+use lib.Dec.{ltb, eqb}
+use lib.ListN.{length, drop, getD}
 use Rattle.text.specs.Bytes.{same}
 use Rattle.text.specs.Places.{before}
-use Rattle.text.specs.Lines.{tab, newline}
+use Rattle.text.specs.Lines.{tab, newline, endedLines}
+use Rattle.compact.specs.Compact.{holdsPath, kept}
 
 -- whether the good line at the front of s is one of `hull`: its first byte tells
 unfoldable pub opensHull : List ℕ → Bool
@@ -42,15 +44,30 @@ unfoldable pub linesDown : List ℕ → List ℕ → ℕ → List (List ℕ)
 linesDown book places zero = []
 linesDown book places (suc k) = lineAt book (getD places k 0) ∷ linesDown book places k
 
--- whether a line of the chain that begins with number k has the path p. A chain goes down, so it has at most k lines
-unfoldable pub inChain : List ℕ → List ℕ → List ℕ → List ℕ → ℕ → ℕ → Bool
-inChain book links places p zero k = false
-inChain book links places p (suc most) zero = false
-inChain book links places p (suc most) (suc k) =
-    let below = inChain book links places p most (getD links k 0) in
-    same (pathAt (drop (getD places k 0) book)) p || below
+-- the number of the first line with the path p in the chain that begins with number k, or 0. A chain goes down, so it has at most k lines
+unfoldable pub numberIn : List ℕ → List ℕ → List ℕ → List ℕ → ℕ → ℕ → ℕ
+numberIn book links places p zero k = 0
+numberIn book links places p (suc most) zero = 0
+numberIn book links places p (suc most) (suc k) =
+    let below = numberIn book links places p most (getD links k 0) in
+    cond (same (pathAt (drop (getD places k 0) book)) p) (suc k) below
+
+-- the same from the bucket of the path
+abbrev pub foundNumber : List ℕ → List ℕ → List ℕ → List ℕ → List ℕ → ℕ
+foundNumber book heads links places p = numberIn book links places p (getD heads (bucketOf p) 0) (getD heads (bucketOf p) 0)
 
 -- whether a line with the path p is overtaken by one of the chain. A line without a path never is
 unfoldable pub isOvertaken : List ℕ → List ℕ → List ℕ → List ℕ → ℕ → Bool
 isOvertaken book links places [] first = false
-isOvertaken book links places (b ∷ p) first = inChain book links places (b ∷ p) first first
+isOvertaken book links places (b ∷ p) first = ltb 0 (numberIn book links places (b ∷ p) first first)
+
+-- the kept lines of a book, in buckets: a path that a line has is found from its bucket
+pub record IsTable (bound : ℕ) (book heads links places : List ℕ) (count : ℕ) : Type 0 where
+  pub lines-are : linesDown book places count ≡ kept bound (endedLines book)
+  pub heads-le : (b : ℕ) → getD heads b 0 ≤ count
+  pub down : (k : ℕ) → k < count → getD links k 0 ≤ k
+  pub known : (p : List ℕ) → 0 < length p → ltb 0 (foundNumber book heads links places p) ≡ holdsPath bound p (endedLines book)
+  pub few : count ≤ length places
+  pub head-places : length heads ≡ 2049
+  pub link-places : length links ≡ 5957
+  pub place-places : length places ≡ 5957

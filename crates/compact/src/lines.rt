@@ -9,8 +9,8 @@ ghost use Rattle.text.specs.Lines.{endedLines, takenBy};
 ghost use Rattle.stamps.specs.Book.{checkOf};
 ghost use Rattle.stamps.specs.Copies.{joined};
 ghost use Rattle.stamps.specs.declared.book.Checked.the-variants.{Good};
-ghost use Rattle.compact.specs.Compact.{kept, compacted};
-ghost use Rattle.compact.specs.Held.{linesDown};
+ghost use Rattle.compact.specs.Compact.{compacted};
+ghost use Rattle.compact.specs.Held.{linesDown, IsTable};
 use crate::table;
 use text::copy;
 use text::places as cut;
@@ -27,7 +27,7 @@ pub fn keep_lines(book: &[u8], heads: &mut [u16], links: &mut [u16], places: &mu
     requires { ⌜ checkOf maxPairs (now book) ≡ Good ⌝ }
     requires { ⌜ (2049 ≡ length (now heads)) × ((b : ℕ) → getD (now heads) b 0 ≡ 0) ⌝ }
     requires { ⌜ (5957 ≡ length (now links)) × (5957 ≡ length (now places)) ⌝ }
-    ensures { λ r. ⌜ (r .count ≤ length (now (places .exit))) × (linesDown (now (book .entry)) (now (places .exit)) (r .count) ≡ kept maxPairs (endedLines (now (book .entry)))) ⌝ }
+    ensures { λ r. ⌜ IsTable maxPairs (now (book .entry)) (now (heads .exit)) (now (links .exit)) (now (places .exit)) (r .count) ⌝ }
     ensures { λ r. ⌜ r .length ≡ length (compacted maxPairs (now (book .entry))) ⌝ }
 {
     let mut at = book.len();

@@ -5,7 +5,8 @@
 ghost use mathlib.Core.Path.{_≡_};
 ghost use Prim.Native.Nat.{ℕ, _+_, _≤_, _<_};
 ghost use lib.ListN.{length, getD, set};
-ghost use Rattle.compact.specs.Held.{opensHull, pathAt, bucketOf, mixed, inChain, isOvertaken};
+ghost use Rattle.relative.specs.Relative.{maxPairs};
+ghost use Rattle.compact.specs.Held.{opensHull, pathAt, bucketOf, mixed, numberIn, foundNumber, isOvertaken, IsTable};
 use stamps::book;
 use stamps::line;
 use text::bytes;
@@ -83,6 +84,15 @@ fn mix(path: &[u8]) -> u64
     h
 }
 
+// The number of the kept line with this path, or 0 if there is none.
+pub fn find(book: &[u8], path: &[u8], heads: &[u16], links: &[u16], places: &[u16]) -> usize
+    requires { ⌜ ((n : ℕ) × IsTable maxPairs (now book) (now heads) (now links) (now places) n) ⌝ }
+    ensures { λ r. ⌜ r ≡ foundNumber (now (book .entry)) (now (heads .entry)) (now (links .entry)) (now (places .entry)) (now (path .entry)) ⌝ }
+{
+    let bucket = bucket_of(path);
+    find_in_chain(book, path, heads[bucket], links, places)
+}
+
 // Whether a line with this path is overtaken by one in the chain that begins with number `first`. A line
 // without a path never is.
 pub fn is_overtaken(book: &[u8], path: &[u8], first: u16, links: &[u16], places: &[u16]) -> bool
@@ -90,25 +100,25 @@ pub fn is_overtaken(book: &[u8], path: &[u8], first: u16, links: &[u16], places:
     ensures { λ r. ⌜ r ≡ isOvertaken (now (book .entry)) (now (links .entry)) (now (places .entry)) (now (path .entry)) first ⌝ }
 {
     if 0 < path.len() {
-        return is_in_chain(book, path, first, links, places);
+        return 0 < find_in_chain(book, path, first, links, places);
     }
     false
 }
 
-// Whether the path is that of a line in the chain that begins with the line of this number.
-fn is_in_chain(book: &[u8], path: &[u8], first: u16, links: &[u16], places: &[u16]) -> bool
+// The number of the first line with this path in the chain that begins with number `first`, or 0.
+fn find_in_chain(book: &[u8], path: &[u8], first: u16, links: &[u16], places: &[u16]) -> usize
     requires { ⌜ (first ≤ length (now links)) × (length (now links) ≡ length (now places)) × ((k : ℕ) → k < first → getD (now links) k 0 ≤ k) ⌝ }
-    ensures { λ r. ⌜ r ≡ inChain (now (book .entry)) (now (links .entry)) (now (places .entry)) (now (path .entry)) first first ⌝ }
+    ensures { λ r. ⌜ r ≡ numberIn (now (book .entry)) (now (links .entry)) (now (places .entry)) (now (path .entry)) first first ⌝ }
 {
     let mut k = first as usize;
     while 0 < k {
         let other = path_at(cut::from(book, places[k - 1] as usize));
         if bytes::same(other, path) {
-            return true;
+            return k;
         }
         k = links[k - 1] as usize;
     }
-    false
+    0
 }
 
 // Enters a line that begins at `start` in a bucket. `count` lines were kept before it.

@@ -15,7 +15,7 @@ use Rattle.text.specs.declared.number.Integer.the-variants.{Is, Nothing}
 use Rattle.time.specs.Answers.{timeAt}
 use Rattle.time.specs.declared.Now.{Now}
 use Rattle.time.specs.declared.Refusal.{Refusal}
-use Rattle.time.specs.declared.Refusal.the-variants.{NotAscii, Form, Missing, Current, Pairs, Range, Offset, Room, Book, TooLarge}
+use Rattle.time.specs.declared.Refusal.the-variants.{NotAscii, Form, Missing, Current, Pairs, Range, Offset, Room, Book, TooLarge, Lists}
 use Rattle.time.specs.declared.Answer.{Answer}
 use Rattle.time.specs.declared.Answer.the-variants.{Time, Refused}
 use Rattle.header.specs.Raw.{Limits, rawOf}
@@ -34,6 +34,7 @@ settles Range = true
 settles Offset = true
 settles Room = true
 settles Book = true
+settles Lists = true
 
 -- whether an answer ends the search: a time does too
 abbrev pub isSettled : Answer → Bool

@@ -126,7 +126,7 @@ fn is_settled(a: Answer) -> bool
     }
 }
 
-// Whether a refusal ends the search: every one but 2 and 11, after which the next form is tried. No reader answers 7, 8 or 10.
+// Whether a refusal ends the search: every one but 2 and 11, after which the next form is tried. No reader answers 7, 8, 10 or 12.
 fn settles(r: Refusal) -> bool
     ensures { λ b. ⌜ b ≡ settlesOf r ⌝ }
 {
@@ -141,5 +141,6 @@ fn settles(r: Refusal) -> bool
         Refusal::Offset => true,
         Refusal::Room => true,
         Refusal::Book => true,
+        Refusal::Lists => true,
     }
 }

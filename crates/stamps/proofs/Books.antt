@@ -54,7 +54,7 @@ module _ (s : List ℕ) (h : has newline s ≡ true) where
       let e : length (before newline s) + 1 + n ≡ firstPlace newline s + 1 + n = omega (arith, length-before newline s) in
       ap (λ (ls : List (List ℕ)). drop (takenBy ls) s) endedLines-first ∙ ap (λ (k : ℕ). drop k s) e ∙ sym (drop-drop n (firstPlace newline s + 1) s)
 
-  linesIn-first : (bound : ℕ) → linesIn bound s ≡ lineOf bound (before newline s) ∷ linesIn bound (behind s)
+  pub linesIn-first : (bound : ℕ) → linesIn bound s ≡ lineOf bound (before newline s) ∷ linesIn bound (behind s)
   unfolding linesIn judged
   linesIn-first bound = (λ i. judged bound (endedLines-first i) ++ lastPiece (left-first i))
 
@@ -67,7 +67,7 @@ pub left-open : (s : List ℕ) → endedLines s ≡ [] → left s ≡ s
 unfolding left takenBy
 left-open s e = ap (λ (ls : List (List ℕ)). drop (takenBy ls) s) e
 
-linesIn-open : (bound : ℕ) (s : List ℕ) → endedLines s ≡ [] → linesIn bound s ≡ lastPiece s
+pub linesIn-open : (bound : ℕ) (s : List ℕ) → endedLines s ≡ [] → linesIn bound s ≡ lastPiece s
 unfolding linesIn judged
 linesIn-open bound s e = (λ i. judged bound (e i) ++ lastPiece (left-open s e i))
 

@@ -240,7 +240,7 @@ good-alone-iff-good-in-a-book bound above l below a b n h =
     )
 
 -- ---- the listing of a good book
-good-of-hull : (x : Line) → isHullLine x ≡ true → isGood x ≡ true
+pub good-of-hull : (x : Line) → isHullLine x ≡ true → isGood x ≡ true
 good-of-hull (Hull h) e = refl
 good-of-hull (Since x) e = absurd (false≢true e)
 good-of-hull Bad e = absurd (false≢true e)

@@ -215,7 +215,7 @@ fn or_above(own: Integer, above: Integer) -> Integer
 }
 
 // Whether seconds are at or after a cut-off. Without a cut-off all are.
-fn is_at_or_after(cut_off: Integer, seconds: i64) -> bool
+pub fn is_at_or_after(cut_off: Integer, seconds: i64) -> bool
     ensures { λ r. ⌜ r ≡ isAtOrAfter «cut_off» seconds ⌝ }
 {
     match cut_off {

@@ -33,7 +33,7 @@ const TEXT_START: usize = 6;
 // The most bytes of a path, and the bytes of a key.
 pub(crate) const MAX_PATH: usize = 255;
 
-pub(crate) const KEY: usize = 16;
+pub const KEY: usize = 16;
 
 // A hull: where its path and its key are in the line, and its time.
 pub struct Hull {
@@ -77,13 +77,13 @@ pub fn read_with(months: &[u32], line: &[u8]) -> Line
 }
 
 // The first line of a text, and, if it is good, how many bytes it has before its newline.
-pub(crate) struct First {
+pub struct First {
     pub line: Line,
     pub length: usize,
 }
 
 // Reads the line in front of the first newline of `s`, or all of `s` if it holds none.
-pub(crate) fn first_line(months: &[u32], s: &[u8]) -> First
+pub fn first_line(months: &[u32], s: &[u8]) -> First
     requires { ⌜ IsMonths (now months) ⌝ }
     ensures { λ r. ⌜ FirstLine maxPairs (now (s .entry)) r ⌝ }
 {

@@ -113,7 +113,7 @@ fn put_hull(path: &[u8], key: &[u8], time: Time, room: &mut [u8])
 }
 
 // Puts a tab and the bytes of `part` from place `at` on.
-fn put_field(part: &[u8], at: usize, room: &mut [u8]) -> usize
+pub fn put_field(part: &[u8], at: usize, room: &mut [u8]) -> usize
     requires { ⌜ at + length (tab ∷ now part) ≤ length (now room) ⌝ }
     ensures { λ r. ⌜ r ≡ at + length (tab ∷ now (part .entry)) ⌝ }
     ensures { λ _. ⌜ now (room .exit) ≡ putAt (tab ∷ now (part .entry)) at (now (room .entry)) ⌝ }

