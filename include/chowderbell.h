@@ -1,4 +1,5 @@
-/* Chowderbell: reads and writes the dates that Git writes and people type, lists and compacts books of stamps, and shows months.
+/* Chowderbell: reads and writes the dates that Git writes and people type, lists and compacts books of stamps, merges the lists of
+ * two build machines into one book, and shows months.
  *
  * A time is signed 64-bit seconds since 1970, a signed 32-bit offset from UTC in seconds, and a mark. The library uses no heap,
  * keeps no state and no pointer, and never looks at the clock, the time zone or the locale of the machine: the current time is an
@@ -10,7 +11,8 @@
  * sets it. The other functions do without: readers drop it, and chowderbell_write_header writes a time with the mark clear. An ISO
  * line does not show it, and a current time is passed without it.
  *
- * Every function but chowderbell_size, which cannot fail, returns one of these numbers: 0 for success, else why it refused.
+ * Every function but chowderbell_size and chowderbell_fronts_earlier, which return a length and cannot fail, returns one of these
+ * numbers: 0 for success, else why it refused.
  *
  *   number                        given exactly when
  *   0  CHOWDERBELL_OK             it succeeded
@@ -28,18 +30,21 @@
  *  10  CHOWDERBELL_BOOK           the book has more than 65536 bytes or a bad line
  *  11  CHOWDERBELL_TOO_LARGE      the number that opens a header or a raw date is too large for 64 bits: below -9223372036854775808
  *                                 or above 9223372036854775807
+ *  12  CHOWDERBELL_LISTS          of the lists of two build machines, one has more than 32768 bytes, a bad line, or a line with
+ *                                 fewer seconds than the line above it; or one of two front lines is bad
  *
  * No function returns 9: by that number the program whenread refuses a line of the wrong layout.
  *
- * Readers test 1, 2, 5, 3, 4, 6 in that order; writers 7, 6, 8; the functions for a book 10, 8; a strip 6, 8. A header and a raw date are tested
- * for 11 after 1, after the number of the rule and after the ":" of a header, and before all else that is 2, such as the missing or
- * bad offset of a raw date.
+ * Readers test 1, 2, 5, 3, 4, 6 in that order; writers 7, 6, 8; the functions for a book 10, 8; those for two lists 12, 8; a strip
+ * 6, 8. A header and a raw date are tested for 11 after 1, after the number of the rule and after the ":" of a header, and before
+ * all else that is 2, such as the missing or bad offset of a raw date.
  *
  * The range is seconds -377705023201 to 253402207200, and for a current time an offset of -93599 to 93599. Header and raw dates may
  * lie outside it.
  *
- * A text, a book or a room of length 0 is never read or written, so its pointer may be NULL. No other pointer may be NULL. The
- * text or the book, the room and the variables that results are stored in must not overlap.
+ * A text, a book, a list or a room of length 0 is never read or written, so its pointer may be NULL. No other pointer may be NULL.
+ * What a call reads, its rooms and the variables that results are stored in must not overlap. Only two lists that are merged, or two
+ * front lines, may overlap one another: they are only read.
  */
 #ifndef CHOWDERBELL_H
 #define CHOWDERBELL_H
@@ -62,6 +67,7 @@ extern "C" {
 #define CHOWDERBELL_ROOM 8
 #define CHOWDERBELL_BOOK 10
 #define CHOWDERBELL_TOO_LARGE 11
+#define CHOWDERBELL_LISTS 12
 
 /* The rules for the offset of a raw date. A caller names one by its number. */
 #define CHOWDERBELL_RULE_1 1 /* hours to 14; minutes 0, 15, 30 or 45 */
@@ -81,6 +87,13 @@ extern "C" {
 #define CHOWDERBELL_BOOK_MAX 65536
 #define CHOWDERBELL_PATH_MAX 255
 #define CHOWDERBELL_KEY_LENGTH 16
+
+/* The most bytes that the list of a build machine has. The book that two lists are merged into has at most CHOWDERBELL_BOOK_MAX
+   bytes, and the report on paths whose keys differ at most CHOWDERBELL_REPORT_MAX: the row of a path has p + 35 bytes, if the path
+   has p, and each list has a line of at least p + 31 bytes with it. There are 95 paths of one byte, so 32768 bytes have room for 995
+   such lines with different paths, and 32768 + 4 * 995 is 36748. Two lists reach it. */
+#define CHOWDERBELL_LIST_MAX 32768
+#define CHOWDERBELL_REPORT_MAX 36748
 
 /* The bytes of every strip. */
 #define CHOWDERBELL_STRIP_LENGTH 50
@@ -240,6 +253,62 @@ uint8_t chowderbell_book_list(const uint8_t *book, size_t len, uint8_t *room, si
    before the cut-off, an older line of it may have been listed, and that line is gone.
    It uses some 28 KB of stack more than a check, for the paths that it has met and the places of the lines that stay. */
 uint8_t chowderbell_book_compact(const uint8_t *book, size_t len, uint8_t *room, size_t room_len, size_t *length, size_t *line);
+
+/* Two build machines keep a list each: a text of at most 32768 bytes that has `hull` lines only, as they are in a book, each with its
+   newline, with seconds that never fall from line to line. The empty list is good. A bad line of a list is any line that is not a
+   good `hull` line, so a `since` line is bad, and a last line without its newline. A line with fewer seconds than the line above it
+   is a step back, and refused too. Offsets and marks do not count. Lines are counted from 1, in each list.
+
+   The first of two lists is the first machine's, the second the second machine's. Where these functions store a machine, it is 1 or
+   2, or 0 if there is none to name.
+
+   A front line is the line that is next in a list: one good `hull` line with its newline, or nothing, if no line is left. Any other
+   text is bad: also two lines, a line without its newline, and a newline alone.
+
+   The three functions read first[0] to first[first_len - 1] and second[0] to second[second_len - 1] and no other byte. */
+
+/* Checks two front lines.
+     0   Neither is bad. An empty one is not bad. *machine and *line are set to 0.
+     12  One is bad. *machine is set to the machine whose line it is, 1 if both are bad, and *line to 1. */
+uint8_t chowderbell_fronts_check(const uint8_t *first, size_t first_len, const uint8_t *second, size_t second_len,
+                                 uint8_t *machine, size_t *line);
+
+/* Finds the earlier of two front lines, the one with fewer seconds. On a tie it is the first machine's. An empty front line loses.
+   It returns the length of the earlier line, with its newline, and sets *machine to the machine whose line it is: the line is
+   first[0] to first[first_len - 1] if that is 1, and second[0] to second[second_len - 1] if it is 2. Nothing is copied.
+   If both are empty, or if one of them is bad, it returns 0 and sets *machine to 0: a good line beside a bad one is not returned.
+   chowderbell_fronts_check tells these two cases apart. The value returned is a length and not a number of the table above. */
+size_t chowderbell_fronts_earlier(const uint8_t *first, size_t first_len, const uint8_t *second, size_t second_len,
+                                  uint8_t *machine);
+
+/* Merges two lists into one book, and reports the paths whose keys differ.
+
+   The merged book has every line of both lists, byte for byte. Seconds never fall in it. Of lines with the same seconds those of the
+   first machine come first. The lines of each machine keep their order. A line that both lists have is there twice.
+
+   The report has a row for each path that is in both lists, if the key in its last line of the first list differs from the key in
+   its last line of the second:
+
+     PATH  KEY of the first machine  KEY of the second machine
+
+   with tabs between and a newline after. Each such path is there once. The rows have the order in which their paths first come in
+   the merged book, from whichever machine. Two paths are the same if all their bytes are.
+
+   The merged book is written to the front of a room of book_len bytes, the report to the front of one of report_len bytes. The
+   merged book has first_len + second_len bytes. The report has no more than CHOWDERBELL_REPORT_MAX bytes, and no more than those of
+   the shorter list and an eighth. Two lists without a path in both need no room for a report.
+     0   book[0] to book[*book_length - 1] are the merged book, report[0] to report[*report_length - 1] the report, both without a
+         terminating zero. The bytes beyond them are as they were. *machine and *line are set to 0.
+     12  A list is not good. *machine is set to the machine whose list it is.
+         It is too long: *line is set to 0. The lengths of both lists are tested first, that of machine 1 before that of machine 2.
+         Or a line of it is bad or a step back: *line is set to the number of the first such line. The lines of machine 1 are tested
+         before those of machine 2.
+     8   Both lists are good, and the merged book or the report is longer than its room. *machine and *line are set to 0.
+   If it returns 8 or 12, *book_length and *report_length are set to 0, and every byte of both rooms is as it was.
+   The merged book is a good book. If it has at most 32768 bytes, it is also a good list. */
+uint8_t chowderbell_lists_merge(const uint8_t *first, size_t first_len, const uint8_t *second, size_t second_len, uint8_t *book,
+                                size_t book_len, uint8_t *report, size_t report_len, size_t *book_length, size_t *report_length,
+                                uint8_t *machine, size_t *line);
 
 /* A month's strip: what a calendar shows of one month, with a row for each week. Rows begin on Monday. The calendar is the proleptic
    Gregorian calendar of ISO 8601: year 0 is there, and is a leap year.

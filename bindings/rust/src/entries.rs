@@ -1,9 +1,9 @@
 //! The C entries themselves: numbers in, numbers out.
 //!
 //! Each function passes its arguments to an entry and does nothing else, so the caller sees what the entry left in
-//! `seconds`, `offset`, `mark`, `length`, `line` and `room`. The number 0 is success; the others are those of
+//! `seconds`, `offset`, `mark`, `length`, `machine`, `line` and `room`. The number 0 is success; the others are those of
 //! [`Refusal`](crate::Refusal). On a refusal `seconds`, `offset`, `mark` and `length` are 0, and `room` is not changed.
-//! `line` is 0 unless a book has a bad line. Every text, every book and every number has an answer.
+//! `line` is 0 unless a book or a list has a bad line. Every text, every book, every list and every number has an answer.
 //!
 //! The mark says of offset 0 that it is written `-0000`; [`Time::mark`](crate::Time::mark) has more on it. A reader stores 0
 //! if it is clear and 1 if it is set. To a writer any value but 0 means that it is set. The functions whose name does not
@@ -11,9 +11,9 @@
 
 // SAFETY, for every call in this file: each pointer comes from a reference or a slice that lives as long as the call, so
 // it is not null; a slice's pointer comes with its length; and what is written is borrowed mutably, so nothing overlaps
-// it. An entry reads at most the bytes of its text or its book, writes at most the bytes of its room and its outputs,
-// touches no other byte, keeps no pointer and always returns. All of that is proved. Not proved is how much stack a call
-// takes. In `chowderbell_relative_turns` it grows with the words of the text; `include/chowderbell.h` says how far.
+// it. An entry reads at most the bytes of its texts, its book or its lists, writes at most the bytes of its rooms and its
+// outputs, touches no other byte, keeps no pointer and always returns. All of that is proved. Not proved is how much stack a
+// call takes. In `chowderbell_relative_turns` it grows with the words of the text; `include/chowderbell.h` says how far.
 mod c {
     extern "C" {
         pub fn chowderbell_header(text: *const u8, len: usize, seconds: *mut i64, offset: *mut i32) -> u8;
@@ -110,6 +110,35 @@ mod c {
             room: *mut u8,
             room_len: usize,
             length: *mut usize,
+            line: *mut usize,
+        ) -> u8;
+        pub fn chowderbell_fronts_check(
+            first: *const u8,
+            first_len: usize,
+            second: *const u8,
+            second_len: usize,
+            machine: *mut u8,
+            line: *mut usize,
+        ) -> u8;
+        pub fn chowderbell_fronts_earlier(
+            first: *const u8,
+            first_len: usize,
+            second: *const u8,
+            second_len: usize,
+            machine: *mut u8,
+        ) -> usize;
+        pub fn chowderbell_lists_merge(
+            first: *const u8,
+            first_len: usize,
+            second: *const u8,
+            second_len: usize,
+            book: *mut u8,
+            book_len: usize,
+            report: *mut u8,
+            report_len: usize,
+            book_length: *mut usize,
+            report_length: *mut usize,
+            machine: *mut u8,
             line: *mut usize,
         ) -> u8;
         pub fn chowderbell_strip(year: i64, month: i64, room: *mut u8, len: usize, length: *mut usize) -> u8;
@@ -317,6 +346,61 @@ pub fn book_list(book: &[u8], room: &mut [u8], length: &mut usize, line: &mut us
 #[must_use]
 pub fn book_compact(book: &[u8], room: &mut [u8], length: &mut usize, line: &mut usize) -> u8 {
     unsafe { c::chowderbell_book_compact(book.as_ptr(), book.len(), room.as_mut_ptr(), room.len(), length, line) }
+}
+
+/// Checks two front lines, each a good `hull` line with its newline, or empty. Returns 0 or 12.
+///
+/// With 12, `machine` is the machine whose front line is bad, 1 before 2, and `line` is 1. Otherwise both are 0.
+#[inline]
+#[must_use]
+pub fn fronts_check(first: &[u8], second: &[u8], machine: &mut u8, line: &mut usize) -> u8 {
+    unsafe { c::chowderbell_fronts_check(first.as_ptr(), first.len(), second.as_ptr(), second.len(), machine, line) }
+}
+
+/// Finds the earlier of two front lines, the first machine's on a tie. Returns its length, with its newline.
+///
+/// `machine` is the machine whose line it is. If both front lines are empty, or one of them is bad, the length and `machine`
+/// are 0.
+#[inline]
+#[must_use]
+pub fn fronts_earlier(first: &[u8], second: &[u8], machine: &mut u8) -> usize {
+    unsafe { c::chowderbell_fronts_earlier(first.as_ptr(), first.len(), second.as_ptr(), second.len(), machine) }
+}
+
+/// Writes the book that two lists are merged into at the start of `book`, and the paths whose keys differ at the start of
+/// `report`. Returns 0, 8 or 12.
+///
+/// With 12, `machine` is the machine whose list is at fault, 1 or 2, and `line` its first line at fault, or 0 if the list is too
+/// long. Otherwise both are 0. On a refusal both lengths are 0, and neither room is changed.
+#[inline]
+#[must_use]
+#[allow(clippy::too_many_arguments)] // the entry has as many
+pub fn lists_merge(
+    first: &[u8],
+    second: &[u8],
+    book: &mut [u8],
+    report: &mut [u8],
+    book_length: &mut usize,
+    report_length: &mut usize,
+    machine: &mut u8,
+    line: &mut usize,
+) -> u8 {
+    unsafe {
+        c::chowderbell_lists_merge(
+            first.as_ptr(),
+            first.len(),
+            second.as_ptr(),
+            second.len(),
+            book.as_mut_ptr(),
+            book.len(),
+            report.as_mut_ptr(),
+            report.len(),
+            book_length,
+            report_length,
+            machine,
+            line,
+        )
+    }
 }
 
 /// Writes the strip of a month, [`strip::LENGTH`](crate::strip::LENGTH) bytes, at the start of `room`. Returns 0, 6 or 8.

@@ -9,6 +9,7 @@
 
 pub mod book;
 pub mod entries;
+pub mod lists;
 mod refusal;
 pub mod strip;
 mod time;

@@ -1,7 +1,7 @@
 use core::fmt;
 
-/// Why a text was not read, a time was not written, a book was not listed or compacted, or a month has no strip. The numbers
-/// are those of the C entries (RULES 2).
+/// Why a text was not read, a time was not written, a book was not listed or compacted, two lists were not merged, or a month
+/// has no strip. The numbers are those of the C entries (RULES 2).
 #[derive(Clone, Copy, PartialEq, Eq, Hash, Debug)]
 #[non_exhaustive]
 #[repr(u8)]
@@ -31,6 +31,9 @@ pub enum Refusal {
     /// 11: the number that opens a header or a raw date is too large for 64 bits: below [`i64::MIN`] or above
     /// [`i64::MAX`].
     TooLarge = 11,
+    /// 12: of the lists of two build machines, one has more than 32768 bytes, a bad line, or a line with fewer seconds than the
+    /// line above it; or one of two front lines is bad.
+    Lists = 12,
 }
 
 impl Refusal {
@@ -64,6 +67,7 @@ impl TryFrom<u8> for Refusal {
             8 => Refusal::Room,
             10 => Refusal::Book,
             11 => Refusal::TooLarge,
+            12 => Refusal::Lists,
             _ => return Err(UnknownNumber(number)),
         })
     }
@@ -84,6 +88,7 @@ impl fmt::Display for Refusal {
             Refusal::Room => "the room is shorter than the bytes to be written",
             Refusal::Book => "the book is too long or has a bad line",
             Refusal::TooLarge => "the number is too large for 64 bits",
+            Refusal::Lists => "a list is too long, or has a bad line or one that is earlier than the line above it",
         })
     }
 }

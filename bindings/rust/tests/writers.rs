@@ -124,12 +124,13 @@ fn refusals_have_numbers_and_words() {
         (8, Room),
         (10, Book),
         (11, TooLarge),
+        (12, Lists),
     ] {
         assert_eq!(refusal.number(), number);
         assert_eq!(Refusal::try_from(refusal.number()), Ok(refusal));
         assert!(!refusal.to_string().is_empty());
     }
-    for number in [0, 9, 12, 255] {
+    for number in [0, 9, 13, 255] {
         assert_eq!(Refusal::try_from(number), Err(UnknownNumber(number)));
         assert_eq!(UnknownNumber(number).to_string(), format!("{number} is not the number of a refusal"));
     }

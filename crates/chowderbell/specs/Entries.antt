@@ -1,5 +1,6 @@
 -- RULES 2.1, 5.8 and 5.10 for C: what the entries read as the current time, as the rule of raw dates and as a mark, and what they return
--- and store for the answer of a reader, with its mark or without, of a writer, of a check of a book and of its listing.
+-- and store for the answer of a reader, with its mark or without, of a writer, of a check of a book and of its listing, of a check of two
+-- lists and of their merge.
 -- Assumes nothing.
 use Prim.Native.Nat.{ℕ}
 use mathlib.Core.Path.{_≡_}
@@ -21,6 +22,10 @@ use Rattle.stamps.specs.Book.{checkedNumber, checkedLine}
 use Rattle.stamps.specs.Copies.{copiedNumber, copiedLength, copiedLine}
 use Rattle.stamps.specs.declared.book.Checked.{Checked}
 use Rattle.stamps.specs.declared.book.Copied.{Copied}
+use Rattle.merge.specs.Lists.{verdictNumber, verdictMachine, verdictLine}
+use Rattle.merge.specs.Merge.{mergedNumber, bookLength, reportLength, mergedMachine, mergedLine}
+use Rattle.merge.specs.declared.lists.Verdict.{Verdict}
+use Rattle.merge.specs.declared.Merged.{Merged}
 use Rattle.chowderbell.specs.declared.times.Named.{Named}
 use Rattle.chowderbell.specs.declared.times.Named.the-variants.{By, Nothing}
 
@@ -76,3 +81,17 @@ pub record HandedCopy (l : Copied) (number length line : ℕ) : Type 0 where
   pub number-is : number ≡ copiedNumber l
   pub length-is : length ≡ copiedLength l
   pub line-is : line ≡ copiedLine l
+
+-- a check of two lists, or of two front lines, returns the number of its answer and stores the machine and the line: 0 where there is none
+pub record HandedVerdict (v : Verdict) (number machine line : ℕ) : Type 0 where
+  pub number-is : number ≡ verdictNumber v
+  pub machine-is : machine ≡ verdictMachine v
+  pub line-is : line ≡ verdictLine v
+
+-- a merge returns the number of its answer and stores how many bytes it wrote to each room, the machine and the line: 0 where there is none
+pub record HandedMerge (m : Merged) (number book report machine line : ℕ) : Type 0 where
+  pub number-is : number ≡ mergedNumber m
+  pub book-is : book ≡ bookLength m
+  pub report-is : report ≡ reportLength m
+  pub machine-is : machine ≡ mergedMachine m
+  pub line-is : line ≡ mergedLine m

@@ -20,13 +20,19 @@ use Rattle.stamps.specs.Held.{FirstLine}
 use Rattle.stamps.specs.declared.line.Line.{Line}
 use Rattle.stamps.specs.declared.line.Line.the-variants.{Hull, Since, Bad as BadOne}
 use Rattle.stamps.specs.declared.line.Hull.{Hull as HullValue}
+use Rattle.stamps.proofs.Printed.{same-self, eq-of-same}
 use Rattle.stamps.specs.declared.line.First.{First as FirstValue}
-use Rattle.merge.specs.Fronts.{frontAt, frontOf}
-use Rattle.merge.specs.Held.{nextIs, nextOf}
+use Rattle.merge.specs.Lists.{orElse}
+use Rattle.merge.specs.Fronts.{frontAt, frontOf, earlierOf, earlierMachine, lineFrom, earlierLine, frontFault, frontsOf}
+use Rattle.merge.specs.Held.{nextIs, nextOf, whoseOf}
 use Rattle.merge.specs.declared.fronts.Front.{Front}
 use Rattle.merge.specs.declared.fronts.Front.the-variants.{Empty, At, Bad}
-use Rattle.merge.specs.declared.lists.Next.{Next}
+use Rattle.merge.specs.declared.lists.Machine.{Machine}
+use Rattle.merge.specs.declared.lists.Machine.the-variants.{Neither, First, Second}
+use Rattle.merge.specs.declared.lists.Fault.{Fault}
+use Rattle.merge.specs.declared.lists.Verdict.the-variants.{Good, Faulty}
 use Rattle.merge.specs.declared.lists.Next.the-variants.{Hull as NextHull, Nothing}
+use Rattle.merge.proofs.Orders.{leZ-turned}
 
 -- ---- the first line of a text
 module _ {bound : ℕ} {s : List ℕ} {first : FirstValue} (f : FirstLine bound s first) where
@@ -102,3 +108,58 @@ module _ (bound : ℕ) where
         by-line (Hull h) q = let w : _≡_ {A = ℕ} 0 1 = cc in absurd (omega arith)
         by-line (Since x) q = refl
         by-line BadOne q = refl
+
+-- ---- whose line was taken
+module _ (bound : ℕ) (a b : List ℕ) where
+  some-of-front : (s : List ℕ) (z : ℤ) → frontOf bound s ≡ At z → length s ≡ 0 → ⊥
+  some-of-front s z e none = let q : Empty ≡ At z = front-empty bound s none ∙ e in let w : _≡_ {A = ℕ} 0 1 = cc in omega arith
+
+  whose-first : (z : ℤ) → frontOf bound a ≡ At z → whoseOf a a ≡ First
+  unfolding whoseOf
+  whose-first z e = rw (ne-eqb (length a) 0 (some-of-front a z e), same-self a)
+
+  whose-second : (w : ℤ) → frontOf bound b ≡ At w → (frontOf bound b ≡ frontOf bound a → ⊥) → whoseOf b a ≡ Second
+  unfolding whoseOf
+  whose-second w e other =
+      rw (ne-eqb (length b) 0 (some-of-front b w e)) (by-test (same b a) (λ y. absurd (other (ap (frontOf bound) (eq-of-same b a y)))) (λ n. rw n))
+
+  whose-neither : whoseOf [] a ≡ Neither
+  unfolding whoseOf
+  whose-neither = refl
+
+  pub whose-earlier : whoseOf (earlierLine bound a b) a ≡ earlierMachine bound a b
+  unfolding earlierMachine
+  whose-earlier = by-fronts (frontOf bound a) (frontOf bound b) refl refl
+    where
+      by-fronts : (x y : Front) → frontOf bound a ≡ x → frontOf bound b ≡ y → whoseOf (lineFrom (earlierOf x y) a b) a ≡ earlierOf x y
+      by-fronts (At z) (At w) e f =
+          by-test (leZ z w) (λ y. rw y (whose-first z e))
+          (λ n.
+          let other : frontOf bound b ≡ frontOf bound a → ⊥ = λ q.
+          let alike : At w ≡ At z = sym f ∙ q ∙ e in
+          let same-seconds : w ≡ z = cc in
+          false≢true (sym n ∙ (λ i. leZ (sym same-seconds i) (same-seconds i)) ∙ leZ-turned z w n) in
+          rw n (whose-second w f other))
+      by-fronts (At z) Empty e f = whose-first z e
+      by-fronts (At z) Bad e f = whose-neither
+      by-fronts Empty (At w) e f = whose-second w f (λ q. let alike : At w ≡ Empty = sym f ∙ q ∙ e in let v : _≡_ {A = ℕ} 0 1 = cc in omega arith)
+      by-fronts Empty Empty e f = whose-neither
+      by-fronts Empty Bad e f = whose-neither
+      by-fronts Bad y e f = whose-neither
+
+  -- ---- beside a bad front line there is none that is the earlier: where the check refuses, the part is empty
+  pub beside-a-bad-front-line : (m : Machine) (fault : Fault) → frontsOf bound a b ≡ Faulty m fault → earlierLine bound a b ≡ []
+  unfolding earlierMachine frontsOf
+  beside-a-bad-front-line m fault = by-fronts (frontOf bound a) (frontOf bound b)
+    where
+      not-good : Good ≡ Faulty m fault → ⊥
+      not-good e = let v : _≡_ {A = ℕ} 0 1 = cc in omega arith
+
+      by-fronts : (x y : Front) → orElse (frontFault First x) (frontFault Second y) ≡ Faulty m fault → lineFrom (earlierOf x y) a b ≡ []
+      by-fronts (At z) (At w) e = absurd (not-good e)
+      by-fronts (At z) Empty e = absurd (not-good e)
+      by-fronts (At z) Bad e = refl
+      by-fronts Empty (At w) e = absurd (not-good e)
+      by-fronts Empty Empty e = refl
+      by-fronts Empty Bad e = refl
+      by-fronts Bad y e = refl

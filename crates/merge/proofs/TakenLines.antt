@@ -36,7 +36,7 @@ use Rattle.merge.specs.Fronts.{frontOf, earlierOf, earlierMachine, lineF
 use Rattle.merge.specs.Merge.{mergedLines}
 use Rattle.merge.specs.Theorems.{areHulls}
 use Rattle.merge.specs.Held.{frontAt}
-use Rattle.merge.specs.declared.fronts.Front.the-variants.{Empty, At} 
+use Rattle.merge.specs.declared.fronts.Front.the-variants.{Empty, At}
 use Rattle.merge.proofs.MergedLines.{mergedLines-nil-left, mergedLines-nil-right}
 use Rattle.merge.proofs.Orders.{leZ-turned}
 use Rattle.merge.proofs.LastKeys.{hull-of-line}
