@@ -132,10 +132,10 @@ module _ (bound : ℕ) (first second : List ℕ) (good : listsOf bound first sec
 
       module _ (number : ℕ) (number-is : number ≡ foundNumber first heads links places q) where
         abbrev row : List ℕ
-        row = rowFor q first places second others number (storedFor waiting number)
+        row = rowFor line first places second others number (storedFor waiting number)
 
         row-is : row ≡ cond isPut (rowOf bound ls ms q ++ newline ∷ []) []
-        row-is = row-put bound first second good heads links places others count table (m .waits) q some number number-is
+        row-is = row-put bound first second good heads links places others count table (m .waits) q some number number-is line refl
 
         -- the rows that are left begin with it
         rows-next : (m .rows-put ++ row) ++ rowsLeft (k ∷ m .above) i′ j′ ≡ report bound first second

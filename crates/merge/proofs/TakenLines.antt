@@ -1,5 +1,5 @@
 -- A line taken from two lists. In order: the front line of what is left of a list; it is read as what it is; the earlier of two front lines is the next
--- of the merged lines (`take-one`).
+-- of the merged lines (`take-one`); how far both lists are passed.
 -- Assumes nothing.
 use mathlib.Core.Path.{_≡_, refl, sym, ap, _∙_}
 use mathlib.Core.Bool.{Bool, true, false, cond, not, _&&_, false≢true}
@@ -221,3 +221,14 @@ module _ (bound : ℕ) (first second : List ℕ) (i j : ℕ) (a b line : List �
         ⊎-elim (λ y. absurd (⊎-elim (λ h. omega (arith, x .done)) (λ h. omega (arith, y .done)) some)) (λ y. only-second x y) (front-of-rest bound second j t b f))
         (λ x. ⊎-elim (λ y. only-first x y) (λ y. both-left x y) (front-of-rest bound second j t b f))
         (front-of-rest bound first i r a e)
+
+-- ---- how far both lists are passed: one of them by the n bytes of the line, the other not at all
+pub sizes-add-up : (b : Bool) (n r s : ℕ) → r ≡ cond b n 0 → s ≡ cond (not b) n 0 → r + s ≡ n
+sizes-add-up true n r s e f = omega (arith, e, f)
+sizes-add-up false n r s e f = omega (arith, e, f)
+
+module _ (bound : ℕ) (first second : List ℕ) (i j : ℕ) (line : List ℕ) where
+  pub step-by : (b : Bool) (n r s : ℕ) → r ≡ cond b n 0 → s ≡ cond (not b) n 0
+      → (b ≡ true → Step bound first second i j line (i + n) j) → (b ≡ false → Step bound first second i j line i (j + n)) → Step bound first second i j line (i + r) (j + s)
+  step-by true n r s e f from-first from-second = let g : j + s ≡ j = omega (arith, f) in rw (e, g) (from-first refl)
+  step-by false n r s e f from-first from-second = let g : i + r ≡ i = omega (arith, e) in rw (f, g) (from-second refl)

@@ -60,9 +60,9 @@ module _ (bound : ℕ) (second others p : List ℕ) where
   stored-size false n k h = rw (eq-eqb n 0 h)
 
 -- ---- the row for a number of the first list, as it is put
-module _ (path first places second others waiting : List ℕ) (number : ℕ) where
+module _ (line first places second others waiting : List ℕ) (number : ℕ) where
   abbrev rowHere : List ℕ
-  rowHere = rowFor path first places second others number (storedFor waiting number)
+  rowHere = rowFor line first places second others number (storedFor waiting number)
 
   pub no-number : number ≡ 0 → (rowHere ≡ []) × (waiting ≡ without waiting number)
   no-number z = (rw z, rw z)
@@ -81,7 +81,7 @@ module _ (path first places second others waiting : List ℕ) (number : ℕ) whe
     row-none z = rw (ne-eqb number 0 some, eq-eqb (getD waiting (number - 1) 0) 0 z)
 
     pub row-some : (getD waiting (number - 1) 0 ≡ 0 → ⊥)
-        → rowWith path (keyAt (drop (getD places (number - 1) 0) first)) (keyAt (drop (getD others (getD waiting (number - 1) 0 - 1) 0) second)) ≡ rowHere
+        → rowWith (pathAt line) (keyAt (drop (getD places (number - 1) 0) first)) (keyAt (drop (getD others (getD waiting (number - 1) 0 - 1) 0) second)) ≡ rowHere
     row-some n = rw (ne-eqb number 0 some, ne-eqb (getD waiting (number - 1) 0) 0 n)
 
 -- nothing is put
@@ -260,20 +260,20 @@ module _ (bound : ℕ) (first second : List ℕ) (good : listsOf bound first sec
           by-waiting false h = omega (arith, h)
 
       -- the row is that of the path
-      pub row-put : rowFor q first places second others number value ≡ cond (isWaiting above q) (rowOf bound ls ms q ++ newline ∷ []) []
+      pub row-put : (line : List ℕ) → q ≡ pathAt line → rowFor line first places second others number value ≡ cond (isWaiting above q) (rowOf bound ls ms q ++ newline ∷ []) []
       unfolding rowOf
-      row-put = by-waiting (isWaiting above q) stored-value
+      row-put line path-is = by-waiting (isWaiting above q) stored-value
         where
           by-number : (m : ℕ) → number ≡ m → Stored bound second others q true value
-              → rowWith q (keyAt (drop (getD places (number - 1) 0) first)) (keyAt (drop (getD others (value - 1) 0) second)) ≡ rowOf bound ls ms q ++ newline ∷ []
+              → rowWith (pathAt line) (keyAt (drop (getD places (number - 1) 0) first)) (keyAt (drop (getD others (value - 1) 0) second)) ≡ rowOf bound ls ms q ++ newline ∷ []
           by-number zero z h = absurd (omega (arith, h .0, ap (storedFor waiting) z))
           by-number (suc m) z h =
               let back : number - 1 ≡ m = omega (arith, z) in
               let key-is : keyAt (drop (getD places (number - 1) 0) first) ≡ lastKey bound q ls =
               ap (λ (k : ℕ). keyAt (drop (getD places k 0) first)) back ∙ sym (found-key bound first heads links places count (is-first .hulls) table q some m (sym number-is ∙ z)) in
-              λ i. rowWith q (key-is i) (h .2 i)
+              λ i. rowWith (sym path-is i) (key-is i) (h .2 i)
 
-          by-waiting : (b : Bool) → Stored bound second others q b value → rowFor q first places second others number value ≡ cond b (rowOf bound ls ms q ++ newline ∷ []) []
+          by-waiting : (b : Bool) → Stored bound second others q b value → rowFor line first places second others number value ≡ cond b (rowOf bound ls ms q ++ newline ∷ []) []
           by-waiting true h = rw (ne-eqb value 0 (λ z. omega (arith, h .0))) (by-number number refl h)
           by-waiting false h = rw (eq-eqb value 0 h)
 

@@ -64,10 +64,10 @@ pub record AllWait (bound : ℕ) (first places second others : List ℕ) (count 
       → let p = pathAt (drop (getD places k 0) first) in
       Stored bound second others p (isDiffering bound (endedLines first) (endedLines second) p) (getD waiting k 0)
 
--- the row of the kept line with number k, if it waits
+-- the row of a line's path, which is that of the kept line with number k, if it waits
 abbrev pub rowFor : List ℕ → List ℕ → List ℕ → List ℕ → List ℕ → ℕ → ℕ → List ℕ
-rowFor path first places second others k n =
-    cond (eqb n 0) [] (rowWith path (keyAt (drop (getD places (k - 1) 0) first)) (keyAt (drop (getD others (n - 1) 0) second)))
+rowFor line first places second others k n =
+    cond (eqb n 0) [] (rowWith (pathAt line) (keyAt (drop (getD places (k - 1) 0) first)) (keyAt (drop (getD others (n - 1) 0) second)))
 
 -- the number that is stored for the kept line with number k; for number 0, which is none, nothing waits
 abbrev pub storedFor : List ℕ → ℕ → ℕ

@@ -6,7 +6,7 @@ ghost use mathlib.Core.Path.{_≡_};
 ghost use mathlib.Core.Bool.{cond};
 ghost use Prim.Native.Nat.{ℕ, _+_, _≤_};
 ghost use lib.Dec.{eqb};
-ghost use lib.ListN.{length};
+ghost use lib.ListN.{length, drop};
 ghost use Rattle.relative.specs.Relative.{maxPairs};
 ghost use Rattle.text.specs.Lines.{endedLines};
 ghost use Rattle.text.specs.Room.{putAt};
@@ -78,24 +78,25 @@ fn other_of(s: &[u8], second: &[u8], heads: &[u16], links: &[u16], others: &[u16
     if n == 0 {
         return 0;
     }
-    if bytes::same(key_at(s), key_at(cut::from(second, others[n - 1] as usize))) {
+    if bytes::same(key_at(s, 0), key_at(second, others[n - 1] as usize)) {
         return 0;
     }
     n
 }
 
-// The key of the `hull` line at the front of `s`: it follows the tab behind the path.
-fn key_at(s: &[u8]) -> &[u8]
-    ensures { λ r. ⌜ now r ≡ keyAt (now (s .entry)) ⌝ }
+// The key of the `hull` line at a place of a text: it follows the tab behind the path.
+fn key_at(text: &[u8], at: usize) -> &[u8]
+    ensures { λ r. ⌜ now r ≡ keyAt (drop at (now (text .entry))) ⌝ }
 {
+    let s = cut::from(text, at);
     let path = table::path_at(s);
     cut::up_to(cut::from(s, line::PATH_START + (path.len() + 1)), line::KEY)
 }
 
-// Puts the row of a path into the report if it waits, from place `at` on, and returns the place past it.
-// The path has this number among the kept lines of the first list, or 0.
+// Puts the row of a line's path into the report if it waits, from place `at` on, and returns the place
+// past it. The path has this number among the kept lines of the first list, or 0.
 pub fn put_row_if_waiting(
-    path: &[u8],
+    taken: &[u8],
     number: usize,
     first: &[u8],
     places: &[u16],
@@ -106,9 +107,9 @@ pub fn put_row_if_waiting(
     report: &mut [u8],
 ) -> usize
     requires { ⌜ (number ≤ length (now places)) × (number ≤ length (now waiting)) × (storedFor (now waiting) number ≤ length (now others)) ⌝ }
-    requires { ⌜ at + length (rowFor (now path) (now first) (now places) (now second) (now others) number (storedFor (now waiting) number)) ≤ length (now report) ⌝ }
-    ensures { λ r. ⌜ r ≡ at + length (rowFor (now (path .entry)) (now (first .entry)) (now (places .entry)) (now (second .entry)) (now (others .entry)) number (storedFor (now (waiting .entry)) number)) ⌝ }
-    ensures { λ _. ⌜ now (report .exit) ≡ putAt (rowFor (now (path .entry)) (now (first .entry)) (now (places .entry)) (now (second .entry)) (now (others .entry)) number (storedFor (now (waiting .entry)) number)) at (now (report .entry)) ⌝ }
+    requires { ⌜ at + length (rowFor (now taken) (now first) (now places) (now second) (now others) number (storedFor (now waiting) number)) ≤ length (now report) ⌝ }
+    ensures { λ r. ⌜ r ≡ at + length (rowFor (now (taken .entry)) (now (first .entry)) (now (places .entry)) (now (second .entry)) (now (others .entry)) number (storedFor (now (waiting .entry)) number)) ⌝ }
+    ensures { λ _. ⌜ now (report .exit) ≡ putAt (rowFor (now (taken .entry)) (now (first .entry)) (now (places .entry)) (now (second .entry)) (now (others .entry)) number (storedFor (now (waiting .entry)) number)) at (now (report .entry)) ⌝ }
     ensures { λ _. ⌜ now (waiting .exit) ≡ without (now (waiting .entry)) number ⌝ }
 {
     if number == 0 {
@@ -119,9 +120,10 @@ pub fn put_row_if_waiting(
     if other == 0 {
         return at;
     }
-    let key = key_at(cut::from(first, places[number - 1] as usize));
-    let other_key = key_at(cut::from(second, others[other - 1] as usize));
-    put_row(path, key, other_key, at, report)
+    let place = places[number - 1] as usize;
+    let key = key_at(first, place);
+    let other_key = key_at(second, others[other - 1] as usize);
+    put_row(table::path_at(taken), key, other_key, at, report)
 }
 
 // Puts a row from place `at` on.

@@ -13,6 +13,7 @@ ghost use Rattle.merge.specs.declared.lists.Verdict.the-variants.{Good};
 use crate::fronts;
 use crate::keys;
 use compact::table;
+use stamps::book as stamped;
 use text::bytes;
 use text::copy;
 use text::places as cut;
@@ -42,12 +43,12 @@ pub fn take_lines<'a>(
     let mut told: usize = 0;
     while (i < first.len()) | (j < second.len()) {
         let front = front_at(first, i);
-        let line = fronts::earlier(front, front_at(second, j));
+        let other = front_at(second, j);
+        let line = fronts::earlier(front, other);
         written = copy::put_part(line, written, book);
-        let path = table::path_at(line);
-        let number = table::find(first, path, heads, links, places);
+        let number = table::find(first, table::path_at(line), heads, links, places);
         told = keys::put_row_if_waiting(
-            path,
+            line,
             number,
             first,
             places,
@@ -59,11 +60,9 @@ pub fn take_lines<'a>(
         );
         // A line of the second machine is taken only if its seconds are smaller, so it is not the same
         // as the first machine's front line.
-        if bytes::same(line, front) {
-            i += line.len();
-        } else {
-            j += line.len();
-        }
+        let from_first = bytes::same(line, front);
+        i += stamped::size_if(from_first, line.len());
+        j += stamped::size_if(!from_first, line.len());
     }
 }
 

@@ -1,5 +1,5 @@
--- A page that is written from its end to its front: what it holds from a place on, after each write in front of that place. In order: a
--- text; one blank more; one day more; a row; one row more; the title; the page. Then lengths: of a row, of a month's name, of a heading, of rows, of a title.
+-- A page that is written from its end to its front: what it holds from a place on, after each write in front of that place. In order:
+-- one blank more; one day more; a row; one row more; the title; the page. Then lengths: of a row, of a month's name, of a heading, of rows, of a title.
 -- Assumes nothing.
 use mathlib.Core.Path.{_≡_, refl, ap, _∙_}
 use mathlib.Core.List.{List, [], _∷_, _++_, append-assoc, append-nil}
@@ -11,27 +11,16 @@ use borrow.Author.Tests.{ne-eqb, leb-true}
 use lib.Dec.{eqb, leb}
 use lib.IntN.{ℤ}
 use lib.ListN.{length, length-append, length-take, length-replicate, take, drop, getD, replicate}
-use lib.Seq.{drop-at, drop-drop, drop-length, length-take-le}
+use lib.Seq.{drop-drop, drop-length}
 use Rattle.text.specs.Bytes.{isSpace}
 use Rattle.text.specs.Words.{words, pieces, full}
 use Rattle.text.specs.Decimal.{signed}
 use Rattle.text.specs.Lines.{newline}
-use Rattle.text.specs.Room.{putAt}
 use Rattle.text.proofs.Lists.{both, by-test, drop-sub-one}
 use Rattle.strip.specs.declared.Strip.{Strip}
 use Rattle.monthstrip.specs.Page.{blank, cell, cells, row, rows, dayNames, monthNames, monthName, heading, title, pageOf}
 
 -- ---- what is written
--- bytes that are put at place i
-pub drop-put : (l t r : List ℕ) (i : ℕ) → r ≡ take i l ++ t → i ≤ length l → drop i r ≡ t
-drop-put l t r i e h = ap (drop i) e ∙ drop-at (take i l) t i (length-take-le i l h)
-
--- a text in front of place e
-pub drop-putAt : (t l r : List ℕ) (e : ℕ) → r ≡ putAt t (e - length t) l → length t ≤ e → e ≤ length l → drop (e - length t) r ≡ t ++ drop e l
-drop-putAt t l r e p h k =
-    let n : e - length t + length t ≡ e = omega arith in
-    drop-put l (t ++ drop (e - length t + length t) l) r (e - length t) (p ∙ append-assoc (take (e - length t) l) t (drop (e - length t + length t) l)) (omega arith) ∙ ap (λ (j : ℕ). t ++ drop j l) n
-
 -- one blank more
 pub blank-more : (n left : ℕ) (u v w : List ℕ) → 0 < left → left ≤ n → v ≡ replicate (n - left) blank ++ u → w ≡ blank ∷ v → w ≡ replicate (n - (left - 1)) blank ++ u
 blank-more n left u v w p h e f =

@@ -225,7 +225,7 @@ pub fn is_at_or_after(cut_off: Integer, seconds: i64) -> bool
 }
 
 // How many bytes a line adds to the listing: its size if it is listed, else none.
-fn size_if(listed: bool, size: usize) -> usize
+pub fn size_if(listed: bool, size: usize) -> usize
     ensures { λ r. ⌜ r ≡ cond listed size 0 ⌝ }
 {
     if listed {

@@ -97,6 +97,12 @@ pub fn write_out(program: &[u8], s: &[u8]) -> bool {
     write_whole(program, b"standard output", STDOUT_FILENO, s)
 }
 
+// The same for standard error, where `s` is an answer and not a message. If a write fails, there may be
+// nowhere to say so.
+pub fn write_error(program: &[u8], s: &[u8]) -> bool {
+    write_whole(program, b"standard error", STDERR_FILENO, s)
+}
+
 // Writes all of `s` in the same way to what `name` names, by its descriptor. The kit's `io::write_all`
 // gives up at the first interrupted write and does not say how much it wrote, so the loop is here. A
 // proved loop has to end: it counts its writes down from a number that no run uses up.

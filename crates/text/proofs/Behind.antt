@@ -1,12 +1,12 @@
 -- Bytes put into a room, one part behind the other. In order: one put and the length that it leaves; a second put right behind the first;
--- parts put one behind the other from the front on (`Front`).
+-- parts put one behind the other from the front on (`Front`); the room from a place on.
 -- Assumes nothing.
 use mathlib.Core.Path.{_≡_, sym, ap, _∙_}
 use mathlib.Core.List.{List, _++_, append-assoc}
-use Prim.Native.Nat.{ℕ, _+_, _≤_}
+use Prim.Native.Nat.{ℕ, _+_, _-_, _≤_}
 use native.Mathlib.Omega.{arith}
 use lib.ListN.{length, take, drop, length-append, length-drop}
-use lib.Seq.{length-take-le, take-at, drop-append-add, drop-drop}
+use lib.Seq.{length-take-le, take-at, drop-at, drop-append-add, drop-drop}
 use Rattle.text.specs.Room.{putAt}
 
 -- the room up to the end of what is put
@@ -48,3 +48,14 @@ front-room x {p} {l} f h = omega (arith, f .place, ap length (f .is), length-put
 
 pub front-whole : {p l r : List ℕ} {at : ℕ} → Front p l r at → r ≡ p ++ drop (length p) l
 front-whole {p} {l} f = let z : 0 + length p ≡ length p = omega arith in f .is ∙ ap (λ (n : ℕ). p ++ drop n l) z
+
+-- ---- the room from a place on
+-- bytes that are put at place i
+pub drop-put : (l t r : List ℕ) (i : ℕ) → r ≡ take i l ++ t → i ≤ length l → drop i r ≡ t
+drop-put l t r i e h = ap (drop i) e ∙ drop-at (take i l) t i (length-take-le i l h)
+
+-- a text in front of place e
+pub drop-putAt : (t l r : List ℕ) (e : ℕ) → r ≡ putAt t (e - length t) l → length t ≤ e → e ≤ length l → drop (e - length t) r ≡ t ++ drop e l
+drop-putAt t l r e p h k =
+    let n : e - length t + length t ≡ e = omega arith in
+    drop-put l (t ++ drop (e - length t + length t) l) r (e - length t) (p ∙ append-assoc (take (e - length t) l) t (drop (e - length t + length t) l)) (omega arith) ∙ ap (λ (j : ℕ). t ++ drop j l) n

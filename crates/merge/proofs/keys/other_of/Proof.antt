@@ -34,13 +34,12 @@ within c =
     omega (arith, number c, number-le maxPairs (start .args .second .now) (start .args .heads .now) (start .args .links .now) (start .args .others .now) (start .pre .0) table p, table .few)
 
 -- whether the keys are the same
-keys : (c : tie.After-same) → let at-find = c .before .before .before .before .before .before in
+keys : (c : tie.After-same) → let at-find = c .before .before .before .before .before in
     let start = from-find at-find in
     c .same .result ≡ same (keyAt (start .args .s .now)) (keyAt (drop (getD (start .args .others .now) (at-find .find .result - 1) 0) (start .args .second .now)))
 keys c =
-    let at-other = c .before in
-    let own = at-other .before .before .before .key-at .ensures in
-    let other = at-other .key-at2 .ensures ∙ ap keyAt (at-other .before .from .ensures) in
+    let own = c .before .before .before .key-at .ensures in
+    let other = c .before .key-at2 .ensures in
     c .same .ensures ∙ (λ i. same (own i) (other i))
 
 pub other-of-spec : {M : Type 1} → statement M
@@ -57,12 +56,11 @@ other-of-spec =
     (λ c. record { fits = omega (arith, c .shared-slice-known6 .given (c .before .before .before .find .result - 1) .fits) })
     (λ c κs. search needs)
     (λ c κs. search needs)
-    (λ c κs. search needs)
     (λ c.
     let at-same = c .before in
-    let at-find = at-same .before .before .before .before .before .before in
-    (other-same _ _ _ _ _ _ (number at-find) (at-same .before .before .before .before .before .if1 .left) (sym (keys at-same) ∙ c .if2 .taken), omega arith))
+    let at-find = at-same .before .before .before .before .before in
+    (other-same _ _ _ _ _ _ (number at-find) (at-same .before .before .before .before .if1 .left) (sym (keys at-same) ∙ c .if2 .taken), omega arith))
     (λ c.
     let at-same = c .before in
-    let at-find = at-same .before .before .before .before .before .before in
-    (other-differs _ _ _ _ _ _ (number at-find) (at-same .before .before .before .before .before .if1 .left) (sym (keys at-same) ∙ c .if2 .left), within at-find)))
+    let at-find = at-same .before .before .before .before .before in
+    (other-differs _ _ _ _ _ _ (number at-find) (at-same .before .before .before .before .if1 .left) (sym (keys at-same) ∙ c .if2 .left), within at-find)))

@@ -2,7 +2,7 @@
 -- report. The measure is how much is left of both lists.
 -- Assumes nothing.
 use mathlib.Core.Path.{_≡_, refl, sym, ap, _∙_}
-use mathlib.Core.Bool.{true, false, _||_, false≢true}
+use mathlib.Core.Bool.{true, false, cond, not, _||_, false≢true}
 use mathlib.Core.Logic.{_⊎_, inl, inr}
 use mathlib.Core.List.{List, [], _∷_}
 use Prim.Native.Nat.{ℕ, _+_, _-_, _≤_, _<_}
@@ -13,16 +13,14 @@ use lib.Dec.{ltb}
 use lib.ListN.{length, length-append}
 use Rattle.text.specs.Bytes.{same}
 use Rattle.text.specs.Lines.{newline}
-use Rattle.text.specs.Room.{putAt}
 use Rattle.text.proofs.Lists.{by-test}
 use Rattle.relative.specs.Relative.{maxPairs}
 use Rattle.compact.specs.Held.{pathAt, foundNumber, IsTable}
 use Rattle.merge.specs.Lists.{maxList, listsOf}
-use Rattle.merge.specs.Held.{rowFor, storedFor}
 use Rattle.merge.specs.declared.lists.Verdict.the-variants.{Good}
 use Rattle.merge.proofs.Checked.{IsList, lists-good}
 use Rattle.merge.proofs.WaitingRows.{length-without}
-use Rattle.merge.proofs.TakenLines.{Step, Taken, take-one}
+use Rattle.merge.proofs.TakenLines.{Step, Taken, take-one, sizes-add-up, step-by}
 use Rattle.merge.proofs.MergePass.{Merging, merging-start, merging-end, same-lengths, book-room, report-room, number-fits, merging-again}
 use Rattle.merge.proofs.taking.take_lines.Statement.{statement}
 use Rattle.merge.proofs.taking.take_lines.Tie as tie
@@ -101,10 +99,9 @@ put-row-if-waiting-requires c κs =
     let start = start-of at-loop in
     let inv = at-loop .loop .inv in
     let next = step at-earlier in
-    let line = at-earlier .earlier .result .now in
-    let row = ap (λ (p : List ℕ). length (rowFor p (start .args .first .now) (start .args .places .now) (start .args .second .now) (start .args .others .now) (at-find .find .result) (storedFor (at-loop .loop .waiting) (at-find .find .result)))) (at-find .before .path-at .ensures) in (
+    let line = at-earlier .earlier .result .now in (
       number-fits maxPairs (start .args .first .now) (start .args .second .now) (inv .0) (start .args .heads .now) (start .args .links .now) (start .args .places .now) (start .args .others .now) (inv .1) (inv .2) (inv .3) (start .pre .1 .1 .0) (start .pre .1 .1 .1) line (next .0) (next .1) (next .2) (at-find .find .result) (number at-find),
-      omega (arith, row, report-room maxPairs (start .args .first .now) (start .args .second .now) (inv .0) (start .args .heads .now) (start .args .links .now) (start .args .places .now) (start .args .others .now) (inv .1) (inv .2) (inv .3) (start .pre .1 .1 .0) (start .pre .1 .1 .1) line (next .0) (next .1) (next .2) (at-find .find .result) (number at-find)),
+      report-room maxPairs (start .args .first .now) (start .args .second .now) (inv .0) (start .args .heads .now) (start .args .links .now) (start .args .places .now) (start .args .others .now) (inv .1) (inv .2) (inv .3) (start .pre .1 .1 .0) (start .pre .1 .1 .1) line (next .0) (next .1) (next .2) (at-find .find .result) (number at-find),
     )
 
 -- ---- by one line more
@@ -131,28 +128,40 @@ again c i j st =
     let inv = at-loop .loop .inv in
     let line = earlier-of c .earlier .result .now in
     let number-found = at-find .find .result in
-    let rowOf : List ℕ → List ℕ = λ p. rowFor p (start .args .first .now) (start .args .places .now) (start .args .second .now) (start .args .others .now) number-found (storedFor (at-loop .loop .waiting) number-found) in
-    let path-is = at-find .before .path-at .ensures in
     let told = at-row .put-row-if-waiting .ensures in (
       inv .0,
       inv .1,
       inv .2,
       merging-again maxPairs (start .args .first .now) (start .args .second .now) (inv .0) (start .args .heads .now) (start .args .links .now) (start .args .places .now) (start .args .others .now) (inv .1) (inv .2) (inv .3) (start .pre .1 .1 .0) (start .pre .1 .1 .1) line i j st number-found (number at-find) _ _ _ _ _
           (at-put .put-part .ensures .1) (at-put .put-part .ensures .0)
-          (told .1 .0 ∙ ap (λ (p : List ℕ). putAt (rowOf p) (at-loop .loop .told) (at-loop .loop .report)) path-is)
-          (told .0 ∙ ap (λ (p : List ℕ). at-loop .loop .told + length (rowOf p)) path-is) (told .1 .1),
+          (told .1 .0) (told .0) (told .1 .1),
       ap length (told .1 .1) ∙ length-without [] [] [] [] [] (at-loop .loop .waiting) number-found ∙ inv .4,
     )
 
--- a line of the first machine
-first-step : (c : tie.After-same Inv-loop μ-loop) → c .same .result ≡ true → let at-loop = loop-of (earlier-of c) in
-    let start = start-of at-loop in Step maxPairs (start .args .first .now) (start .args .second .now) (at-loop .loop .i) (at-loop .loop .j) (earlier-of c .earlier .result .now) (at-loop .loop .i + length (earlier-of c .earlier .result .now)) (at-loop .loop .j)
-first-step c y = taken (earlier-of c) .0 (sym (c .same .ensures) ∙ y)
+-- how far both lists are passed: one of them by the line, the other not at all
+passed : (c : tie.After-same Inv-loop μ-loop) → let at-loop = loop-of (earlier-of c) in
+    let start = start-of at-loop in
+    let n = length (earlier-of c .earlier .result .now) in (r s : ℕ) → r ≡ cond (c .same .result) n 0 → s ≡ cond (not (c .same .result)) n 0
+    → Step maxPairs (start .args .first .now) (start .args .second .now) (at-loop .loop .i) (at-loop .loop .j) (earlier-of c .earlier .result .now) (at-loop .loop .i + r) (at-loop .loop .j + s)
+passed c r s r-is s-is =
+    let at-loop = loop-of (earlier-of c) in
+    let start = start-of at-loop in
+    step-by maxPairs (start .args .first .now) (start .args .second .now) (at-loop .loop .i) (at-loop .loop .j) (earlier-of c .earlier .result .now) (c .same .result) _ r s r-is s-is
+    (λ y. taken (earlier-of c) .0 (sym (c .same .ensures) ∙ y)) (λ n. taken (earlier-of c) .1 (sym (c .same .ensures) ∙ n))
 
--- and of the second
-second-step : (c : tie.After-same Inv-loop μ-loop) → c .same .result ≡ false → let at-loop = loop-of (earlier-of c) in
-    let start = start-of at-loop in Step maxPairs (start .args .first .now) (start .args .second .now) (at-loop .loop .i) (at-loop .loop .j) (earlier-of c .earlier .result .now) (at-loop .loop .i) (at-loop .loop .j + length (earlier-of c .earlier .result .now))
-second-step c n = taken (earlier-of c) .1 (sym (c .same .ensures) ∙ n)
+step-done : (c : tie.After-size-if2 Inv-loop μ-loop) → let at-same = c .before .before in
+    let at-loop = loop-of (earlier-of at-same) in
+    let start = start-of at-loop in
+    Step maxPairs (start .args .first .now) (start .args .second .now) (at-loop .loop .i) (at-loop .loop .j) (earlier-of at-same .earlier .result .now) (at-loop .loop .i + c .before .size-if .result) (at-loop .loop .j + c .size-if2 .result)
+step-done c = passed (c .before .before) _ _ (c .before .size-if .ensures) (c .size-if2 .ensures)
+
+-- what is left is less
+loop-less : tie.Need-loop-less Inv-loop μ-loop
+loop-less c =
+    let at-same = c .before .before in
+    let st = step-done c in
+    let sum = sizes-add-up (at-same .same .result) _ _ _ (c .before .size-if .ensures) (c .size-if2 .ensures) in
+    omega (arith, st .first-rest .within, st .second-rest .within, sum, size-pos (earlier-of at-same))
 
 -- both lists are short
 short : (c : tie.After-same Inv-loop μ-loop) → let start = start-of (loop-of (earlier-of c)) in (length (start .args .first .now) ≤ maxList) × (length (start .args .second .now) ≤ maxList)
@@ -191,12 +200,12 @@ take-lines-spec =
     (λ c κs. let inv = c .before .before .before .before .before .before .before .before .before .loop .inv in (inv .1, inv .2))
     put-row-if-waiting-requires
     (λ c κs. search needs)
-    (λ c. record { fits = omega (arith, first-step (c .before) (c .if1 .taken) .first-rest .within, short (c .before) .0) })
-    (λ c. omega (arith, first-step (c .before) (c .if1 .taken) .first-rest .within, size-pos (earlier-of (c .before))))
-    (λ c. again (c .before) _ _ (first-step (c .before) (c .if1 .taken)))
-    (λ c. record { fits = omega (arith, second-step (c .before) (c .if1 .left) .second-rest .within, short (c .before) .1) })
-    (λ c. omega (arith, second-step (c .before) (c .if1 .left) .second-rest .within, size-pos (earlier-of (c .before))))
-    (λ c. again (c .before) _ _ (second-step (c .before) (c .if1 .left)))
+    (λ c κs. search needs)
+    (λ c. record { fits = omega (arith, passed (c .before) _ _ (c .size-if .ensures) refl .first-rest .within, short (c .before) .0) })
+    (λ c κs. search needs)
+    (λ c. record { fits = omega (arith, step-done c .second-rest .within, short (c .before .before) .1) })
+    loop-less
+    (λ c. again (c .before .before) _ _ (step-done c))
     (λ c. c .before .loop .inv .4)
     (λ c. lengths (c .before) .0)
     (λ c. lengths (c .before) .1)

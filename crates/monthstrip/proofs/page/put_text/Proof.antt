@@ -1,7 +1,7 @@
 -- `monthstrip::page::put_text` meets its contract.
 -- Assumes nothing.
 use native.Mathlib.Omega.{arith}
-use Rattle.monthstrip.proofs.Pages.{drop-putAt}
+use Rattle.text.proofs.Behind.{drop-putAt}
 use borrow.Author.Needs.{needs}
 use Rattle.monthstrip.proofs.page.put_text.Statement.{statement}
 use Rattle.monthstrip.proofs.page.put_text.Tie as tie

@@ -11,7 +11,7 @@ use mir.Facts.{toZ-ofZ}
 use Rattle.ints.proofs.Machine.{natAbs-le-of-SFits}
 use Rattle.text.specs.Decimal.{signed}
 use Rattle.text.proofs.Signed.{length-signed-le, signedBefore-append}
-use Rattle.monthstrip.proofs.Pages.{drop-put}
+use Rattle.text.proofs.Behind.{drop-put}
 use borrow.Author.Needs.{needs}
 use Rattle.monthstrip.proofs.page.put_year.Statement.{statement}
 use Rattle.monthstrip.proofs.page.put_year.Tie as tie
