@@ -1,6 +1,6 @@
 -- RULES 12.5: two answers that meet the contract of a public call are equal. Each statement is about the contract itself: `Post` is what
 -- the `ensures` lines of a call say, in the form that the proofs of its callers use. At exit `e .0` is the first parameter, `e .1 .0` the
--- second, `e .1 .1 .0` the third. In order: times; writers; readers; books of stamps; a month's strip; the entries for C; the calendar; the number at the
+-- second, `e .1 .1 .0` the third. In order: times; writers; readers; books of stamps; a month's strip; the entries for C; lists of two machines; the calendar; the number at the
 -- start of a text. Not here: the other calls of `text`, each of which has an equation for its result, and `lines`.
 -- Assumes nothing.
 use mathlib.Core.Path.{_≡_}
@@ -13,9 +13,11 @@ use Rattle.time.specs.declared.Answer.{Answer}
 use Rattle.time.specs.declared.Written.{Written}
 use Rattle.stamps.specs.declared.book.Checked.{Checked}
 use Rattle.stamps.specs.declared.book.Copied.{Copied}
+use Rattle.merge.specs.declared.lists.Verdict.{Verdict}
+use Rattle.merge.specs.declared.Merged.{Merged}
 use Rattle.dates.specs.Contracts.{OneAnswer, OneAnswerAnd}
 use Rattle.dates.proofs.Contracts.{one-answer}
-use Rattle.chowderbell.specs.Entries.{HandedOut, HandedMarked, HandedLength, HandedCheck, HandedCopy}
+use Rattle.chowderbell.specs.Entries.{HandedOut, HandedMarked, HandedLength, HandedCheck, HandedCopy, HandedVerdict, HandedMerge}
 use Rattle.time.proofs.Time.new.Reads as time-new
 use Rattle.time.proofs.Time.with_mark.Reads as time-with-mark
 use Rattle.time.proofs.Time.smallest.Reads as smallest
@@ -61,6 +63,10 @@ use Rattle.stamps.proofs.book.list.Reads as book-list
 use Rattle.stamps.proofs.book.list_with.Reads as book-list-with
 use Rattle.compact.proofs.compact.Reads as book-compact
 use Rattle.compact.proofs.compact_with.Reads as book-compact-with
+use Rattle.merge.proofs.fronts.earlier.Reads as fronts-earlier
+use Rattle.merge.proofs.fronts.check.Reads as fronts-check
+use Rattle.merge.proofs.lists.check.Reads as lists-check
+use Rattle.merge.proofs.merge.Reads as lists-merge
 use Rattle.strip.proofs.of_month.Reads as of-month
 use Rattle.strip.proofs.of_month_with.Reads as of-month-with
 use Rattle.strip.proofs.write.write_month.Reads as write-month
@@ -83,6 +89,9 @@ use Rattle.chowderbell.proofs.times.chowderbell_write_iso.Reads as chow
 use Rattle.chowderbell.proofs.book.chowderbell_book_check.Reads as chowderbell-book-check
 use Rattle.chowderbell.proofs.book.chowderbell_book_list.Reads as chowderbell-book-list
 use Rattle.chowderbell.proofs.book.chowderbell_book_compact.Reads as chowderbell-book-compact
+use Rattle.chowderbell.proofs.lists.chowderbell_fronts_check.Reads as chowderbell-fronts-check
+use Rattle.chowderbell.proofs.lists.chowderbell_fronts_earlier.Reads as chowderbell-fronts-earlier
+use Rattle.chowderbell.proofs.lists.chowderbell_lists_merge.Reads as chowderbell-lists-merge
 use Rattle.chowderbell.proofs.month.chowderbell_strip.Reads as chowderbell-strip
 use Rattle.calendar.proofs.months.Reads as months
 use Rattle.calendar.proofs.first_day.Reads as first-day
@@ -325,6 +334,38 @@ chowderbell-book-list-unique κ a r s e f = HandedCopy-unique
 
 pub chowderbell-book-compact-unique : OneAnswerAnd chowderbell-book-compact.Post ((ℕ × ℕ) × List ℕ) (λ κ e. ((now (e .1 .1 .0), now (e .1 .1 .1 .0)), now (e .1 .0)))
 chowderbell-book-compact-unique κ a r s e f = HandedCopy-unique
+
+-- ---- the lists of two machines, in Rattle and for C: what is returned and stored, and every byte of both rooms
+-- a part of a caller's slice is fixed by its bytes
+pub fronts-earlier-unique : (κ : _) (a : _) (r s : _) (e f : _) → fronts-earlier.Post κ a r e → fronts-earlier.Post κ a s f → now r ≡ now s
+fronts-earlier-unique κ a r s e f = one-answer
+
+pub fronts-check-unique : OneAnswer fronts-check.Post
+fronts-check-unique κ a r s e f = one-answer
+
+pub lists-check-unique : OneAnswer lists-check.Post
+lists-check-unique κ a r s e f = one-answer
+
+pub lists-merge-unique : OneAnswerAnd lists-merge.Post (List ℕ × List ℕ) (λ κ e. (now (e .1 .1 .0), now (e .1 .1 .1 .0)))
+lists-merge-unique κ a r s e f p q = (one-answer (p .0) (q .0), λ i. (one-answer (p .1 .0) (q .1 .0) i, one-answer (p .1 .1) (q .1 .1) i))
+
+pub chowderbell-fronts-check-unique : OneAnswerAnd chowderbell-fronts-check.Post (ℕ × ℕ) (λ κ e. (now (e .1 .1 .0), now (e .1 .1 .1 .0)))
+chowderbell-fronts-check-unique κ a r s e f p q =
+    (one-answer (p .number-is) (q .number-is), λ i. (one-answer (p .machine-is) (q .machine-is) i, one-answer (p .line-is) (q .line-is) i))
+
+pub chowderbell-fronts-earlier-unique : OneAnswerAnd chowderbell-fronts-earlier.Post ℕ (λ κ e. now (e .1 .1 .0))
+chowderbell-fronts-earlier-unique κ a r s e f p q = (one-answer (p .0) (q .0), one-answer (p .1) (q .1))
+
+pub chowderbell-lists-merge-unique : OneAnswerAnd chowderbell-lists-merge.Post ((ℕ × ℕ) × (ℕ × ℕ) × (List ℕ × List ℕ))
+    (λ κ e. ((now (e .1 .1 .1 .1 .0), now (e .1 .1 .1 .1 .1 .0)), (now (e .1 .1 .1 .1 .1 .1 .0), now (e .1 .1 .1 .1 .1 .1 .1 .0)), (now (e .1 .1 .0), now (e .1 .1 .1 .0))))
+chowderbell-lists-merge-unique κ a r s e f p q = (
+  one-answer (p .0 .number-is) (q .0 .number-is),
+  λ i. (
+    (one-answer (p .0 .book-is) (q .0 .book-is) i, one-answer (p .0 .report-is) (q .0 .report-is) i),
+    (one-answer (p .0 .machine-is) (q .0 .machine-is) i, one-answer (p .0 .line-is) (q .0 .line-is) i),
+    (one-answer (p .1 .0) (q .1 .0) i, one-answer (p .1 .1) (q .1 .1) i),
+  ),
+)
 
 -- ---- the calendar
 pub months-unique : OneAnswer months.Post

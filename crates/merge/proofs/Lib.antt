@@ -16,3 +16,4 @@ pub mod TakenLines
 pub mod MergePass
 pub mod MergedAnswers
 pub mod Rooms
+pub mod Examples
