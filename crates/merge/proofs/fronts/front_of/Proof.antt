@@ -2,6 +2,7 @@
 -- Assumes nothing.
 use mathlib.Core.Path.{sym, ap, _∙_}
 use mir.Syntax.{w64}
+use native.Mathlib.Omega.{arith}
 use borrow.Author.Needs.{needs}
 use Rattle.ints.proofs.Machine.{back}
 use Rattle.relative.specs.Relative.{maxPairs}
@@ -22,7 +23,7 @@ returns-3 c =
     let at-known = c .before .before in
     let at-next = at-known .before .before in
     ap At (back w64 _ (c .before .known-told .given .0 .1))
-    ∙ front-at maxPairs (at-next .before .before .before .args .s .now) (at-next .before .if1 .left) _ _ (sym (at-next .next-hull .ensures) ∙ at-known .next .given .1) (c .if2 .taken)
+    ∙ front-at maxPairs (at-next .before .before .before .args .s .now) (at-next .before .if1 .left) _ _ (sym (at-next .next-hull .ensures) ∙ at-known .next .given .1) (omega (arith, c .if2 .taken))
 
 -- the text goes on
 returns-4 : tie.Need-returns-4
