@@ -89,11 +89,11 @@ extern "C" {
 #define CHOWDERBELL_KEY_LENGTH 16
 
 /* The most bytes that the list of a build machine has. The book that two lists are merged into has at most CHOWDERBELL_BOOK_MAX
-   bytes, and the report on paths whose keys differ at most CHOWDERBELL_REPORT_MAX: the row of a path has p + 35 bytes, if the path
-   has p, and each list has a line of at least p + 31 bytes with it. There are 95 paths of one byte, so 32768 bytes have room for 995
-   such lines with different paths, and 32768 + 4 * 995 is 36748. Two lists reach it. */
+   bytes, and the report on paths whose keys differ at most CHOWDERBELL_REPORT_MAX: a report is at most nine eighths as long as the
+   first list, which is proved. (The row of a path of p bytes has p + 35, and each list has a line of at least p + 31 with it. Since
+   few paths are short, no report has more than 36748 bytes; two lists reach that.) */
 #define CHOWDERBELL_LIST_MAX 32768
-#define CHOWDERBELL_REPORT_MAX 36748
+#define CHOWDERBELL_REPORT_MAX 36864
 
 /* The bytes of every strip. */
 #define CHOWDERBELL_STRIP_LENGTH 50
@@ -295,8 +295,8 @@ size_t chowderbell_fronts_earlier(const uint8_t *first, size_t first_len, const 
    the merged book, from whichever machine. Two paths are the same if all their bytes are.
 
    The merged book is written to the front of a room of book_len bytes, the report to the front of one of report_len bytes. The
-   merged book has first_len + second_len bytes. The report has no more than CHOWDERBELL_REPORT_MAX bytes, and no more than those of
-   the shorter list and an eighth. Two lists without a path in both need no room for a report.
+   merged book has first_len + second_len bytes. The report has no more than CHOWDERBELL_REPORT_MAX bytes, and no more than nine
+   eighths of first_len. Two lists without a path in both need no room for a report.
      0   book[0] to book[*book_length - 1] are the merged book, report[0] to report[*report_length - 1] the report, both without a
          terminating zero. The bytes beyond them are as they were. *machine and *line are set to 0.
      12  A list is not good. *machine is set to the machine whose list it is.

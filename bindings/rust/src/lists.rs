@@ -21,11 +21,12 @@ use core::fmt;
 /// The most bytes that a list has.
 pub const MAX: usize = 32768;
 
-/// The most bytes that a report has.
+/// A room that is long enough for every report, in bytes.
 ///
-/// The row of a path has p + 35 bytes, if the path has p, and each list has a line of at least p + 31 bytes with it. There are
-/// 95 paths of one byte, so a list has at most 995 lines with different paths, and 32768 + 4 * 995 is 36748. Two lists reach it.
-pub const REPORT_MAX: usize = 36748;
+/// A report is at most nine eighths as long as the first list, which is proved. (The row of a path of p bytes has p + 35, and each
+/// list has a line of at least p + 31 with it. Since few paths are short, no report has more than 36748 bytes; two lists reach
+/// that.)
+pub const REPORT_MAX: usize = 36864;
 
 /// The length of a key, in bytes.
 const KEY: usize = 16;
@@ -122,7 +123,7 @@ pub fn earlier<'a>(
 /// lengths of both. The bytes after them are not changed.
 ///
 /// The merged book has as many bytes as both lists together. The report has no more than [`REPORT_MAX`] bytes, and no more than
-/// those of the shorter list and an eighth.
+/// nine eighths of those of the first list.
 ///
 /// # Errors
 /// [`ListsError::TooLong`], which is tested first for both lists; [`ListsError::BadLine`], for the first machine before the
