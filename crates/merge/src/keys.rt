@@ -18,7 +18,6 @@ ghost use Rattle.merge.specs.Held.{keyAt, rowWith, otherOf, AllWait, row
 ghost use Rattle.merge.specs.declared.lists.Verdict.the-variants.{Good};
 use compact::table;
 use stamps::line;
-use stamps::write;
 use text::bytes;
 use text::copy;
 use text::places as cut;
@@ -133,7 +132,7 @@ fn put_row(path: &[u8], key: &[u8], other_key: &[u8], at: usize, report: &mut [u
     ensures { λ _. ⌜ now (report .exit) ≡ putAt (rowWith (now (path .entry)) (now (key .entry)) (now («other_key» .entry))) at (now (report .entry)) ⌝ }
 {
     let next = copy::put_part(path, at, report);
-    let next = write::put_field(key, next, report);
-    let next = write::put_field(other_key, next, report);
+    let next = copy::put_field(key, next, report);
+    let next = copy::put_field(other_key, next, report);
     copy::put_part(b"\n", next, report)
 }

@@ -83,7 +83,14 @@ pub struct First {
 }
 
 // Reads the line in front of the first newline of `s`, or all of `s` if it holds none.
-pub fn first_line(months: &[u32], s: &[u8]) -> First
+pub fn read_first(s: &[u8]) -> First
+    ensures { λ r. ⌜ FirstLine maxPairs (now (s .entry)) r ⌝ }
+{
+    first_line(&[], s)
+}
+
+// The same with a table of months.
+pub(crate) fn first_line(months: &[u32], s: &[u8]) -> First
     requires { ⌜ IsMonths (now months) ⌝ }
     ensures { λ r. ⌜ FirstLine maxPairs (now (s .entry)) r ⌝ }
 {

@@ -106,20 +106,10 @@ fn put_hull(path: &[u8], key: &[u8], time: Time, room: &mut [u8])
     ensures { λ _. ⌜ now (room .exit) ≡ ended (hullLine (now (path .entry)) (now (key .entry)) time) ++ drop (length (ended (hullLine (now (path .entry)) (now (key .entry)) time))) (now (room .entry)) ⌝ }
 {
     let at = copy::put_part(b"hull", 0, room);
-    let at = put_field(path, at, room);
-    let at = put_field(key, at, room);
+    let at = copy::put_field(path, at, room);
+    let at = copy::put_field(key, at, room);
     let at = put_time_field(time, at, room);
     copy::put_part(b"\n", at, room);
-}
-
-// Puts a tab and the bytes of `part` from place `at` on.
-pub fn put_field(part: &[u8], at: usize, room: &mut [u8]) -> usize
-    requires { ⌜ at + length (tab ∷ now part) ≤ length (now room) ⌝ }
-    ensures { λ r. ⌜ r ≡ at + length (tab ∷ now (part .entry)) ⌝ }
-    ensures { λ _. ⌜ now (room .exit) ≡ putAt (tab ∷ now (part .entry)) at (now (room .entry)) ⌝ }
-{
-    let next = copy::put_part(b"\t", at, room);
-    copy::put_part(part, next, room)
 }
 
 // Puts a tab and the header of a time from place `at` on.
@@ -199,7 +189,7 @@ fn put_since(text: &[u8], current: Time, room: &mut [u8])
     ensures { λ _. ⌜ now (room .exit) ≡ ended (sinceLine (now (text .entry)) current) ++ drop (length (ended (sinceLine (now (text .entry)) current))) (now (room .entry)) ⌝ }
 {
     let at = copy::put_part(b"since", 0, room);
-    let at = put_field(text, at, room);
+    let at = copy::put_field(text, at, room);
     let at = put_number_field(current.seconds, at, room);
     let at = put_number_field(as_i64(current.offset), at, room);
     copy::put_part(b"\n", at, room);

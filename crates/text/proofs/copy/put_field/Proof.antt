@@ -1,12 +1,12 @@
--- `stamps::write::put_field` meets its contract: the part is put right behind the tab.
+-- `text::copy::put_field` meets its contract: the part is put right behind the tab.
 -- Assumes nothing.
 use native.Mathlib.Omega.{arith}
 use mathlib.Core.List.{[], _∷_}
 use Rattle.text.specs.Lines.{tab}
 use Rattle.text.proofs.Behind.{putAt-behind}
 use borrow.Author.Needs.{needs}
-use Rattle.stamps.proofs.write.put_field.Statement.{statement}
-use Rattle.stamps.proofs.write.put_field.Tie as tie
+use Rattle.text.proofs.copy.put_field.Statement.{statement}
+use Rattle.text.proofs.copy.put_field.Tie as tie
 
 returns : tie.Need-returns
 returns c =
