@@ -35,7 +35,7 @@ use Rattle.compact.proofs.LastLines.{before-line}
 use Rattle.merge.specs.Fronts.{frontOf, earlierOf, earlierMachine, lineFrom, earlierLine}
 use Rattle.merge.specs.Merge.{mergedLines}
 use Rattle.merge.specs.Theorems.{areHulls}
-use Rattle.merge.specs.Held.{frontAt}
+use Rattle.merge.specs.Held.{frontFrom}
 use Rattle.merge.specs.declared.fronts.Front.the-variants.{Empty, At}
 use Rattle.merge.proofs.MergedLines.{mergedLines-nil-left, mergedLines-nil-right}
 use Rattle.merge.proofs.Orders.{leZ-turned}
@@ -61,7 +61,7 @@ pub record SomeFront (bound : ℕ) (list : List ℕ) (at : ℕ) (front : List �
   pub lines-are : endedLines (drop at list) ≡ line ∷ endedLines (drop (at + length front) list)
   pub rest : IsRest bound list (at + length front)
 
-module _ (bound : ℕ) (list : List ℕ) (at : ℕ) (r : IsRest bound list at) (front : List ℕ) (is : front ≡ frontAt list at) where
+module _ (bound : ℕ) (list : List ℕ) (at : ℕ) (r : IsRest bound list at) (front : List ℕ) (is : front ≡ frontFrom list at) where
   abbrev s : List ℕ
   s = drop at list
 
@@ -214,7 +214,7 @@ module _ (bound : ℕ) (first second : List ℕ) (i j : ℕ) (a b line : List �
         false≢true (sym n ∙ (λ k. leZ (sym same-seconds k) (same-seconds k)) ∙ leZ-turned z w n) in
         taken-second g r (line-is ∙ machine) other ((λ k. mergedLines bound (f .lines-are k) (g .lines-are k)) ∙ rw (f .line-is, g .line-is, n) (ap (λ (ks : List (List ℕ)). g .line ∷ mergedLines bound ks ms) (sym (f .lines-are)))))
 
-    pub take-one : a ≡ frontAt first i → b ≡ frontAt second j → (i < length first) ⊎ (j < length second) → Taken
+    pub take-one : a ≡ frontFrom first i → b ≡ frontFrom second j → (i < length first) ⊎ (j < length second) → Taken
     take-one e f some =
         ⊎-elim
         (λ x.

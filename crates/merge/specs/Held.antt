@@ -30,8 +30,8 @@ unfoldable pub nextOf : ℕ → List ℕ → Next
 nextOf bound s = cond (has newline s) (nextIs (lineOf bound (before newline s)) (firstPlace newline s + 1)) Nothing
 
 -- ---- the front line of what is left of a list from a place on, with its newline
-abbrev pub frontAt : List ℕ → ℕ → List ℕ
-frontAt list at = let s = drop at list in take (firstPlace newline s + 1) s
+abbrev pub frontFrom : List ℕ → ℕ → List ℕ
+frontFrom list at = let s = drop at list in take (firstPlace newline s + 1) s
 
 -- ---- whose line was taken: the first machine's if it is the same as that one's front line
 unfoldable pub whoseOf : List ℕ → List ℕ → Machine

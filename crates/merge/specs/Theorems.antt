@@ -23,7 +23,7 @@ unfoldable pub areHulls : ℕ → List (List ℕ) → Bool
 areHulls bound [] = true
 areHulls bound (l ∷ ls) = isHullLine (lineOf bound l) && areHulls bound ls
 
--- seconds never fall, below a line with these
+-- the seconds of `hull` lines never fall, below a line with these
 unfoldable pub isSorted : ℕ → Integer → List (List ℕ) → Bool
 isSorted bound above [] = true
 isSorted bound above (l ∷ ls) = isInOrder above (secondsIn (lineOf bound l)) && isSorted bound (secondsIn (lineOf bound l)) ls

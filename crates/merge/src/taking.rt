@@ -8,7 +8,7 @@ ghost use Rattle.relative.specs.Relative.{maxPairs};
 ghost use Rattle.compact.specs.Held.{IsTable};
 ghost use Rattle.merge.specs.Lists.{listsOf};
 ghost use Rattle.merge.specs.Merge.{merged, report as reportOf};
-ghost use Rattle.merge.specs.Held.{AllWait, frontAt};
+ghost use Rattle.merge.specs.Held.{AllWait, frontFrom};
 ghost use Rattle.merge.specs.declared.lists.Verdict.the-variants.{Good};
 use crate::fronts;
 use crate::keys;
@@ -68,7 +68,7 @@ pub fn take_lines<'a>(
 
 // The front line of what is left of a list from place `at` on, with its newline.
 fn front_at(list: &[u8], at: usize) -> &[u8]
-    ensures { λ r. ⌜ now r ≡ frontAt (now (list .entry)) at ⌝ }
+    ensures { λ r. ⌜ now r ≡ frontFrom (now (list .entry)) at ⌝ }
 {
     let rest = cut::from(list, at);
     let end = cut::first_place(rest, b'\n');
