@@ -13,11 +13,9 @@ use Rattle.time.specs.declared.Answer.{Answer}
 use Rattle.time.specs.declared.Written.{Written}
 use Rattle.stamps.specs.declared.book.Checked.{Checked}
 use Rattle.stamps.specs.declared.book.Copied.{Copied}
-use Rattle.merge.specs.declared.lists.Verdict.{Verdict}
-use Rattle.merge.specs.declared.Merged.{Merged}
 use Rattle.dates.specs.Contracts.{OneAnswer, OneAnswerAnd}
 use Rattle.dates.proofs.Contracts.{one-answer}
-use Rattle.chowderbell.specs.Entries.{HandedOut, HandedMarked, HandedLength, HandedCheck, HandedCopy, HandedVerdict, HandedMerge}
+use Rattle.chowderbell.specs.Entries.{HandedOut, HandedMarked, HandedLength, HandedCheck, HandedCopy}
 use Rattle.time.proofs.Time.new.Reads as time-new
 use Rattle.time.proofs.Time.with_mark.Reads as time-with-mark
 use Rattle.time.proofs.Time.smallest.Reads as smallest

@@ -23,7 +23,6 @@ use Rattle.stamps.specs.Stamps.{printed, isWholeMinutes, stampOf}
 use Rattle.stamps.specs.Lines.{every, isPathByte, isPath, isHexDigit, isKey, hullOf, sinceOf, lineOf}
 use Rattle.stamps.specs.Book.{judged, linesIn}
 use Rattle.text.specs.Lines.{tab, newline, endedLines, takenBy, left}
-use Rattle.text.specs.declared.number.Integer.the-variants.{Nothing}
 use Rattle.compact.specs.Compact.{holdsPath}
 use Rattle.merge.specs.Lists.{lineFault, linesFault, listsOf}
 use Rattle.merge.specs.Fronts.{frontOf, earlierMachine, frontsOf}

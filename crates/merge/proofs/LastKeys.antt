@@ -2,7 +2,7 @@
 -- key of its path (`lastKey-kept`); the same of the lines of a table, and of the line that is found for a path; a path that is not found.
 -- Assumes nothing.
 use mathlib.Core.Path.{_≡_, refl, sym, ap, _∙_}
-use mathlib.Core.Bool.{Bool, true, false, cond, not, _||_, false≢true}
+use mathlib.Core.Bool.{Bool, true, false, not, _||_, false≢true}
 use mathlib.Core.List.{List, [], _∷_, _++_, append-assoc}
 use Prim.Native.Nat.{ℕ, zero, suc, _+_, _≤_, _<_}
 use native.Mathlib.Omega.{arith}
@@ -17,7 +17,7 @@ use Rattle.text.specs.Lines.{tab, newline, endedLines}
 use Rattle.text.proofs.Lists.{by-test, both}
 use Rattle.time.specs.Header.{headerBytes}
 use Rattle.time.specs.declared.Time.{Time}
-use Rattle.stamps.specs.Lines.{isKey, lineOf}
+use Rattle.stamps.specs.Lines.{lineOf}
 use Rattle.stamps.specs.Writing.{hullLine}
 use Rattle.stamps.specs.Theorems.{isHullLine}
 use Rattle.stamps.specs.declared.line.Line.{Line}
@@ -32,7 +32,7 @@ use Rattle.compact.specs.Held.{pathAt, bucketOf, lineAt, linesDown, foundNumber
 use Rattle.compact.proofs.Paths.{path-of-hull}
 use Rattle.compact.proofs.Kept.{kept-taken, kept-dropped, holdsPath-append, same-paths}
 use Rattle.compact.proofs.Chains.{numberIn-le, numberIn-path}
-use Rattle.merge.specs.Merge.{pathIn, keyIn, lastKey}
+use Rattle.merge.specs.Merge.{keyIn, lastKey}
 use Rattle.merge.specs.Theorems.{areHulls}
 use Rattle.merge.specs.Held.{keyAt}
 

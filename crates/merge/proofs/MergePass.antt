@@ -2,7 +2,7 @@
 -- more, and at its end.
 -- Assumes nothing.
 use mathlib.Core.Path.{_≡_, refl, sym, ap, _∙_}
-use mathlib.Core.Bool.{Bool, true, false, cond, not, _&&_}
+use mathlib.Core.Bool.{Bool, cond, not, _&&_}
 use mathlib.Core.List.{List, [], _∷_, _++_, append-assoc, append-nil}
 use Prim.Native.Nat.{ℕ, _+_, _≤_, _<_}
 use native.Mathlib.Omega.{arith}
@@ -14,7 +14,6 @@ use Rattle.text.proofs.Lists.{by-test}
 use Rattle.text.proofs.Behind.{length-putAt, Front, front-append, front-room, front-whole}
 use Rattle.stamps.specs.Lines.{lineOf}
 use Rattle.stamps.specs.Copies.{joined}
-use Rattle.stamps.specs.declared.line.Line.{Line}
 use Rattle.stamps.proofs.Books.{endedLines-nil}
 use Rattle.compact.specs.Compact.{holdsPath}
 use Rattle.compact.specs.Held.{pathAt, foundNumber, IsTable}

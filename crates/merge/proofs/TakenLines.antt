@@ -2,29 +2,22 @@
 -- of the merged lines (`take-one`); how far both lists are passed.
 -- Assumes nothing.
 use mathlib.Core.Path.{_≡_, refl, sym, ap, _∙_}
-use mathlib.Core.Bool.{Bool, true, false, cond, not, _&&_, false≢true}
+use mathlib.Core.Bool.{Bool, true, false, cond, not, false≢true}
 use mathlib.Core.Logic.{_⊎_, inl, inr, ⊎-elim}
-use mathlib.Core.List.{List, [], _∷_, _++_, append-assoc, append-nil}
-use Prim.Native.Nat.{ℕ, suc, _+_, _-_, _≤_, _<_}
+use mathlib.Core.List.{List, [], _∷_, _++_}
+use Prim.Native.Nat.{ℕ, _+_, _-_, _≤_, _<_}
 use native.Mathlib.Omega.{arith}
-use native.Mathlib.Numerals.{add-one}
 use borrow.Author.Tests.{eq-eqb}
-use lib.Dec.{eqb}
-use lib.IntN.{ℤ}
-use lib.ListN.{length, take, drop, getD, length-append, length-drop, drop-of-length-le}
+use lib.ListN.{length, take, drop, getD, length-append, length-drop}
 use lib.Seq.{drop-drop, length-take-le}
 use lib.Signed.{leZ}
 use Rattle.text.specs.Bytes.{same}
-use Rattle.text.specs.Places.{run, firstPlace, before, has, part}
+use Rattle.text.specs.Places.{run, firstPlace, before, has}
 use Rattle.text.specs.Lines.{newline, endedLines, left}
-use Rattle.text.specs.Room.{putAt}
 use Rattle.text.proofs.Lists.{by-test, both, take-snoc}
 use Rattle.text.proofs.FirstPlaces.{getD-firstPlace}
-use Rattle.text.proofs.Behind.{Front, front-append, front-room, front-whole}
 use Rattle.stamps.specs.Lines.{lineOf, isGood}
-use Rattle.stamps.specs.Copies.{joined}
 use Rattle.stamps.specs.Theorems.{isHullLine}
-use Rattle.stamps.specs.declared.line.Line.{Line}
 use Rattle.stamps.specs.declared.line.Line.the-variants.{Hull}
 use Rattle.stamps.specs.declared.line.Hull.{Hull as HullValue}
 use Rattle.stamps.proofs.Printed.{same-self, eq-of-same}
@@ -32,11 +25,11 @@ use Rattle.stamps.proofs.Fields.{length-before}
 use Rattle.stamps.proofs.Books.{behind, firstPlace-lt, endedLines-first, left-first, endedLines-open, left-open}
 use Rattle.stamps.proofs.Listings.{not-has-newline-of-good}
 use Rattle.compact.proofs.LastLines.{before-line}
-use Rattle.merge.specs.Fronts.{frontOf, earlierOf, earlierMachine, lineFrom, earlierLine}
+use Rattle.merge.specs.Fronts.{frontOf, earlierMachine, earlierLine}
 use Rattle.merge.specs.Merge.{mergedLines}
 use Rattle.merge.specs.Theorems.{areHulls}
 use Rattle.merge.specs.Held.{frontFrom}
-use Rattle.merge.specs.declared.fronts.Front.the-variants.{Empty, At}
+use Rattle.merge.specs.declared.fronts.Front.the-variants.{At}
 use Rattle.merge.proofs.MergedLines.{mergedLines-nil-left, mergedLines-nil-right}
 use Rattle.merge.proofs.Orders.{leZ-turned}
 use Rattle.merge.proofs.LastKeys.{hull-of-line}

@@ -18,7 +18,6 @@ use Rattle.text.specs.Places.{firstPlace, part}
 use Rattle.text.specs.Room.{putAt}
 use Rattle.text.proofs.Lists.{by-test}
 use Rattle.stamps.specs.Lines.{lineOf}
-use Rattle.stamps.specs.Copies.{joined}
 use Rattle.stamps.specs.declared.line.Line.{Line}
 use Rattle.stamps.specs.declared.line.Line.the-variants.{Hull}
 use Rattle.stamps.specs.declared.line.Hull.{Hull as HullValue}
@@ -27,7 +26,7 @@ use Rattle.compact.specs.Compact.{holdsPath, kept}
 use Rattle.compact.specs.Theorems.{withPath, pathsIn}
 use Rattle.compact.specs.Held.{opensHull, pathAt, lineAt, linesDown, foundNumber, IsTable}
 use Rattle.merge.specs.Lists.{listsOf}
-use Rattle.merge.specs.Merge.{pathIn, lastKey, isDiffering, rowOf, report}
+use Rattle.merge.specs.Merge.{lastKey, isDiffering, rowOf, report}
 use Rattle.merge.specs.Held.{keyAt, rowWith, otherOf, Stored, AllWait, rowFor, storedFor, without}
 use Rattle.merge.specs.declared.lists.Verdict.the-variants.{Good}
 use Rattle.merge.proofs.Checked.{IsList, lists-good}

@@ -1,6 +1,6 @@
 -- `chowderbell::lists::hand_merge` meets its contract.
 -- Assumes nothing.
-use mathlib.Core.Path.{refl, sym, ap, _∙_}
+use mathlib.Core.Path.{sym, ap, _∙_}
 use borrow.Author.Needs.{needs}
 use Rattle.merge.specs.Merge.{mergedNumber, bookLength, reportLength, mergedMachine, mergedLine}
 use Rattle.chowderbell.proofs.lists.hand_merge.Statement.{statement}

@@ -1,9 +1,9 @@
 -- `merge::fronts::earlier` meets its contract, machine by machine.
 -- Assumes nothing.
-use mathlib.Core.Path.{_≡_, refl, sym, ap, _∙_}
+use mathlib.Core.Path.{_≡_, refl, sym, _∙_}
 use borrow.Author.Needs.{needs}
 use Rattle.relative.specs.Relative.{maxPairs}
-use Rattle.merge.specs.Fronts.{frontOf, earlierOf, earlierMachine, lineFrom}
+use Rattle.merge.specs.Fronts.{earlierOf, earlierMachine}
 use Rattle.merge.proofs.fronts.earlier.Statement.{statement}
 use Rattle.merge.proofs.fronts.earlier.Tie as tie
 

@@ -1,14 +1,12 @@
 -- `merge::fronts::earlier_than` meets its contract.
 -- Assumes nothing.
-use mathlib.Core.Path.{refl, sym, ap, _∙_}
+use mathlib.Core.Path.{sym, ap, _∙_}
 use mathlib.Core.Bool.{cond}
 use mir.Syntax.{w64}
 use borrow.Author.Needs.{needs}
-use lib.IntN.{ℤ}
 use lib.Signed.{leZ}
 use Rattle.ints.proofs.Machine.{back}
 use Rattle.merge.specs.Fronts.{earlierOf}
-use Rattle.merge.specs.declared.fronts.Front.{Front}
 use Rattle.merge.specs.declared.fronts.Front.the-variants.{At}
 use Rattle.merge.specs.declared.lists.Machine.the-variants.{First, Second}
 use Rattle.merge.proofs.fronts.earlier_than.Statement.{statement}

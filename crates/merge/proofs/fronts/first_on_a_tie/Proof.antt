@@ -3,7 +3,6 @@
 use mathlib.Core.Path.{_≡_, refl, sym, _∙_}
 use mir.Syntax.{w64}
 use mir.Val.{toZ, ofZ}
-use borrow.Author.Needs.{needs}
 use lib.Signed.{leZ}
 use Rattle.ints.proofs.Machine.{back}
 use Rattle.merge.proofs.fronts.first_on_a_tie.Statement.{statement}

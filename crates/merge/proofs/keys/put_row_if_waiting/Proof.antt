@@ -1,6 +1,6 @@
 -- `merge::keys::put_row_if_waiting` meets its contract: no number, a number whose row does not wait, and one whose row does.
 -- Assumes nothing.
-use mathlib.Core.Path.{_≡_, refl, sym, ap, _∙_}
+use mathlib.Core.Path.{_≡_, ap, _∙_}
 use mathlib.Core.List.{List}
 use Prim.Native.Nat.{ℕ, _-_, _+_}
 use native.Mathlib.Omega.{arith}

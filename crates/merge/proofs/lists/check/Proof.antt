@@ -1,6 +1,6 @@
 -- `merge::lists::check` meets its contract: both lengths first, then the lines of the first machine, then those of the second.
 -- Assumes nothing.
-use mathlib.Core.Path.{_≡_, sym, ap, _∙_}
+use mathlib.Core.Path.{sym, ap, _∙_}
 use borrow.Author.Needs.{needs}
 use Rattle.relative.specs.Relative.{maxPairs}
 use Rattle.merge.specs.Lists.{linesFault, orElse}

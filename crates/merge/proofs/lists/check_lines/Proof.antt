@@ -6,11 +6,9 @@ use mir.Syntax.{w64}
 use Prim.Native.Nat.{_-_}
 use native.Mathlib.Omega.{arith}
 use borrow.Author.Needs.{needs}
-use lib.IntN.{ℤ}
 use lib.ListN.{length}
 use Rattle.ints.proofs.Machine.{back}
 use Rattle.relative.specs.Relative.{maxPairs}
-use Rattle.text.specs.declared.number.Integer.the-variants.{Is}
 use Rattle.stamps.specs.Listing.{isAtOrAfter}
 use Rattle.merge.specs.Held.{nextOf}
 use Rattle.merge.specs.declared.lists.Next.the-variants.{Hull as NextHull}

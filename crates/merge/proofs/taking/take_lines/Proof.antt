@@ -4,7 +4,7 @@
 use mathlib.Core.Path.{_≡_, refl, sym, ap, _∙_}
 use mathlib.Core.Bool.{true, false, cond, not, _||_, false≢true}
 use mathlib.Core.Logic.{_⊎_, inl, inr}
-use mathlib.Core.List.{List, [], _∷_}
+use mathlib.Core.List.{[], _∷_}
 use Prim.Native.Nat.{ℕ, _+_, _-_, _≤_, _<_}
 use native.Mathlib.Omega.{arith}
 use borrow.Author.Needs.{needs}
@@ -18,7 +18,7 @@ use Rattle.relative.specs.Relative.{maxPairs}
 use Rattle.compact.specs.Held.{pathAt, foundNumber, IsTable}
 use Rattle.merge.specs.Lists.{maxList, listsOf}
 use Rattle.merge.specs.declared.lists.Verdict.the-variants.{Good}
-use Rattle.merge.proofs.Checked.{IsList, lists-good}
+use Rattle.merge.proofs.Checked.{lists-good}
 use Rattle.merge.proofs.WaitingRows.{length-without}
 use Rattle.merge.proofs.TakenLines.{Step, Taken, take-one, sizes-add-up, step-by}
 use Rattle.merge.proofs.MergePass.{Merging, merging-start, merging-end, same-lengths, book-room, report-room, number-fits, merging-again}
