@@ -16,7 +16,7 @@ use Rattle.text.specs.Places.{firstPlace, before, has}
 use Rattle.text.specs.Lines.{newline}
 use Rattle.text.proofs.Lists.{by-test}
 use Rattle.stamps.specs.Lines.{lineOf}
-use Rattle.stamps.specs.Held.{FirstLine}
+use Rattle.stamps.specs.Held.{hullOnly, FirstHull}
 use Rattle.stamps.specs.declared.line.Line.{Line}
 use Rattle.stamps.specs.declared.line.Line.the-variants.{Hull, Since, Bad as BadOne}
 use Rattle.stamps.specs.declared.line.Hull.{Hull as HullValue}
@@ -35,17 +35,25 @@ use Rattle.merge.specs.declared.lists.Next.the-variants.{Hull as NextHul
 use Rattle.merge.proofs.Orders.{leZ-turned}
 
 -- ---- the first line of a text
-module _ {bound : ℕ} {s : List ℕ} {first : FirstValue} (f : FirstLine bound s first) where
+module _ {bound : ℕ} {s : List ℕ} {first : FirstValue} (f : FirstHull bound s first) where
+  -- a line is next as it would be if only `hull` lines were good
+  next-only : (x : Line) (n : ℕ) → nextIs (hullOnly x) n ≡ nextIs x n
+  next-only (Hull h) n = refl
+  next-only (Since x) n = refl
+  next-only BadOne n = refl
+
+  next-by-line : nextOf bound s ≡ cond (has newline s) (nextIs (first .line) (firstPlace newline s + 1)) Nothing
+  unfolding nextOf
+  next-by-line = rw (f .line-is, next-only)
+
   pub next-hull : (h : HullValue) → first .line ≡ Hull h → cond (ltb (first .length) (length s)) (NextHull (h .time .seconds) (first .length + 1)) Nothing ≡ nextOf bound s
-  unfolding nextOf has
+  unfolding has
   next-hull h e =
-      let is : lineOf bound (before newline s) ≡ Hull h = sym (f .line-is) ∙ e in
       let size : first .length ≡ firstPlace newline s = f .length-is (rw e refl) in
-      rw (size, is)
+      sym (next-by-line ∙ rw (e, size))
 
   pub next-other : (x : Line) → first .line ≡ x → ((n : ℕ) → nextIs x n ≡ Nothing) → Nothing ≡ nextOf bound s
-  unfolding nextOf
-  next-other x e none = by-test (has newline s) (λ y. rw (y, ← f .line-is, e, none (firstPlace newline s + 1))) (λ n. rw n)
+  next-other x e none = sym (next-by-line ∙ by-test (has newline s) (λ y. rw (y, e, none (firstPlace newline s + 1))) (λ n. rw n))
 
 -- it is a `hull` line, with its newline
 pub record NextParts (bound : ℕ) (s : List ℕ) (z : ℤ) (n : ℕ) : Type 0 where

@@ -88,7 +88,7 @@ pub enum Next {
 pub fn next_hull(s: &[u8]) -> Next
     ensures { λ r. ⌜ r ≡ nextOf maxPairs (now (s .entry)) ⌝ }
 {
-    let first = line::read_first(s);
+    let first = line::read_first_hull(s);
     let size = first.length;
     let judged = first.line;
     match judged {

@@ -19,6 +19,7 @@ pub mod Copies
 pub mod Listings
 pub mod ReadBack
 pub mod WriteBack
+pub mod FirstHulls
 pub mod Bounds
 pub mod Examples
 pub mod WritingExamples

@@ -52,7 +52,7 @@ module _ (w s : List ℕ) where
   take-name e = ap (take (length w)) (split-name e) ∙ take-append-seam w (tab ∷ drop (length w + 1) s)
 
   -- if it does not open so, and its first field is the name, nothing follows
-  name-no-tab : same (field (before newline s)) w ≡ true → same (take (length w + 1) s) (w ++ tab ∷ []) ≡ false → rest (before newline s) ≡ []
+  pub name-no-tab : same (field (before newline s)) w ≡ true → same (take (length w + 1) s) (w ++ tab ∷ []) ≡ false → rest (before newline s) ≡ []
   name-no-tab e d =
       let n = run isTextByte s in
       let f : leading isTextByte s ≡ w = sym (field-before s) ∙ eq-of-same _ _ e in
@@ -66,7 +66,7 @@ module _ (w s : List ℕ) where
       (λ o. rest-before-nil s o)
 
 -- ---- a line by its first field
-hullLeft-nil : hullLeft [] ≡ Bad
+pub hullLeft-nil : hullLeft [] ≡ Bad
 unfolding isPath
 hullLeft-nil = hullOf-no-path _ _ _ (ap isPath field-nil)
 

@@ -29,6 +29,7 @@ use Rattle.stamps.specs.declared.stamp.PrintedNumber.{PrintedNumber}
 use Rattle.stamps.specs.declared.stamp.Tail.{Tail}
 use Rattle.stamps.specs.declared.stamp.Tail.the-variants.{Is as IsTail, Nothing as NoTail}
 use Rattle.stamps.specs.declared.line.Line.{Line}
+use Rattle.stamps.specs.declared.line.Line.the-variants.{Hull, Since, Bad}
 use Rattle.stamps.specs.declared.line.First.{First}
 use Rattle.stamps.specs.declared.book.Next.{Next}
 
@@ -85,6 +86,16 @@ tailOf s =
 -- the line in front of the first newline of s, and, if it is good, how many bytes it has
 pub record FirstLine (bound : ℕ) (s : List ℕ) (r : First) : Type 0 where
   pub line-is : r .line ≡ lineOf bound (before newline s)
+  pub length-is : isGood (r .line) ≡ true → r .length ≡ firstPlace newline s
+
+-- the same where only a `hull` line is good
+abbrev pub hullOnly : Line → Line
+hullOnly (Hull h) = Hull h
+hullOnly (Since x) = Bad
+hullOnly Bad = Bad
+
+pub record FirstHull (bound : ℕ) (s : List ℕ) (r : First) : Type 0 where
+  pub line-is : r .line ≡ hullOnly (lineOf bound (before newline s))
   pub length-is : isGood (r .line) ≡ true → r .length ≡ firstPlace newline s
 
 -- the first line of s in a book, under the cut-off c: how many bytes it has with its newline, or 0 if it is bad or has none;

@@ -10,7 +10,7 @@ ghost use Rattle.text.specs.Number.{fitSigned};
 ghost use Rattle.relative.specs.Relative.{maxPairs};
 ghost use Rattle.stamps.specs.Stamps.{stampOf};
 ghost use Rattle.stamps.specs.Lines.{isPath, hullAt, sinceWith, lineOf};
-ghost use Rattle.stamps.specs.Held.{FirstLine, EndsLine, partFrom, leftAt, hullLeft, keyLeft, sinceLeft, currentLeft};
+ghost use Rattle.stamps.specs.Held.{FirstLine, FirstHull, EndsLine, partFrom, leftAt, hullLeft, keyLeft, sinceLeft, currentLeft};
 ghost use Rattle.stamps.specs.declared.line.Line.the-variants.{Bad};
 use crate::scan;
 use crate::scan::Class;
@@ -83,13 +83,6 @@ pub struct First {
 }
 
 // Reads the line in front of the first newline of `s`, or all of `s` if it holds none.
-pub fn read_first(s: &[u8]) -> First
-    ensures { λ r. ⌜ FirstLine maxPairs (now (s .entry)) r ⌝ }
-{
-    first_line(&[], s)
-}
-
-// The same with a table of months.
 pub(crate) fn first_line(months: &[u32], s: &[u8]) -> First
     requires { ⌜ IsMonths (now months) ⌝ }
     ensures { λ r. ⌜ FirstLine maxPairs (now (s .entry)) r ⌝ }
@@ -99,6 +92,16 @@ pub(crate) fn first_line(months: &[u32], s: &[u8]) -> First
     }
     if bytes::same(places::up_to(s, TEXT_START), b"since\t") {
         return first_since(months, s);
+    }
+    bad()
+}
+
+// The same where only a `hull` line is good.
+pub fn read_first_hull(s: &[u8]) -> First
+    ensures { λ r. ⌜ FirstHull maxPairs (now (s .entry)) r ⌝ }
+{
+    if bytes::same(places::up_to(s, PATH_START), b"hull\t") {
+        return first_hull(s);
     }
     bad()
 }
