@@ -305,7 +305,8 @@ size_t chowderbell_fronts_earlier(const uint8_t *first, size_t first_len, const 
          before those of machine 2.
      8   Both lists are good, and the merged book or the report is longer than its room. *machine and *line are set to 0.
    If it returns 8 or 12, *book_length and *report_length are set to 0, and every byte of both rooms is as it was.
-   The merged book is a good book. If it has at most 32768 bytes, it is also a good list. */
+   The merged book is a good book. If it has at most 32768 bytes, it is also a good list.
+   It uses some 69 KB of stack, for the last lines of the paths in both lists. */
 uint8_t chowderbell_lists_merge(const uint8_t *first, size_t first_len, const uint8_t *second, size_t second_len, uint8_t *book,
                                 size_t book_len, uint8_t *report, size_t report_len, size_t *book_length, size_t *report_length,
                                 uint8_t *machine, size_t *line);
