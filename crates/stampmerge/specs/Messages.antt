@@ -1,4 +1,4 @@
--- What `stampmerge` says of a list that is at fault (RULES 15.6), as bytes. In order: the path of the list; its name in a message; what is
+-- What `stampmerge` says of a list that is at fault (RULES 15.8), as bytes. In order: the path of the list; its name in a message; what is
 -- wrong with it; the message. A path is an argument as it was given. Lines are counted from 1.
 -- Assumes nothing.
 use Prim.Native.Nat.{ℕ}
