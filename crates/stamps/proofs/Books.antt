@@ -26,7 +26,7 @@ use Rattle.stamps.specs.Book.{maxBook, judged, linesIn, lastPiece, first
 use Rattle.stamps.specs.Copies.{joined}
 use Rattle.stamps.specs.Listing.{isListed, orAbove, cutOffBelow, listed, listing}
 use Rattle.stamps.specs.Theorems.{areGood}
-use Rattle.stamps.specs.Held.{FirstLine, NextLine, markOf, marksOf, badNumber}
+use Rattle.stamps.specs.Held.{FirstLine, NextLine, markOf, marksOf, badNumber, goodFront}
 use Rattle.stamps.specs.declared.line.Line.{Line}
 use Rattle.stamps.specs.declared.line.Line.the-variants.{Hull, Since, Bad}
 use Rattle.stamps.specs.declared.line.First.{First}
@@ -224,13 +224,14 @@ pub record Judging (bound : ℕ) (book was marks : List ℕ) (at n size : ℕ) (
   pub fewer : n ≤ at
   pub shorter : size ≤ at
   pub bad : firstBad 1 (linesIn bound book) ≡ firstBad (n + 1) (linesIn bound (drop at book))
+  pub front : takenBy (goodFront bound (endedLines book)) ≡ at + takenBy (goodFront bound (endedLines (drop at book)))
   pub length-is : length (listing bound book) ≡ size + length (joined (listed bound c (endedLines (drop at book))))
   pub marked : sets was 0 (marksOf bound Nothing (endedLines book)) ≡ sets marks n (marksOf bound c (endedLines (drop at book)))
   pub places : length marks ≡ length was
 
 pub judging-start : (bound : ℕ) (book marks : List ℕ) → Judging bound book marks marks 0 0 0 Nothing
 unfolding listing
-judging-start bound book marks = record { within = omega arith; fewer = omega arith; shorter = omega arith; bad = refl; length-is = omega arith; marked = refl; places = refl }
+judging-start bound book marks = record { within = omega arith; fewer = omega arith; shorter = omega arith; bad = refl; front = omega arith; length-is = omega arith; marked = refl; places = refl }
 
 -- a line more adds its bytes and its newline to the listing if it is listed
 length-listed-cons : (bound : ℕ) (c : Integer) (l : List ℕ) (ls : List (List ℕ))
@@ -244,20 +245,39 @@ cond-zero-le : (b : Bool) (n : ℕ) → cond b n 0 ≤ n
 cond-zero-le true n = omega arith
 cond-zero-le false n = omega arith
 
+-- the good lines at the front of a text: of one whose first line is good, of one whose first line is bad or has no newline
+module _ (bound : ℕ) (s : List ℕ) where
+  goodFront-first : (isGood (lineOf bound (before newline s)) && has newline s) ≡ true
+      → takenBy (goodFront bound (endedLines s)) ≡ firstPlace newline s + 1 + takenBy (goodFront bound (endedLines (behind s)))
+  unfolding goodFront takenBy
+  goodFront-first e =
+      let p = both (isGood (lineOf bound (before newline s))) (has newline s) e in
+      ap (λ (ls : List (List ℕ)). takenBy (goodFront bound ls)) (endedLines-first s (p .1)) ∙ rw (p .0, length-before newline s)
+
+  goodFront-stop : (isGood (lineOf bound (before newline s)) && has newline s) ≡ false → takenBy (goodFront bound (endedLines s)) ≡ 0
+  unfolding goodFront takenBy
+  goodFront-stop e =
+      by-test (has newline s)
+      (λ h. let bad : isGood (lineOf bound (before newline s)) ≡ false = rw (h, and-true) at e in ap (λ (ls : List (List ℕ)). takenBy (goodFront bound ls)) (endedLines-first s h) ∙ rw bad)
+      (λ h. ap (λ (ls : List (List ℕ)). takenBy (goodFront bound ls)) (endedLines-open s h))
+
 -- what a pass over the book finds
-abbrev Judged : ℕ → List ℕ → List ℕ → List ℕ → ℕ → ℕ → Type 0
-Judged bound book was marks bad size =
-    (bad ≡ badNumber (firstBad 1 (linesIn bound book)))
+abbrev Judged : ℕ → List ℕ → List ℕ → List ℕ → ℕ → ℕ → ℕ → Type 0
+Judged bound book was marks bad end size =
+    ((bad ≡ badNumber (firstBad 1 (linesIn bound book))) × (end ≡ takenBy (goodFront bound (endedLines book))))
     × ((bad ≡ 0 → size ≡ length (listing bound book)) × (bad ≡ 0 → marks ≡ sets was 0 (marksOf bound Nothing (endedLines book))))
 
 module _ {bound : ℕ} {book was marks : List ℕ} {at n size : ℕ} {c : Integer} (j : Judging bound book was marks at n size c) where
   -- no line is left
-  pub judging-end : length book ≤ at → Judged bound book was marks 0 size
-  unfolding linesIn judged left takenBy firstBad listed joined marksOf
+  pub judging-end : length book ≤ at → Judged bound book was marks 0 at size
+  unfolding linesIn judged left takenBy firstBad listed joined marksOf goodFront
   judging-end h =
       let d : drop at book ≡ [] = drop-of-length-le book h in
       let e : endedLines (drop at book) ≡ [] = ap endedLines d ∙ endedLines-nil in (
-        sym (ap badNumber (j .bad ∙ ap (λ (s : List ℕ). firstBad (n + 1) (linesIn bound s)) d ∙ ap (firstBad (n + 1)) (linesIn-open bound [] endedLines-nil))),
+        (
+          sym (ap badNumber (j .bad ∙ ap (λ (s : List ℕ). firstBad (n + 1) (linesIn bound s)) d ∙ ap (firstBad (n + 1)) (linesIn-open bound [] endedLines-nil))),
+          omega (arith, j .front, ap (λ (ls : List (List ℕ)). takenBy (goodFront bound ls)) e),
+        ),
         (
           λ z. omega (arith, j .length-is, ap (λ (ls : List (List ℕ)). length (joined (listed bound c ls))) e),
           λ z. sym (j .marked ∙ ap (λ (ls : List (List ℕ)). sets marks n (marksOf bound c ls)) e),
@@ -266,12 +286,15 @@ module _ {bound : ℕ} {book was marks : List ℕ} {at n size : ℕ} {c : Intege
 
   module _ (s : List ℕ) (next : Next) (is : s ≡ drop at book) (some : at < length book) (f : NextLine bound s c next) where
     -- the next line is bad
-    pub judging-stop : next .size ≡ 0 → Judged bound book was marks (n + 1) 0
+    pub judging-stop : next .size ≡ 0 → Judged bound book was marks (n + 1) at 0
     judging-stop z =
         let l : 0 < length s = omega (arith, ap length is, length-drop at book) in
         by-test (isGood (lineOf bound (before newline s)) && has newline s) (λ e. absurd (omega (arith, rw e at (f .size-is))))
         (λ e. (
-          sym (ap badNumber (j .bad ∙ ap (λ (t : List ℕ). firstBad (n + 1) (linesIn bound t)) (sym is) ∙ firstBad-stop bound (n + 1) s l e)),
+          (
+            sym (ap badNumber (j .bad ∙ ap (λ (t : List ℕ). firstBad (n + 1) (linesIn bound t)) (sym is) ∙ firstBad-stop bound (n + 1) s l e)),
+            omega (arith, j .front, ap (λ (t : List ℕ). takenBy (goodFront bound (endedLines t))) is, goodFront-stop bound s e),
+          ),
           (λ z. absurd (omega (arith, z)), λ z. absurd (omega (arith, z))),
         ))
 
@@ -298,6 +321,13 @@ module _ {bound : ℕ} {book was marks : List ℕ} {at n size : ℕ} {c : Intege
           shorter = omega (arith, j .shorter, cond-zero-le (next .listed) (next .size));
           bad = j .bad ∙ ap (λ (t : List ℕ). firstBad (n + 1) (linesIn bound t)) (sym is) ∙ firstBad-first bound (n + 1) s e
               ∙ (λ i. firstBad (m i) (linesIn bound (d i)));
+          front = omega (
+            arith,
+            j .front,
+            ap (λ (t : List ℕ). takenBy (goodFront bound (endedLines t))) is,
+            goodFront-first bound s e,
+            ap (λ (t : List ℕ). takenBy (goodFront bound (endedLines t))) d,
+          );
           length-is = omega (
             arith,
             j .length-is,

@@ -1,6 +1,6 @@
 -- What the code holds on the way to an answer. Nothing here is needed to read what the public calls ensure. In order: the classes
 -- of bytes that a scan passes; a number, and the tail of a stamp, at the front of a longer text; the first line of a text; a line
--- from one of its places on; the marks of the lines that are listed.
+-- from one of its places on; the marks of the lines that are listed; the first bad line, and the good ones in front of it.
 -- Assumes nothing.
 use Prim.Native.Nat.{ℕ, _+_, _*_}
 use Prim.Native.Char.{code}
@@ -152,3 +152,8 @@ picked (m ∷ ms) (l ∷ ls) = let below = picked ms ls in cond (eqb m 1) (l ∷
 abbrev pub badNumber : Number → ℕ
 badNumber (Value n) = n
 badNumber NoNumber = 0
+
+-- the good ones of these lines, up to the first bad one
+unfoldable pub goodFront : ℕ → List (List ℕ) → List (List ℕ)
+goodFront bound [] = []
+goodFront bound (l ∷ ls) = cond (isGood (lineOf bound l)) (l ∷ goodFront bound ls) []

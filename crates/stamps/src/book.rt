@@ -11,13 +11,13 @@ ghost use lib.ListN.{length, drop, getD, set};
 ghost use lib.Seq.{sets};
 ghost use Rattle.calendar.specs.Table.{IsMonths};
 ghost use Rattle.relative.specs.Relative.{maxPairs};
-ghost use Rattle.text.specs.Lines.{endedLines, left};
+ghost use Rattle.text.specs.Lines.{endedLines, takenBy, left};
 ghost use Rattle.text.specs.Room.{roomAfter};
 ghost use Rattle.text.specs.declared.number.Integer.the-variants.{Nothing};
 ghost use Rattle.stamps.specs.Book.{maxBook, linesIn, firstBad, checkOf};
 ghost use Rattle.stamps.specs.Copies.{joined, isWritten};
 ghost use Rattle.stamps.specs.Listing.{isAtOrAfter, orAbove, listing, listOf};
-ghost use Rattle.stamps.specs.Held.{NextLine, markOf, marksOf, picked, badNumber};
+ghost use Rattle.stamps.specs.Held.{NextLine, markOf, marksOf, picked, badNumber, goodFront};
 use crate::line;
 use crate::line::Line;
 use text::copy;
@@ -107,6 +107,25 @@ pub fn list_with(months: &[u32], book: &[u8], room: &mut [u8]) -> Copied
     Copied::Length(length)
 }
 
+// The good lines at the front of a text: the number of the bad line behind them, or 0 if there is none,
+// and the place where they end.
+pub struct Run {
+    pub bad: usize,
+    pub end: usize,
+}
+
+// Judges the lines of a text up to the first bad one, with a table of months as `check_with` has it.
+pub fn good_run(months: &[u32], s: &[u8]) -> Run
+    requires { ⌜ IsMonths (now months) ⌝ }
+    ensures { λ r. ⌜ (r .bad ≡ badNumber (firstBad 1 (linesIn maxPairs (now (s .entry))))) × (r .end ≡ takenBy (goodFront maxPairs (endedLines (now (s .entry))))) ⌝ }
+{
+    let found = judge_lines(months, s, &mut []);
+    Run {
+        bad: found.bad,
+        end: found.end,
+    }
+}
+
 // A buffer for marks.
 fn no_marks() -> [u8; MAX_LINES]
     ensures { λ r. ⌜ 5957 ≡ length r ⌝ }
@@ -114,17 +133,18 @@ fn no_marks() -> [u8; MAX_LINES]
     [0; MAX_LINES]
 }
 
-// What a pass over a book finds: the number of the first bad line, or 0 if there is none; and the
-// length of the listing, if there is none.
+// What a pass over a book finds: the number of the first bad line, or 0 if there is none; where the good
+// lines in front of it end; and the length of the listing, if no line is bad.
 struct Survey {
     bad: usize,
+    end: usize,
     length: usize,
 }
 
 // Judges every line of a book up to the first bad one, and marks those that are listed.
 fn judge_lines(months: &[u32], book: &[u8], marks: &mut [u8]) -> Survey
     requires { ⌜ IsMonths (now months) ⌝ }
-    ensures { λ r. ⌜ r .bad ≡ badNumber (firstBad 1 (linesIn maxPairs (now (book .entry)))) ⌝ }
+    ensures { λ r. ⌜ (r .bad ≡ badNumber (firstBad 1 (linesIn maxPairs (now (book .entry))))) × (r .end ≡ takenBy (goodFront maxPairs (endedLines (now (book .entry))))) ⌝ }
     ensures { λ r. ⌜ (r .bad ≡ 0 → r .length ≡ length (listing maxPairs (now (book .entry)))) ⌝ }
     ensures { λ r. ⌜ (r .bad ≡ 0 → now (marks .exit) ≡ sets (now (marks .entry)) 0 (marksOf maxPairs Nothing (endedLines (now (book .entry))))) ⌝ }
 {
@@ -138,6 +158,7 @@ fn judge_lines(months: &[u32], book: &[u8], marks: &mut [u8]) -> Survey
         if size == 0 {
             return Survey {
                 bad: n + 1,
+                end: at,
                 length: 0,
             };
         }
@@ -149,7 +170,11 @@ fn judge_lines(months: &[u32], book: &[u8], marks: &mut [u8]) -> Survey
         at += size;
         n += 1;
     }
-    Survey { bad: 0, length }
+    Survey {
+        bad: 0,
+        end: at,
+        length,
+    }
 }
 
 // What the next line of a book is: how many bytes it has with its newline, or 0 if it is bad; whether

@@ -14,12 +14,12 @@ returns c = checkOf-long maxPairs (c .before .before .before .args .book .now) (
 returns-2 : tie.Need-returns-2
 returns-2 c = let at-judge = c .before .before in
     let at-test = at-judge .before .before in
-    checkOf-zero maxPairs (at-test .before .before .before .args .book .now) _ (at-test .if1 .left) (at-judge .judge-lines .ensures .0) (c .if2 .taken)
+    checkOf-zero maxPairs (at-test .before .before .before .args .book .now) _ (at-test .if1 .left) (at-judge .judge-lines .ensures .0 .0) (c .if2 .taken)
 
 returns-3 : tie.Need-returns-3
 returns-3 c = let at-judge = c .before .before in
     let at-test = at-judge .before .before in
-    checkOf-bad maxPairs (at-test .before .before .before .args .book .now) _ (at-test .if1 .left) (at-judge .judge-lines .ensures .0) (c .if2 .left)
+    checkOf-bad maxPairs (at-test .before .before .before .args .book .now) _ (at-test .if1 .left) (at-judge .judge-lines .ensures .0 .0) (c .if2 .left)
 
 pub check-with-spec : {M : Type 1} → statement M
 check-with-spec = tie.close (tie.spec returns (λ c. search needs) (λ c κs. search needs) returns-2 returns-3)

@@ -26,7 +26,7 @@ returns-2 c = let at-judge = c .before .before in
     let at-test = at-judge .before .before .before in
     let start = at-test .before .before .before .before in
     copies-refused (listing maxPairs (start .args .book .now)) (start .args .room .now) Book _
-    (checkOf-bad maxPairs (start .args .book .now) _ (at-test .if1 .left) (at-judge .judge-lines .ensures .0) (c .if2 .taken))
+    (checkOf-bad maxPairs (start .args .book .now) _ (at-test .if1 .left) (at-judge .judge-lines .ensures .0 .0) (c .if2 .taken))
 
 -- the room is too short
 returns-3 : tie.Need-returns-3
@@ -35,7 +35,7 @@ returns-3 c = let at-judge = c .before .before .before in
     let start = at-test .before .before .before .before in
     let judged = at-judge .judge-lines .ensures in
     copies-too-short (listing maxPairs (start .args .book .now)) (start .args .room .now)
-    (checkOf-zero maxPairs (start .args .book .now) _ (at-test .if1 .left) (judged .0) (c .before .if2 .left)) _ (judged .1 .0 (c .before .if2 .left)) (c .if3 .taken)
+    (checkOf-zero maxPairs (start .args .book .now) _ (at-test .if1 .left) (judged .0 .0) (c .before .if2 .left)) _ (judged .1 .0 (c .before .if2 .left)) (c .if3 .taken)
 
 copy-marked-requires : tie.Need-copy-marked-requires
 copy-marked-requires c κs = let at-room = c .before .before in
@@ -44,7 +44,7 @@ copy-marked-requires c κs = let at-room = c .before .before in
     let start = at-marks .before .before .before .before .before in
     let judged = at-judge .judge-lines .ensures in
     let zero = at-room .before .if2 .left in
-    let p = marked-book maxPairs (start .args .book .now) _ _ (at-marks .before .if1 .left) (omega (arith, at-marks .no-marks .ensures)) (firstBad-of-zero _ (sym (judged .0) ∙ zero)) (judged .1 .1 zero) in
+    let p = marked-book maxPairs (start .args .book .now) _ _ (at-marks .before .if1 .left) (omega (arith, at-marks .no-marks .ensures)) (firstBad-of-zero _ (sym (judged .0 .0) ∙ zero)) (judged .1 .1 zero) in
     (p .0, omega (arith, ap length (p .1), judged .1 .0 zero, at-room .if3 .left))
 
 returns-4 : tie.Need-returns-4
@@ -55,9 +55,9 @@ returns-4 c = let at-copy = c .before .before in
     let start = at-marks .before .before .before .before .before in
     let judged = at-judge .judge-lines .ensures in
     let zero = at-room .before .if2 .left in
-    let p = marked-book maxPairs (start .args .book .now) _ _ (at-marks .before .if1 .left) (omega (arith, at-marks .no-marks .ensures)) (firstBad-of-zero _ (sym (judged .0) ∙ zero)) (judged .1 .1 zero) in
+    let p = marked-book maxPairs (start .args .book .now) _ _ (at-marks .before .if1 .left) (omega (arith, at-marks .no-marks .ensures)) (firstBad-of-zero _ (sym (judged .0 .0) ∙ zero)) (judged .1 .1 zero) in
     copies-written (listing maxPairs (start .args .book .now)) (start .args .room .now)
-    (checkOf-zero maxPairs (start .args .book .now) _ (at-marks .before .if1 .left) (judged .0) zero) _ (judged .1 .0 zero) _ (at-room .if3 .left)
+    (checkOf-zero maxPairs (start .args .book .now) _ (at-marks .before .if1 .left) (judged .0 .0) zero) _ (judged .1 .0 zero) _ (at-room .if3 .left)
     (at-copy .copy-marked .ensures ∙ ap (λ (bytes : List ℕ). bytes ++ drop (length bytes) (start .args .room .now)) (p .1))
 
 pub list-with-spec : {M : Type 1} → statement M
