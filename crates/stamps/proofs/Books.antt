@@ -140,13 +140,13 @@ firstBad-last n [] h = absurd (omega arith)
 firstBad-last n (b ∷ s) h = refl
 
 module _ (bound n : ℕ) (s : List ℕ) where
-  firstBad-first : (isGood (lineOf bound (before newline s)) && has newline s) ≡ true → firstBad n (linesIn bound s) ≡ firstBad (suc n) (linesIn bound (behind s))
+  pub firstBad-first : (isGood (lineOf bound (before newline s)) && has newline s) ≡ true → firstBad n (linesIn bound s) ≡ firstBad (suc n) (linesIn bound (behind s))
   firstBad-first e =
       let p = both _ _ e in
       ap (firstBad n) (linesIn-first s (p .1) bound) ∙ firstBad-good n (lineOf bound (before newline s)) (linesIn bound (behind s)) (p .0)
 
   -- the first line is bad, or it has no newline
-  firstBad-stop : 0 < length s → (isGood (lineOf bound (before newline s)) && has newline s) ≡ false → firstBad n (linesIn bound s) ≡ Value n
+  pub firstBad-stop : 0 < length s → (isGood (lineOf bound (before newline s)) && has newline s) ≡ false → firstBad n (linesIn bound s) ≡ Value n
   firstBad-stop some e =
       by-test (has newline s)
       (λ h. ap (firstBad n) (linesIn-first s h bound) ∙ firstBad-bad n (lineOf bound (before newline s)) (linesIn bound (behind s)) (rw (h, and-true) at e))
@@ -247,14 +247,14 @@ cond-zero-le false n = omega arith
 
 -- the good lines at the front of a text: of one whose first line is good, of one whose first line is bad or has no newline
 module _ (bound : ℕ) (s : List ℕ) where
-  goodFront-first : (isGood (lineOf bound (before newline s)) && has newline s) ≡ true
+  pub goodFront-first : (isGood (lineOf bound (before newline s)) && has newline s) ≡ true
       → takenBy (goodFront bound (endedLines s)) ≡ firstPlace newline s + 1 + takenBy (goodFront bound (endedLines (behind s)))
   unfolding goodFront takenBy
   goodFront-first e =
       let p = both (isGood (lineOf bound (before newline s))) (has newline s) e in
       ap (λ (ls : List (List ℕ)). takenBy (goodFront bound ls)) (endedLines-first s (p .1)) ∙ rw (p .0, length-before newline s)
 
-  goodFront-stop : (isGood (lineOf bound (before newline s)) && has newline s) ≡ false → takenBy (goodFront bound (endedLines s)) ≡ 0
+  pub goodFront-stop : (isGood (lineOf bound (before newline s)) && has newline s) ≡ false → takenBy (goodFront bound (endedLines s)) ≡ 0
   unfolding goodFront takenBy
   goodFront-stop e =
       by-test (has newline s)
