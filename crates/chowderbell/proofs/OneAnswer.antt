@@ -61,6 +61,9 @@ use Rattle.stamps.proofs.book.list.Reads as book-list
 use Rattle.stamps.proofs.book.list_with.Reads as book-list-with
 use Rattle.compact.proofs.compact.Reads as book-compact
 use Rattle.compact.proofs.compact_with.Reads as book-compact-with
+use Rattle.stamps.proofs.book.good_run.Reads as good-run
+use Rattle.salvage.proofs.salvage.Reads as salvage
+use Rattle.salvage.proofs.salvage_with.Reads as salvage-with
 use Rattle.merge.proofs.fronts.earlier.Reads as fronts-earlier
 use Rattle.merge.proofs.fronts.check.Reads as fronts-check
 use Rattle.merge.proofs.lists.check.Reads as lists-check
@@ -89,6 +92,7 @@ use Rattle.chowderbell.proofs.book.chowderbell_book_list.Reads as chowd
 use Rattle.chowderbell.proofs.book.chowderbell_book_compact.Reads as chowderbell-book-compact
 use Rattle.chowderbell.proofs.lists.chowderbell_fronts_check.Reads as chowderbell-fronts-check
 use Rattle.chowderbell.proofs.lists.chowderbell_fronts_earlier.Reads as chowderbell-fronts-earlier
+use Rattle.chowderbell.proofs.book.chowderbell_book_salvage.Reads as chowderbell-book-salvage
 use Rattle.chowderbell.proofs.lists.chowderbell_lists_merge.Reads as chowderbell-lists-merge
 use Rattle.chowderbell.proofs.month.chowderbell_strip.Reads as chowderbell-strip
 use Rattle.calendar.proofs.months.Reads as months
@@ -329,6 +333,26 @@ chowderbell-book-check-unique κ a r s e f = HandedCheck-unique
 
 pub chowderbell-book-list-unique : OneAnswerAnd chowderbell-book-list.Post ((ℕ × ℕ) × List ℕ) (λ κ e. ((now (e .1 .1 .0), now (e .1 .1 .1 .0)), now (e .1 .0)))
 chowderbell-book-list-unique κ a r s e f = HandedCopy-unique
+
+pub salvage-unique : OneAnswerAnd salvage.Post (List ℕ × List ℕ) (λ κ e. (now (e .1 .0), now (e .1 .1 .0)))
+salvage-unique κ a r s e f p q = (one-answer (p .0) (q .0), λ i. (one-answer (p .1 .0) (q .1 .0) i, one-answer (p .1 .1) (q .1 .1) i))
+
+pub salvage-with-unique : OneAnswerAnd salvage-with.Post (List ℕ × List ℕ) (λ κ e. (now (e .1 .1 .0), now (e .1 .1 .1 .0)))
+salvage-with-unique κ a r s e f p q = (one-answer (p .0) (q .0), λ i. (one-answer (p .1 .0) (q .1 .0) i, one-answer (p .1 .1) (q .1 .1) i))
+
+pub chowderbell-book-salvage-unique : OneAnswerAnd chowderbell-book-salvage.Post ((ℕ × ℕ) × ℕ × (List ℕ × List ℕ))
+    (λ κ e. ((now (e .1 .1 .1 .0), now (e .1 .1 .1 .1 .0)), now (e .1 .1 .1 .1 .1 .0), (now (e .1 .0), now (e .1 .1 .0))))
+chowderbell-book-salvage-unique κ a r s e f p q = (
+  one-answer (p .0 .number-is) (q .0 .number-is),
+  λ i. (
+    (one-answer (p .0 .book-is) (q .0 .book-is) i, one-answer (p .0 .report-is) (q .0 .report-is) i),
+    one-answer (p .0 .last-is) (q .0 .last-is) i,
+    (one-answer (p .1 .0) (q .1 .0) i, one-answer (p .1 .1) (q .1 .1) i),
+  ),
+)
+
+pub good-run-unique : OneAnswer good-run.Post
+good-run-unique κ a r s e f p q = λ i. record { bad = one-answer (p .0) (q .0) i; end = one-answer (p .1) (q .1) i }
 
 pub chowderbell-book-compact-unique : OneAnswerAnd chowderbell-book-compact.Post ((ℕ × ℕ) × List ℕ) (λ κ e. ((now (e .1 .1 .0), now (e .1 .1 .1 .0)), now (e .1 .0)))
 chowderbell-book-compact-unique κ a r s e f = HandedCopy-unique

@@ -1,6 +1,6 @@
 -- RULES 2.1, 5.8 and 5.10 for C: what the entries read as the current time, as the rule of raw dates and as a mark, and what they return
--- and store for the answer of a reader, with its mark or without, of a writer, of a check of a book and of its listing, of a check of two
--- lists and of their merge.
+-- and store for the answer of a reader, with its mark or without, of a writer, of a check of a book, of its listing and of a salvage, of a
+-- check of two lists and of their merge.
 -- Assumes nothing.
 use Prim.Native.Nat.{ℕ}
 use mathlib.Core.Path.{_≡_}
@@ -26,6 +26,8 @@ use Rattle.merge.specs.Lists.{verdictNumber, verdictMachine, verdictLine}
 use Rattle.merge.specs.Merge.{mergedNumber, bookLength, reportLength, mergedMachine, mergedLine}
 use Rattle.merge.specs.declared.lists.Verdict.{Verdict}
 use Rattle.merge.specs.declared.Merged.{Merged}
+use Rattle.salvage.specs.Salvage.{salvagedNumber, bookLength as salvagedLength, reportLength as salvageReportLength, lastBad}
+use Rattle.salvage.specs.declared.Salvaged.{Salvaged}
 use Rattle.chowderbell.specs.declared.times.Named.{Named}
 use Rattle.chowderbell.specs.declared.times.Named.the-variants.{By, Nothing}
 
@@ -81,6 +83,14 @@ pub record HandedCopy (l : Copied) (number length line : ℕ) : Type 0 where
   pub number-is : number ≡ copiedNumber l
   pub length-is : length ≡ copiedLength l
   pub line-is : line ≡ copiedLine l
+
+-- a salvage returns the number of its answer and stores how many bytes it wrote to each room and the number of the last bad line: 0 where there
+-- is none, and all 0 for a refusal
+pub record HandedSalvage (s : Salvaged) (number book report last : ℕ) : Type 0 where
+  pub number-is : number ≡ salvagedNumber s
+  pub book-is : book ≡ salvagedLength s
+  pub report-is : report ≡ salvageReportLength s
+  pub last-is : last ≡ lastBad s
 
 -- a check of two lists, or of two front lines, returns the number of its answer and stores the machine and the line: 0 where there is none
 pub record HandedVerdict (v : Verdict) (number machine line : ℕ) : Type 0 where
