@@ -32,7 +32,8 @@ pub fn take_lines(months: &[u32], book: &[u8], room: &mut [u8], report: &mut [u8
     ensures { λ _. ⌜ (length (reportOf maxPairs (now (book .entry))) ≤ length (now (report .entry)) → now (report .exit) ≡ reportOf maxPairs (now (book .entry)) ++ drop (length (reportOf maxPairs (now (book .entry)))) (now (report .entry))) ⌝ }
 {
     let mut at: usize = 0;
-    let mut n: usize = 0;
+    // The number of the line that begins at `at`.
+    let mut number: usize = 1;
     let mut length: usize = 0;
     let mut told: usize = 0;
     let mut last: usize = 0;
@@ -41,15 +42,17 @@ pub fn take_lines(months: &[u32], book: &[u8], room: &mut [u8], report: &mut [u8
         let run = stamped::good_run(months, rest);
         let bad = run.bad;
         let end = run.end;
+        let size = places::first_place(places::from(rest, end), b'\n');
+        let next = end + size + 1;
         length = put_if_room(places::up_to(rest, end), length, room);
         if bad == 0 {
             return Found { length, told, last };
         }
-        n += bad;
-        last = n;
-        let size = places::first_place(places::from(rest, end), b'\n');
-        told = rows::put_row_if_room(n, size, told, report);
-        at += end + size + 1;
+        number += bad - 1;
+        last = number;
+        told = rows::put_row_if_room(number, size, told, report);
+        number += 1;
+        at += next;
     }
     Found { length, told, last }
 }
