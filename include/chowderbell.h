@@ -1,5 +1,5 @@
-/* Chowderbell: reads and writes the dates that Git writes and people type, lists and compacts books of stamps, merges the lists of
- * two build machines into one book, and shows months.
+/* Chowderbell: reads and writes the dates that Git writes and people type, lists, compacts and salvages books of stamps, merges the
+ * lists of two build machines into one book, and shows months.
  *
  * A time is signed 64-bit seconds since 1970, a signed 32-bit offset from UTC in seconds, and a mark. The library uses no heap,
  * keeps no state and no pointer, and never looks at the clock, the time zone or the locale of the machine: the current time is an
@@ -27,7 +27,8 @@
  *                                 its month outside 1 to 12
  *   7  CHOWDERBELL_OFFSET         a writer is given an offset that is too wide
  *   8  CHOWDERBELL_ROOM           the room is shorter than the bytes to be written
- *  10  CHOWDERBELL_BOOK           the book has more than 65536 bytes or a bad line
+ *  10  CHOWDERBELL_BOOK           the book has more than 65536 bytes or a bad line; if it is to be salvaged, only if it has more
+ *                                 than 65536 bytes
  *  11  CHOWDERBELL_TOO_LARGE      the number that opens a header or a raw date is too large for 64 bits: below -9223372036854775808
  *                                 or above 9223372036854775807
  *  12  CHOWDERBELL_LISTS          of the lists of two build machines, one has more than 32768 bytes, a bad line, or a line with
@@ -35,9 +36,9 @@
  *
  * No function returns 9: by that number the program whenread refuses a line of the wrong layout.
  *
- * Readers test 1, 2, 5, 3, 4, 6 in that order; writers 7, 6, 8; the functions for a book 10, 8; those for two lists 12, 8; a strip
- * 6, 8. A header and a raw date are tested for 11 after 1, after the number of the rule and after the ":" of a header, and before
- * all else that is 2, such as the missing or bad offset of a raw date.
+ * Readers test 1, 2, 5, 3, 4, 6 in that order; writers 7, 6, 8; the functions for a book, that for a damaged one too, 10, 8; those
+ * for two lists 12, 8; a strip 6, 8. A header and a raw date are tested for 11 after 1, after the number of the rule and after the
+ * ":" of a header, and before all else that is 2, such as the missing or bad offset of a raw date.
  *
  * The range is seconds -377705023201 to 253402207200, and for a current time an offset of -93599 to 93599. Header and raw dates may
  * lie outside it.
@@ -87,6 +88,10 @@ extern "C" {
 #define CHOWDERBELL_BOOK_MAX 65536
 #define CHOWDERBELL_PATH_MAX 255
 #define CHOWDERBELL_KEY_LENGTH 16
+
+/* The most bytes that the report on a salvaged book has. A book of 65536 newlines takes that: its rows have the numbers 1 to 65536, a
+   tab, "0" and a newline. A report also has no more than 8 bytes for each byte of its book. */
+#define CHOWDERBELL_SALVAGE_REPORT_MAX 513182
 
 /* The most bytes that the list of a build machine has. The book that two lists are merged into has at most CHOWDERBELL_BOOK_MAX
    bytes, and the report on paths whose keys differ at most CHOWDERBELL_REPORT_MAX: a report is at most nine eighths as long as the
@@ -220,7 +225,10 @@ uint8_t chowderbell_write_iso(int64_t seconds, int32_t offset, uint8_t *room, si
    A book grows by lines that are appended to it. Compacting makes it short again: of the `hull` lines with one path the last stays
    and the earlier ones go.
 
-   The three functions read book[0] to book[len - 1] and no other byte. */
+   A disk that is full can leave half a line in the middle of a book. Salvaging keeps the good lines of such a book and reports the
+   bad ones.
+
+   The four functions read book[0] to book[len - 1] and no other byte. */
 
 /* Checks a book.
      0   The book is good. *line is set to 0.
@@ -253,6 +261,38 @@ uint8_t chowderbell_book_list(const uint8_t *book, size_t len, uint8_t *room, si
    before the cut-off, an older line of it may have been listed, and that line is gone.
    It uses some 28 KB of stack more than a check, for the paths that it has met and the places of the lines that stay. */
 uint8_t chowderbell_book_compact(const uint8_t *book, size_t len, uint8_t *room, size_t room_len, size_t *length, size_t *line);
+
+/* Salvages a damaged book: copies its good lines, and reports the bad ones.
+
+   Each line is judged alone, by the rules for a book above: whether it is good does not depend on the lines around it. The good lines
+   are written to the front of a room of room_len bytes, each with its newline, in their order and with their bytes. The report is
+   written to the front of a room of report_len bytes. It has a row for each bad line:
+
+     NUMBER  LENGTH
+
+   with a tab between and a newline after. NUMBER is the number of the line, counted from 1 among all lines of the book. LENGTH is how
+   many bytes the line has without its newline. Both are plain decimals. The rows are in the order of the book.
+
+   A last piece without a newline is bad, even if its bytes would do, and is reported with its full length. An empty last piece is no
+   line. Two newlines are two bad lines of length 0. So the lines kept and the lines reported add up to the newlines of the book, and
+   one more for a last piece that is not empty.
+
+   A room of len bytes is always long enough for the lines kept. A report has at most 8 bytes for each byte of the book, and never
+   more than CHOWDERBELL_SALVAGE_REPORT_MAX. Rooms of exactly the bytes to be written are enough. If room_len is at least len and
+   report_len at least 8 * len, each line is judged once. Otherwise the book is measured first, and its lines are judged twice.
+   Neither room may overlap the book, so a book is not salvaged in place.
+     0   room[0] to room[*length - 1] are the lines kept, report[0] to report[*report_length - 1] the report, both without a
+         terminating zero. The bytes beyond them are as they were. *last_bad is set to the number of the last bad line, or to 0 if no
+         line is bad.
+     10  The book has more than CHOWDERBELL_BOOK_MAX bytes. A bad line is not a reason to refuse.
+     8   The lines kept are longer than their room, or the report is longer than its room.
+   If it returns 8 or 10, *length, *report_length and *last_bad are set to 0, and every byte of both rooms is as it was.
+   The lines kept are a good book. A good book is kept as it is, and its report is empty; so the lines kept, salvaged again, stay the
+   same. For a book that is not good and not too long, the first row has the line that chowderbell_book_check names.
+   If a bad line was a `since` line, its cut-off is lost: the `hull` lines below it then fall under the cut-off of the `since` line
+   above it, or under none. So the listing can gain hulls or lose hulls by salvaging, also hulls whose own lines were not damaged. */
+uint8_t chowderbell_book_salvage(const uint8_t *book, size_t len, uint8_t *room, size_t room_len, uint8_t *report, size_t report_len,
+                                 size_t *length, size_t *report_length, size_t *last_bad);
 
 /* Two build machines keep a list each: a text of at most 32768 bytes that has `hull` lines only, as they are in a book, each with its
    newline, with seconds that never fall from line to line. The empty list is good. A bad line of a list is any line that is not a

@@ -1,4 +1,4 @@
-# For the run.sh of book/, strip/, lists/ and git/, which source it.
+# For the run.sh of book/, strip/, lists/, salvage/ and git/, which source it.
 #
 # It sets `here` to the folder of that run.sh, `top` to the repository, and `work` to the folder for what is built. If the first
 # word is --help, it prints the comment that the run.sh opens with, and ends.

@@ -1,5 +1,5 @@
-//! A book of stamps: a text with lines for cooked hulls, the listing of the hulls that its cut-offs keep, and the compacted
-//! book, which has one line for each hull.
+//! A book of stamps: a text with lines for cooked hulls, the listing of the hulls that its cut-offs keep, the compacted book,
+//! which has one line for each hull, and what is salvaged from a damaged book.
 //!
 //! A book has at most [`MAX`] bytes. The empty book is good. Every line ends in a newline, the last one too, and has four
 //! fields with tabs between:
@@ -26,12 +26,20 @@
 //! A book grows by lines that are appended to it. The compacted book is the book without each `hull` line whose path a later
 //! `hull` line has: for each path the last line stays, and every `since` line stays. The lines that stay keep their order and
 //! their bytes. The compacted book is a good book too, has no more bytes, and compacts to itself.
+//!
+//! A disk that is full can leave half a line in the middle of a book. Salvaging keeps the good lines, in their order and with
+//! their bytes, and reports the bad ones. Each line is judged alone. What is kept is a good book.
 
 use crate::{entries, refusal, Refusal};
 use core::fmt;
 
 /// The most bytes that a book has.
 pub const MAX: usize = 65536;
+
+/// The most bytes that the report on a salvaged book has. A book of 65536 newlines takes that.
+///
+/// A report also has no more than 8 bytes for each byte of its book.
+pub const SALVAGE_REPORT_MAX: usize = 513182;
 
 /// Checks that a book is good.
 ///
@@ -154,15 +162,138 @@ pub fn compacted(book: impl AsRef<[u8]>, room: &mut [u8]) -> Result<&str, BookEr
     Ok(core::str::from_utf8(&room[..length]).expect("a good book is ASCII"))
 }
 
-/// Why a book is not good, or was not listed or compacted.
+/// Salvages a damaged book: writes its good lines at the start of `room` and the report at the start of `report`, and returns the
+/// lengths of both and the number of the last bad line. The bytes after them are not changed.
+///
+/// The report has a row for each bad line: its number, counted from 1 among all lines of the book, a tab, its length without the
+/// newline, and a newline. A last piece without a newline is bad, even if its bytes would do, and is reported with its full length.
+/// An empty last piece is no line. So the lines kept and the lines reported add up to the newlines of the book, and one more for a
+/// last piece that is not empty.
+///
+/// A room of as many bytes as the book is always long enough, and a report of 8 times as many. With these the book is judged once;
+/// with less, it is measured first. Rooms of exactly the bytes to be written are enough.
+///
+/// If a bad line was a `since` line, its cut-off is lost: the `hull` lines below it then fall under the cut-off of the `since` line
+/// above it, or under none. So the listing can gain hulls or lose hulls by salvaging, also hulls whose lines were not damaged.
+///
+/// # Errors
+/// [`BookError::TooLong`], which is tested first; then [`BookError::Room`]. Neither `room` nor `report` is changed then. A bad
+/// line is no error.
+///
+/// ```
+/// use chowderbell::book::{self, Lengths};
+///
+/// // the first line is cut, and the second one was appended to it
+/// let text = "hull\tcoghull\traft\t00112233445566ff\t5 +0000\n\
+///             hull\tcog\t8899aabbccddeeff\t6 +0000\n";
+/// let (mut room, mut report) = ([b'.'; 36], [b'.'; 6]);
+/// assert_eq!(book::salvage(text, &mut room, &mut report), Ok(Lengths { book: 34, report: 5, last_bad: 1 }));
+/// assert_eq!(&room, b"hull\tcog\t8899aabbccddeeff\t6 +0000\n..");
+/// assert_eq!(&report, b"1\t42\n.");
+/// ```
+pub fn salvage(book: impl AsRef<[u8]>, room: &mut [u8], report: &mut [u8]) -> Result<Lengths, BookError> {
+    let mut lengths = Lengths { book: 0, report: 0, last_bad: 0 };
+    let Lengths { book: length, report: report_length, last_bad } = &mut lengths;
+    let number = entries::book_salvage(book.as_ref(), room, report, length, report_length, last_bad);
+    // an entry that salvages stores no line: it refuses by 10 only a book that is too long
+    refusal::answer(number, lengths).map_err(|why| BookError::new(why, 0))
+}
+
+/// Salvages a damaged book, and returns the lines kept and the report, which are written into `room` and `report`. Both are ASCII.
+///
+/// # Errors
+/// Those of [`salvage`].
+///
+/// ```
+/// use chowderbell::book::{self, BookError, Dropped};
+///
+/// let text = "hull\tships/cog\t00112233445566ff\t1745570000 +0200\n\
+///             hull\tships/wha\n\
+///             since\t1 hour ago\t1745582210\t7200\n\
+///             hull\tships/whaler\t8899aabbccddeeff\t1745582210 +0200"; // the newline is missing
+/// let (mut room, mut report) = ([0; book::MAX], [0; 100]);
+/// let salvaged = book::salvaged(text, &mut room, &mut report).unwrap();
+/// assert_eq!(salvaged.book, "hull\tships/cog\t00112233445566ff\t1745570000 +0200\n\
+///                            since\t1 hour ago\t1745582210\t7200\n");
+/// assert_eq!(salvaged.report, "2\t14\n4\t51\n");
+/// assert_eq!(salvaged.last_bad, 4);
+/// assert!(salvaged.dropped().eq([Dropped { line: 2, length: 14 }, Dropped { line: 4, length: 51 }]));
+/// assert_eq!(book::check(salvaged.book), Ok(()));
+///
+/// assert_eq!(book::salvaged(text, &mut [], &mut report), Err(BookError::Room));
+/// ```
+pub fn salvaged<'a>(
+    book: impl AsRef<[u8]>,
+    room: &'a mut [u8],
+    report: &'a mut [u8],
+) -> Result<Salvaged<'a>, BookError> {
+    let lengths = salvage(book, room, report)?;
+    Ok(Salvaged {
+        book: core::str::from_utf8(&room[..lengths.book]).expect("a good book is ASCII"),
+        report: core::str::from_utf8(&report[..lengths.report]).expect("a report is ASCII"),
+        last_bad: lengths.last_bad,
+    })
+}
+
+/// How much [`salvage`] wrote, and the last bad line.
+#[derive(Clone, Copy, PartialEq, Eq, Hash, Debug)]
+pub struct Lengths {
+    /// How many bytes of `room` are the lines kept.
+    pub book: usize,
+    /// How many bytes of `report` are the report.
+    pub report: usize,
+    /// The number of the last bad line, counted from 1, or 0 if no line is bad.
+    pub last_bad: usize,
+}
+
+/// What is salvaged from a damaged book, as [`salvaged`] returns it.
+#[derive(Clone, Copy, PartialEq, Eq, Hash, Debug)]
+#[non_exhaustive]
+pub struct Salvaged<'a> {
+    /// The lines kept, which are a good book.
+    pub book: &'a str,
+    /// The report, a row for each line that was dropped.
+    pub report: &'a str,
+    /// The number of the last bad line, counted from 1, or 0 if no line is bad.
+    pub last_bad: usize,
+}
+
+impl<'a> Salvaged<'a> {
+    /// The rows of the report, in their order.
+    pub fn dropped(&self) -> impl Iterator<Item = Dropped> + 'a {
+        self.report.lines().map(Dropped::from_row)
+    }
+}
+
+/// A line that was dropped when a book was salvaged.
+#[derive(Clone, Copy, PartialEq, Eq, Hash, Debug)]
+pub struct Dropped {
+    /// Its number, counted from 1 among all lines of the book.
+    pub line: usize,
+    /// How many bytes it has, without its newline.
+    pub length: usize,
+}
+
+impl Dropped {
+    /// Reads a row of a report, without its newline.
+    fn from_row(row: &str) -> Dropped {
+        let (line, length) = row.split_once('\t').expect("a row has a tab");
+        let number = |digits: &str| digits.parse().expect("a row has two numbers");
+        Dropped { line: number(line), length: number(length) }
+    }
+}
+
+/// Why a book is not good, or was not listed, compacted or salvaged.
 #[derive(Clone, Copy, PartialEq, Eq, Hash, Debug)]
 #[non_exhaustive]
 pub enum BookError {
     /// The book has more than [`MAX`] bytes.
     TooLong,
-    /// The book has a bad line. This is the number of the first one, counted from 1.
+    /// The book has a bad line. This is the number of the first one, counted from 1. A book that is salvaged is not refused for
+    /// it.
     BadLine(usize),
-    /// The book is good, and its listing, or the compacted book, is longer than the room.
+    /// The book is good, and its listing, or the compacted book, is longer than the room; or a book is salvaged, and the lines kept
+    /// or the report are longer than their room.
     Room,
 }
 

@@ -1,9 +1,9 @@
 //! The C entries themselves: numbers in, numbers out.
 //!
 //! Each function passes its arguments to an entry and does nothing else, so the caller sees what the entry left in
-//! `seconds`, `offset`, `mark`, `length`, `machine`, `line` and `room`. The number 0 is success; the others are those of
-//! [`Refusal`](crate::Refusal). On a refusal `seconds`, `offset`, `mark` and `length` are 0, and `room` is not changed.
-//! `line` is 0 unless a book or a list has a bad line. Every text, every book, every list and every number has an answer.
+//! `seconds`, `offset`, `mark`, `length`, `machine`, `line`, `last_bad` and `room`. The number 0 is success; the others are
+//! those of [`Refusal`](crate::Refusal). On a refusal `seconds`, `offset`, `mark`, `length` and `last_bad` are 0, and `room` is
+//! not changed. `line` is 0 unless a book or a list has a bad line. Every text, every book, every list and every number has an answer.
 //!
 //! The mark says of offset 0 that it is written `-0000`; [`Time::mark`](crate::Time::mark) has more on it. A reader stores 0
 //! if it is clear and 1 if it is set. To a writer any value but 0 means that it is set. The functions whose name does not
@@ -111,6 +111,17 @@ mod c {
             room_len: usize,
             length: *mut usize,
             line: *mut usize,
+        ) -> u8;
+        pub fn chowderbell_book_salvage(
+            book: *const u8,
+            len: usize,
+            room: *mut u8,
+            room_len: usize,
+            report: *mut u8,
+            report_len: usize,
+            length: *mut usize,
+            report_length: *mut usize,
+            last_bad: *mut usize,
         ) -> u8;
         pub fn chowderbell_fronts_check(
             first: *const u8,
@@ -346,6 +357,36 @@ pub fn book_list(book: &[u8], room: &mut [u8], length: &mut usize, line: &mut us
 #[must_use]
 pub fn book_compact(book: &[u8], room: &mut [u8], length: &mut usize, line: &mut usize) -> u8 {
     unsafe { c::chowderbell_book_compact(book.as_ptr(), book.len(), room.as_mut_ptr(), room.len(), length, line) }
+}
+
+/// Writes the good lines of a damaged book at the start of `room`, and a row for each bad line at the start of `report`. Returns
+/// 0, 8 or 10.
+///
+/// `last_bad` is the number, from 1, of the last bad line, and 0 if there is none. On a refusal both lengths and `last_bad` are
+/// 0, and neither room is changed.
+#[inline]
+#[must_use]
+pub fn book_salvage(
+    book: &[u8],
+    room: &mut [u8],
+    report: &mut [u8],
+    length: &mut usize,
+    report_length: &mut usize,
+    last_bad: &mut usize,
+) -> u8 {
+    unsafe {
+        c::chowderbell_book_salvage(
+            book.as_ptr(),
+            book.len(),
+            room.as_mut_ptr(),
+            room.len(),
+            report.as_mut_ptr(),
+            report.len(),
+            length,
+            report_length,
+            last_bad,
+        )
+    }
 }
 
 /// Checks two front lines, each a good `hull` line with its newline, or empty. Returns 0 or 12.

@@ -1,7 +1,7 @@
 use core::fmt;
 
-/// Why a text was not read, a time was not written, a book was not listed or compacted, two lists were not merged, or a month
-/// has no strip. The numbers are those of the C entries (RULES 2).
+/// Why a text was not read, a time was not written, a book was not listed, compacted or salvaged, two lists were not merged, or
+/// a month has no strip. The numbers are those of the C entries (RULES 2).
 #[derive(Clone, Copy, PartialEq, Eq, Hash, Debug)]
 #[non_exhaustive]
 #[repr(u8)]
@@ -26,7 +26,7 @@ pub enum Refusal {
     Offset = 7,
     /// 8: the room is shorter than the bytes to be written.
     Room = 8,
-    /// 10: the book has more than 65536 bytes or a bad line.
+    /// 10: the book has more than 65536 bytes or a bad line; if it is to be salvaged, only if it has more than 65536 bytes.
     Book = 10,
     /// 11: the number that opens a header or a raw date is too large for 64 bits: below [`i64::MIN`] or above
     /// [`i64::MAX`].

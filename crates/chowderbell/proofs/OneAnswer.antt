@@ -61,7 +61,7 @@ use Rattle.stamps.proofs.book.list.Reads as book-list
 use Rattle.stamps.proofs.book.list_with.Reads as book-list-with
 use Rattle.compact.proofs.compact.Reads as book-compact
 use Rattle.compact.proofs.compact_with.Reads as book-compact-with
-use Rattle.stamps.proofs.book.good_run.Reads as good-run
+use Rattle.stamps.proofs.book.good_run_with.Reads as good-run-with
 use Rattle.salvage.proofs.salvage.Reads as salvage
 use Rattle.salvage.proofs.salvage_with.Reads as salvage-with
 use Rattle.merge.proofs.fronts.earlier.Reads as fronts-earlier
@@ -351,8 +351,8 @@ chowderbell-book-salvage-unique κ a r s e f p q = (
   ),
 )
 
-pub good-run-unique : OneAnswer good-run.Post
-good-run-unique κ a r s e f p q = λ i. record { bad = one-answer (p .0) (q .0) i; end = one-answer (p .1) (q .1) i }
+pub good-run-with-unique : OneAnswer good-run-with.Post
+good-run-with-unique κ a r s e f p q = λ i. record { bad = one-answer (p .0) (q .0) i; end = one-answer (p .1) (q .1) i }
 
 pub chowderbell-book-compact-unique : OneAnswerAnd chowderbell-book-compact.Post ((ℕ × ℕ) × List ℕ) (λ κ e. ((now (e .1 .1 .0), now (e .1 .1 .1 .0)), now (e .1 .0)))
 chowderbell-book-compact-unique κ a r s e f = HandedCopy-unique

@@ -25,7 +25,8 @@ use Rattle.stamps.proofs.Marks.{lines-fit}
 use Rattle.stamps.proofs.Listings.{good-book-iff, judged-append}
 use Rattle.compact.specs.Compact.{holdsPath, isKept, kept, compacted}
 use Rattle.compact.specs.Held.{pathAt, bucketOf, lineAt, linesDown, numberIn, foundNumber, isOvertaken, IsTable}
-use Rattle.compact.proofs.LastLines.{endedLines-append, LineBack}
+use Rattle.stamps.proofs.WholeTexts.{endedLines-append}
+use Rattle.compact.proofs.LastLines.{LineBack}
 use Rattle.compact.proofs.Paths.{holdsPath-cons, isKept-no-path, isKept-path}
 use Rattle.compact.proofs.Kept.{kept-dropped, kept-taken}
 use Rattle.compact.proofs.Chains.{Down, linesDown-enter, foundNumber-enter, heads-enter, down-enter}

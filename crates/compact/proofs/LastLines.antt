@@ -1,9 +1,8 @@
--- A text and its last line. In order: a text with one byte more; no line holds a newline; the lines of a text that ends in a newline and of
--- what follows it; one line back from the place behind a newline.
+-- A text and its last line. In order: a text with one byte more; the last piece holds no newline; one line back from the place behind a newline.
 -- Assumes nothing.
 use mathlib.Core.Path.{_≡_, refl, sym, ap, _∙_}
 use mathlib.Core.Bool.{false}
-use mathlib.Core.List.{List, [], _∷_, _++_, append-assoc, append-nil}
+use mathlib.Core.List.{List, [], _∷_, _++_, append-assoc}
 use Prim.Native.Nat.{ℕ, suc, _+_, _-_, _≤_, _<_}
 use native.Mathlib.Omega.{arith}
 use borrow.Author.Tests.{eqb-true}
@@ -14,11 +13,10 @@ use Rattle.text.specs.Lines.{newline, ontoFirst, endedLines, takenBy, left}
 use Rattle.text.specs.Places.{before, has}
 use Rattle.text.proofs.Lists.{by-test, take-snoc}
 use Rattle.text.proofs.Lines.{endedLines-left}
-use Rattle.text.proofs.Runs.{has-nil}
-use Rattle.text.proofs.Texts.{Lacking, not-has-cons}
 use Rattle.stamps.specs.Copies.{joined}
 use Rattle.stamps.proofs.Books.{behind, endedLines-first, endedLines-open, length-joined, joined-endedLines, takenBy-le}
 use Rattle.stamps.proofs.Listings.{endedLines-line, left-joined}
+use Rattle.stamps.proofs.WholeTexts.{lacking-endedLines}
 use Rattle.compact.specs.Held.{lineAt}
 
 -- ---- one byte more
@@ -39,33 +37,10 @@ takenBy-newline (x ∷ s) =
     by-test (eqb x newline) (λ y. rw y (omega (arith, takenBy-newline s)))
     (λ y. rw y (takenBy-ontoFirst x (endedLines (s ++ (newline ∷ []))) (omega (arith, takenBy-newline s)) ∙ ap suc (takenBy-newline s)))
 
--- ---- no line holds a newline
-lacking-ontoFirst : (b : ℕ) (ls : List (List ℕ)) → eqb b newline ≡ false → Lacking newline ls → Lacking newline (ontoFirst b ls)
-lacking-ontoFirst b [] e h = tt
-lacking-ontoFirst b (l ∷ ls) e h = (not-has-cons newline b l e (h .0), h .1)
-
-pub lacking-endedLines : (s : List ℕ) → Lacking newline (endedLines s)
-unfolding endedLines
-lacking-endedLines [] = tt
-lacking-endedLines (b ∷ s) =
-    by-test (eqb b newline) (λ y. rw y (has-nil newline, lacking-endedLines s)) (λ y. rw y (lacking-ontoFirst b (endedLines s) y (lacking-endedLines s)))
-
+-- ---- the last piece holds no newline
 not-has-left : (s : List ℕ) → has newline (left s) ≡ false
 not-has-left s =
     by-test (has newline (left s)) (λ y. absurd (omega (arith, ap length (sym (endedLines-left s) ∙ endedLines-first (left s) y)))) (λ n. n)
-
--- ---- a text that ends in a newline, and what follows it
-lines-append : (ls : List (List ℕ)) (t : List ℕ) → Lacking newline ls → endedLines (joined ls ++ t) ≡ ls ++ endedLines t
-unfolding joined
-lines-append [] t h = refl
-lines-append (l ∷ ls) t h =
-    ap endedLines (append-assoc l (newline ∷ joined ls) t) ∙ endedLines-line l (joined ls ++ t) (h .0) ∙ ap (λ (v : List (List ℕ)). l ∷ v) (lines-append ls t (h .1))
-
-pub joined-of-whole : (s : List ℕ) → left s ≡ [] → joined (endedLines s) ≡ s
-joined-of-whole s e = sym (append-nil (joined (endedLines s))) ∙ ap (λ (v : List ℕ). joined (endedLines s) ++ v) (sym e) ∙ joined-endedLines s
-
-pub endedLines-append : (s t : List ℕ) → left s ≡ [] → endedLines (s ++ t) ≡ endedLines s ++ endedLines t
-endedLines-append s t e = ap (λ (v : List ℕ). endedLines (v ++ t)) (sym (joined-of-whole s e)) ∙ lines-append (endedLines s) t (lacking-endedLines s)
 
 -- ---- one line back
 pub before-line : (l t : List ℕ) → has newline l ≡ false → before newline (l ++ newline ∷ t) ≡ l

@@ -5,7 +5,7 @@
 -- Assumes nothing.
 use mathlib.Core.Path.{_≡_, refl, sym, ap, _∙_}
 use mathlib.Core.Bool.{true, false≢true, and-false}
-use mathlib.Core.List.{List, [], _∷_, _++_, append-assoc}
+use mathlib.Core.List.{List, [], _∷_, _++_}
 use Prim.Native.Nat.{ℕ, _≤_}
 use native.Mathlib.Omega.{arith}
 use lib.ListN.{length}
@@ -27,7 +27,7 @@ use Rattle.stamps.proofs.Books.{areGood-append, length-joined, takenBy-le, ende
 use Rattle.stamps.proofs.Listings.{good-book-iff, judged-append, joined-good-iff, lacking-of-good, endedLines-joined, left-joined, not-has-newline-of-good, endedLines-line}
 use Rattle.compact.specs.Compact.{isKept, kept, compacted}
 use Rattle.compact.specs.Theorems.{keptMarks, IsNew, listedOfKept}
-use Rattle.compact.proofs.LastLines.{lacking-endedLines, endedLines-append}
+use Rattle.stamps.proofs.WholeTexts.{lacking-endedLines, endedLines-append, joined-append}
 use Rattle.stamps.proofs.Picked.{lacking-picked, areGood-picked, length-picked-le}
 use Rattle.compact.proofs.Kept.{kept-lines-in-order, same-paths}
 use Rattle.compact.proofs.Above.{hull-of-gone}
@@ -77,11 +77,6 @@ module _ (bound : ℕ) where
       )
 
   -- ---- a line behind it
-  joined-append : (a b : List (List ℕ)) → joined (a ++ b) ≡ joined a ++ joined b
-  unfolding joined
-  joined-append [] b = refl
-  joined-append (l ∷ a) b = ap (λ (t : List ℕ). l ++ newline ∷ t) (joined-append a b) ∙ sym (append-assoc l (newline ∷ joined a) (joined b))
-
   joined-added : (ls : List (List ℕ)) (m : List ℕ) → joined (ls ++ m ∷ []) ≡ joined ls ++ ended m
   unfolding joined
   joined-added ls m = joined-append ls (m ∷ [])

@@ -21,7 +21,7 @@ use Rattle.stamps.specs.Theorems.{areGood, isHullLine}
 use Rattle.stamps.specs.declared.book.Checked.the-variants.{Good as GoodBook}
 use Rattle.stamps.proofs.Books.{length-joined, endedLines-nil}
 use Rattle.stamps.proofs.Listings.{good-of-hull, joined-good-iff, lacking-of-good, endedLines-joined}
-use Rattle.compact.proofs.LastLines.{joined-of-whole}
+use Rattle.stamps.proofs.WholeTexts.{joined-of-whole}
 use Rattle.merge.specs.Lists.{listsOf}
 use Rattle.merge.specs.Merge.{mergedLines, merged}
 use Rattle.merge.specs.Theorems.{Shuffle, areHulls, isSorted, linesAt}

@@ -20,7 +20,7 @@ use Rattle.text.proofs.Texts.{Lacking}
 use Rattle.stamps.specs.Lines.{lineOf, isGood}
 use Rattle.stamps.specs.Copies.{joined}
 use Rattle.stamps.proofs.Listings.{endedLines-joined}
-use Rattle.stamps.proofs.ReadBack.{has-of-Free}
+use Rattle.stamps.proofs.ReadBack.{Free-append, has-of-Free}
 use Rattle.stamps.proofs.Scans.{Free-of-between}
 use Rattle.salvage.specs.Salvage.{goodLines, salvaged, Dropped, badLines, badPiece, dropped, rowOf, rowsOf, report}
 use Rattle.salvage.specs.Theorems.{newlines, lineCount}
@@ -43,10 +43,6 @@ pub newlines-joined : (ls : List (List ℕ)) → Lacking newline ls → newlines
 newlines-joined ls h = newlines-endedLines (joined ls) ∙ ap length (endedLines-joined ls h)
 
 -- ---- the rows of the report
-Free-append : (c : ℕ) (s t : List ℕ) → Free c s → Free c t → Free c (s ++ t)
-Free-append c [] t f g = g
-Free-append c (b ∷ s) t f g = (f .0, Free-append c s t (f .1) g)
-
 -- digits are no newline and no tab
 pub Free-decimal : (c : ℕ) → c < 48 → (n : ℕ) → Free c (decimal n)
 Free-decimal c h n = Free-of-between c 48 57 h (decimal n) (decimal-between 48 57 (omega arith) (omega arith) n)

@@ -1,7 +1,7 @@
 -- What a salvage returns, and both rooms afterwards. In order: rooms that are long enough for any book of this length; a book that is too long; a room that
 -- is too short; both written.
 -- Assumes nothing.
-use mathlib.Core.Path.{_≡_, refl, sym, ap, _∙_}
+use mathlib.Core.Path.{_≡_, refl}
 use mathlib.Core.Bool.{true, false, _&&_}
 use mathlib.Core.List.{List, _++_}
 use Prim.Native.Nat.{ℕ, _*_, _≤_, _<_}

@@ -1,82 +1,26 @@
--- The good lines of a book. In order: a text without a last piece is its lines, whose bytes hold no newline, and what follows it
--- has its own lines; the lines that are kept are good; they are a good book (`salvaged-is-a-good-book`); a good book comes out
+-- The good lines of a book. In order: the lines that are kept are good; they are a good book (`salvaged-is-a-good-book`); a good book comes out
 -- the same (`good-book-comes-out-the-same`); the report is empty exactly if the book is good (`empty-report-iff-good`); salvaging
 -- twice is salvaging once (`salvaging-twice-is-once`, `second-report-is-empty`).
 -- Assumes nothing.
 use mathlib.Core.Path.{_≡_, refl, sym, ap, _∙_}
-use mathlib.Core.Bool.{true, false}
+use mathlib.Core.Bool.{true}
 use mathlib.Core.Logic.{_↔_}
-use mathlib.Core.List.{List, [], _∷_, _++_, append-assoc, append-nil}
+use mathlib.Core.List.{List, [], _∷_, _++_}
 use Prim.Native.Nat.{ℕ, suc, _+_, _≤_}
 use native.Mathlib.Omega.{arith}
-use lib.Dec.{eqb}
 use lib.ListN.{length, drop, length-append}
-use lib.Seq.{drop-append-add}
-use Rattle.text.specs.Lines.{newline, ontoFirst, endedLines, takenBy, left}
+use Rattle.text.specs.Lines.{newline, endedLines, left}
 use Rattle.text.proofs.Lists.{by-test, both}
-use Rattle.text.proofs.Runs.{has-nil}
-use Rattle.text.proofs.Texts.{Lacking, not-has-cons}
+use Rattle.text.proofs.Texts.{Lacking}
 use Rattle.stamps.specs.Lines.{lineOf, isGood}
 use Rattle.stamps.specs.Book.{maxBook, judged, checkOf}
 use Rattle.stamps.specs.Copies.{joined}
 use Rattle.stamps.specs.Theorems.{areGood}
 use Rattle.stamps.specs.declared.book.Checked.the-variants.{Good}
-use Rattle.stamps.proofs.Books.{length-joined, joined-endedLines}
-use Rattle.stamps.proofs.Listings.{good-book-iff, lacking-of-good, endedLines-line, endedLines-joined, left-joined}
+use Rattle.stamps.proofs.Listings.{good-book-iff, lacking-of-good, endedLines-joined, left-joined}
+use Rattle.stamps.proofs.WholeTexts.{joined-of-whole}
 use Rattle.salvage.specs.Salvage.{goodLines, salvaged, Dropped, badLines, badPiece, dropped, lastNumber, rowOf, rowsOf, report}
 use Rattle.salvage.proofs.Rooms.{length-salvaged-le}
-
--- ---- a text without a last piece, and what follows it
-lacking-ontoFirst : (b : ℕ) (ls : List (List ℕ)) → eqb b newline ≡ false → Lacking newline ls → Lacking newline (ontoFirst b ls)
-lacking-ontoFirst b [] e h = tt
-lacking-ontoFirst b (l ∷ ls) e h = (not-has-cons newline b l e (h .0), h .1)
-
--- no line holds a newline
-pub lacking-endedLines : (s : List ℕ) → Lacking newline (endedLines s)
-unfolding endedLines
-lacking-endedLines [] = tt
-lacking-endedLines (b ∷ s) =
-    by-test (eqb b newline) (λ y. rw y (has-nil newline, lacking-endedLines s)) (λ y. rw y (lacking-ontoFirst b (endedLines s) y (lacking-endedLines s)))
-
--- a text without a last piece is its lines, joined
-pub joined-of-whole : (s : List ℕ) → left s ≡ [] → joined (endedLines s) ≡ s
-joined-of-whole s e = sym (append-nil (joined (endedLines s))) ∙ ap (λ (v : List ℕ). joined (endedLines s) ++ v) (sym e) ∙ joined-endedLines s
-
-lines-append : (ls : List (List ℕ)) (t : List ℕ) → Lacking newline ls → endedLines (joined ls ++ t) ≡ ls ++ endedLines t
-unfolding joined
-lines-append [] t h = refl
-lines-append (l ∷ ls) t h =
-    ap endedLines (append-assoc l (newline ∷ joined ls) t) ∙ endedLines-line l (joined ls ++ t) (h .0) ∙ ap (λ (v : List (List ℕ)). l ∷ v) (lines-append ls t (h .1))
-
--- the lines of such a text and of what follows it
-pub endedLines-append : (s t : List ℕ) → left s ≡ [] → endedLines (s ++ t) ≡ endedLines s ++ endedLines t
-endedLines-append s t e = ap (λ (v : List ℕ). endedLines (v ++ t)) (sym (joined-of-whole s e)) ∙ lines-append (endedLines s) t (lacking-endedLines s)
-
-takenBy-append : (a b : List (List ℕ)) → takenBy (a ++ b) ≡ takenBy a + takenBy b
-unfolding takenBy
-takenBy-append [] b = omega arith
-takenBy-append (l ∷ a) b = omega (arith, takenBy-append a b)
-
--- the last piece of what follows it is the last piece of both
-pub left-append : (s t : List ℕ) → left s ≡ [] → left (s ++ t) ≡ left t
-unfolding left
-left-append s t e =
-    let n = takenBy (endedLines t) in
-    let k : takenBy (endedLines (s ++ t)) ≡ length s + n =
-    omega (
-      arith,
-      ap takenBy (endedLines-append s t e),
-      takenBy-append (endedLines s) (endedLines t),
-      length-joined (endedLines s),
-      ap length (joined-of-whole s e),
-    ) in
-    ap (λ (m : ℕ). drop m (s ++ t)) k ∙ drop-append-add s t n
-
--- lines of both, as bytes
-pub joined-append : (a b : List (List ℕ)) → joined (a ++ b) ≡ joined a ++ joined b
-unfolding joined
-joined-append [] b = refl
-joined-append (l ∷ a) b = ap (λ (t : List ℕ). l ++ newline ∷ t) (joined-append a b) ∙ sym (append-assoc l (newline ∷ joined a) (joined b))
 
 -- ---- the lines that are kept
 module _ (bound : ℕ) where

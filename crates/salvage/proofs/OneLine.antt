@@ -21,10 +21,11 @@ use Rattle.stamps.specs.declared.book.Checked.the-variants.{Good}
 use Rattle.stamps.proofs.Books.{endedLines-open, left-open}
 use Rattle.stamps.proofs.Fields.{field-append}
 use Rattle.stamps.proofs.Listings.{good-book-iff, endedLines-line, left-joined}
+use Rattle.stamps.proofs.WholeTexts.{endedLines-append, left-append, joined-append}
 use Rattle.salvage.specs.Salvage.{goodLines, salvaged, Dropped, badLines, badPiece, dropped, lastNumber, rowOf, rowsOf, report}
 use Rattle.salvage.specs.Theorems.{LastRow}
 use Rattle.salvage.proofs.AddUp.{Free-decimal, not-has-row}
-use Rattle.salvage.proofs.GoodLines.{endedLines-append, left-append, joined-append, salvaged-of-good, badLines-of-good, none-of-report}
+use Rattle.salvage.proofs.GoodLines.{salvaged-of-good, badLines-of-good, none-of-report}
 
 -- ---- a line in front of a text, and a last piece
 left-line : (l t : List ℕ) → has newline l ≡ false → left (l ++ newline ∷ t) ≡ left t

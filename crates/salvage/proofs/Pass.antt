@@ -5,15 +5,10 @@ use mathlib.Core.Path.{_≡_, refl, sym, ap, _∙_}
 use mathlib.Core.List.{List, [], _∷_, _++_, append-assoc, append-nil}
 use Prim.Native.Nat.{ℕ, zero, suc, _+_, _-_, _*_, _≤_, _<_}
 use native.Mathlib.Omega.{arith}
-use borrow.Author.Tests.{leb-true, leb-false}
-use lib.Dec.{leb}
 use lib.ListN.{length, take, drop, length-append, length-drop, drop-of-length-le}
 use lib.Seq.{drop-drop}
-use Rattle.text.specs.Lines.{newline, endedLines}
+use Rattle.text.specs.Lines.{newline}
 use Rattle.text.specs.Places.{firstPlace}
-use Rattle.text.specs.Room.{putAt}
-use Rattle.text.proofs.Behind.{Front, front-append, front-whole, length-putAt}
-use Rattle.text.proofs.Lists.{by-test}
 use Rattle.stamps.specs.Book.{maxBook, linesIn, firstBad}
 use Rattle.stamps.specs.Copies.{joined}
 use Rattle.stamps.specs.Held.{badNumber}

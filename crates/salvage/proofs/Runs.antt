@@ -1,17 +1,17 @@
 -- A run of good lines and the line behind it. In order: the lines that are dropped below others; the first line of a text that holds a newline, of
--- one that holds none, and of the empty text; a text by the run of good lines at its front (`run`); the same by what `good_run` answers.
+-- one that holds none, and of the empty text; a text by the run of good lines at its front (`run`); the same by what `good_run_with` answers; the first line that is dropped is the one that a check names (`check-names-the-first-row`).
 -- Assumes nothing.
 use mathlib.Core.Path.{_≡_, refl, sym, ap, _∙_}
-use mathlib.Core.Bool.{Bool, true, false, cond, _&&_, false≢true, and-true}
-use mathlib.Core.List.{List, [], _∷_, _++_, append-assoc, append-nil}
+use mathlib.Core.Bool.{true, false, _&&_, and-true}
+use mathlib.Core.List.{List, [], _∷_, _++_, append-assoc}
 use Prim.Native.Nat.{ℕ, zero, suc, _+_, _≤_, _<_}
-use native.Mathlib.Nat.{add-suc, suc-add}
+use native.Mathlib.Nat.{add-suc}
 use native.Mathlib.Numerals.{add-one}
 use native.Mathlib.Omega.{arith}
 use borrow.Author.Tests.{ltb-true, ltb-false}
 use lib.Dec.{ltb}
 use lib.ListN.{length, take, drop, getD, length-drop, drop-of-length-le}
-use lib.Seq.{take-suc, take-add, take-all, drop-drop, drop-nil, take-nil}
+use lib.Seq.{take-suc, take-add, drop-drop, drop-nil, take-nil}
 use Rattle.text.specs.Lines.{newline, endedLines, takenBy, left}
 use Rattle.text.specs.Places.{firstPlace, before, has}
 use Rattle.text.specs.declared.number.Number.{Number}
@@ -19,14 +19,17 @@ use Rattle.text.specs.declared.number.Number.the-variants.{Value, Nothing}
 use Rattle.text.proofs.FirstPlaces.{getD-firstPlace}
 use Rattle.text.proofs.Lists.{by-test, both}
 use Rattle.text.proofs.Runs.{run-le-length}
-use Rattle.stamps.specs.Book.{linesIn, firstBad}
+use Rattle.time.specs.declared.Refusal.the-variants.{Book}
+use Rattle.stamps.specs.Book.{linesIn, firstBad, checkOf}
 use Rattle.stamps.specs.Copies.{joined}
 use Rattle.stamps.specs.Held.{goodFront, badNumber}
 use Rattle.stamps.specs.Lines.{lineOf, isGood}
 use Rattle.stamps.specs.declared.line.Line.{Line}
 use Rattle.stamps.specs.declared.line.Line.the-variants.{Hull, Since, Bad}
 use Rattle.stamps.proofs.Books.{behind, firstPlace-lt, endedLines-first, left-first, endedLines-open, left-open, endedLines-nil, linesIn-open, firstBad-first, firstBad-stop, goodFront-first, goodFront-stop, firstBad-of-zero, takenBy-le}
+use Rattle.stamps.specs.declared.book.Checked.the-variants.{Refused}
 use Rattle.stamps.proofs.Fields.{length-before}
+use Rattle.stamps.proofs.Listings.{checked-at, checkOf-within, le-maxBook-of-checkOf}
 use Rattle.salvage.specs.Salvage.{Dropped, goodLines, salvaged, badLines, badPiece, dropped}
 
 -- the lines of s that are dropped, where m lines stand above it
@@ -196,7 +199,7 @@ module _ (bound : ℕ) where
       (λ e. run-again m s e (run k (suc m) (behind s) (omega (arith, length-drop (firstPlace newline s + 1) s)))) (λ e. run-stop m s some e))
       (λ n. run-nil m s (ltb-false 0 (length s) n))
 
--- ---- the same by what `good_run` answers
+-- ---- the same by what `good_run_with` answers
 -- a number of a line, where m lines more stand above
 abbrev shifted : ℕ → Number → Number
 shifted m (Value v) = Value (m + v)
@@ -241,3 +244,15 @@ module _ (bound bad end : ℕ) (s : List ℕ) (bad-is : bad ≡ badNumber (first
         told : (x : Number) → bad ≡ badNumber x → shifted m x ≡ Value (m + bad)
         told (Value w) e = ap (λ (k : ℕ). Value (m + k)) (sym e)
         told Nothing e = absurd (n e)
+
+-- ---- a check that refuses a book names the line of the first row
+pub check-names-the-first-row : (bound n : ℕ) (book : List ℕ) → checkOf bound book ≡ Refused Book (suc n)
+    → (size : ℕ) × (below : List Dropped) × (dropped bound book ≡ dropAt (suc n) size ∷ below)
+check-names-the-first-row bound n book e =
+    let h = le-maxBook-of-checkOf bound book (Refused Book (suc n)) e (λ q. let z : 0 ≡ suc n = cc in omega arith) in
+    let v : firstBad 1 (linesIn bound book) ≡ Value (suc n) = checked-at (firstBad 1 (linesIn bound book)) (suc n) (sym (checkOf-within bound book h) ∙ e) in
+    let tail = drop (frontSize bound book) book in (
+      firstPlace newline tail,
+      droppedBelow bound (suc n) (behind tail),
+      dropped-below-none bound book ∙ run bound (length book) 0 book (omega arith) .lost ∙ ap (λ (x : Number). rowsAt bound x tail) v,
+    )

@@ -39,7 +39,7 @@ pub fn take_lines(months: &[u32], book: &[u8], room: &mut [u8], report: &mut [u8
     let mut last: usize = 0;
     while at < book.len() {
         let rest = places::from(book, at);
-        let run = stamped::good_run(months, rest);
+        let run = stamped::good_run_with(months, rest);
         let bad = run.bad;
         let end = run.end;
         let size = places::first_place(places::from(rest, end), b'\n');

@@ -104,16 +104,16 @@ checked-good : (x : Number) → checkedAt x ≡ Good → x ≡ NoNumber
 checked-good (Value n) e = let z : _≡_ {A = ℕ} 0 1 = cc in absurd (omega arith)
 checked-good NoNumber e = refl
 
-checked-at : (x : Number) (n : ℕ) → checkedAt x ≡ Refused Book n → x ≡ Value n
+pub checked-at : (x : Number) (n : ℕ) → checkedAt x ≡ Refused Book n → x ≡ Value n
 checked-at (Value m) n e = let q : m ≡ n = cc in ap Value q
 checked-at NoNumber n e = let z : _≡_ {A = ℕ} 0 1 = cc in absurd (omega arith)
 
 -- a book that is not too long is refused at its first bad line
-checkOf-within : (bound : ℕ) (book : List ℕ) → length book ≤ maxBook → checkOf bound book ≡ checkedAt (firstBad 1 (linesIn bound book))
+pub checkOf-within : (bound : ℕ) (book : List ℕ) → length book ≤ maxBook → checkOf bound book ≡ checkedAt (firstBad 1 (linesIn bound book))
 unfolding checkOf
 checkOf-within bound book h = rw (le-leb (length book) maxBook h)
 
-le-maxBook-of-checkOf : (bound : ℕ) (book : List ℕ) (r : Checked) → checkOf bound book ≡ r → (Refused Book 0 ≡ r → ⊥) → length book ≤ maxBook
+pub le-maxBook-of-checkOf : (bound : ℕ) (book : List ℕ) (r : Checked) → checkOf bound book ≡ r → (Refused Book 0 ≡ r → ⊥) → length book ≤ maxBook
 unfolding checkOf
 le-maxBook-of-checkOf bound book r e not =
     by-test (leb (length book) maxBook) (λ y. leb-true (length book) maxBook y) (λ n. absurd (not (rw n at e)))

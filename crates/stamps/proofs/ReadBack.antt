@@ -83,7 +83,7 @@ no-newline : (s : List ℕ) → Text s → Free newline s
 unfolding isTextByte
 no-newline s e = Free-of-Text newline refl s e
 
-Free-append : (c : ℕ) (s t : List ℕ) → Free c s → Free c t → Free c (s ++ t)
+pub Free-append : (c : ℕ) (s t : List ℕ) → Free c s → Free c t → Free c (s ++ t)
 Free-append c [] t f g = g
 Free-append c (b ∷ s) t f g = (f .0, Free-append c s t (f .1) g)
 

@@ -115,7 +115,7 @@ pub struct Run {
 }
 
 // Judges the lines of a text up to the first bad one, with a table of months as `check_with` has it.
-pub fn good_run(months: &[u32], s: &[u8]) -> Run
+pub fn good_run_with(months: &[u32], s: &[u8]) -> Run
     requires { ⌜ IsMonths (now months) ⌝ }
     ensures { λ r. ⌜ (r .bad ≡ badNumber (firstBad 1 (linesIn maxPairs (now (s .entry))))) × (r .end ≡ takenBy (goodFront maxPairs (endedLines (now (s .entry))))) ⌝ }
 {

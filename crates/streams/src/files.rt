@@ -20,6 +20,7 @@ use crate::read_whole;
 use crate::refuse;
 use crate::write_whole;
 use libc::PATH_MAX;
+use libc::STDIN_FILENO;
 use libc::types::stat;
 use libc::types::timespec;
 use text::decimal;
@@ -266,6 +267,25 @@ fn ended(path: &[u8]) -> [u8; PATH_MAX]
     room
 }
 
+// Whether two paths name the same regular file: by the same name, by two spellings of it, or by a link. The
+// answer is false if a path names no file, or a file that the system tells nothing about.
+pub fn is_same_file(path: &[u8], other: &[u8]) -> bool {
+    are_same(known_at(path), known_at(other))
+}
+
+// Whether standard input is read from the regular file that a path names.
+pub fn is_input(path: &[u8]) -> bool {
+    are_same(filled(STDIN_FILENO, nothing_known()), known_at(path))
+}
+
+// A file of which nothing is known has device 0 and inode 0, and no regular file has both.
+fn are_same(one: stat, other: stat) -> bool {
+    if is_regular(one.st_mode) {
+        return (one.st_dev == other.st_dev) & (one.st_ino == other.st_ino);
+    }
+    false
+}
+
 fn is_regular(mode: u32) -> bool {
     mode & libc::S_IFMT == libc::S_IFREG
 }
@@ -285,6 +305,23 @@ fn kept_of(fd: i32) -> Kept {
 fn filled(fd: i32, about: stat) -> stat {
     let mut known = about;
     libc::fstat(fd, &mut known);
+    known
+}
+
+// What is known of the file that a path names. A symbolic link is followed. Nothing is opened, because
+// opening a pipe could wait for ever.
+fn known_at(path: &[u8]) -> stat {
+    let path = ended(path);
+    filled_at(&path, nothing_known())
+}
+
+// What `stat` makes of `about`, which stays as it is if the call fails. `stat` borrows a struct, so this
+// function is proved by hand.
+fn filled_at(path: &[u8; PATH_MAX], about: stat) -> stat
+    requires { ⌜ Ended (now path) ⌝ }
+{
+    let mut known = about;
+    libc::stat(path, &mut known);
     known
 }
 

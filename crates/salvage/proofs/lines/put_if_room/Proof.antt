@@ -1,7 +1,6 @@
 -- `salvage::lines::put_if_room` meets its contract.
 -- Assumes nothing.
 use mathlib.Core.Path.{refl}
-use native.Mathlib.Omega.{arith}
 use borrow.Author.Needs.{needs}
 use Rattle.salvage.proofs.PutRows.{put-none, put-all}
 use Rattle.salvage.proofs.lines.put_if_room.Statement.{statement}

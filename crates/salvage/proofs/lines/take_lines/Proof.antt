@@ -29,7 +29,7 @@ add-next-2 c =
     let at-run = at-tail .before in
     let at-rest = at-run .before in
     let at-loop = at-rest .before .before in
-    let ran = at-run .good-run .ensures in
+    let ran = at-run .good-run-with .ensures in
     record {
       fits = omega (
         arith,
@@ -44,7 +44,7 @@ put-if-room-requires c κs =
     let at-run = at-part .before .before .before in
     let at-rest = at-run .before in
     let at-loop = at-rest .before .before in
-    let ran = at-run .good-run .ensures in
+    let ran = at-run .good-run-with .ensures in
     run-has-room (at-loop .loop .inv) _ _ _ (at-rest .from .ensures) (ran .0) (ran .1) _ (at-part .up-to .ensures) (at-loop .before .before .before .before .before .pre .1)
 
 same-length : tie.Need-same-length Inv-loop μ-loop
@@ -54,7 +54,7 @@ same-length c =
     let at-run = at-part .before .before .before in
     let at-rest = at-run .before in
     let at-loop = at-rest .before .before in
-    let ran = at-run .good-run .ensures in
+    let ran = at-run .good-run-with .ensures in
     kept-fits (at-loop .loop .inv) _ _ _ (at-rest .from .ensures) (ran .0) (ran .1) _ (at-part .up-to .ensures) _ _ (at-put .put-if-room .ensures .1) (at-put .put-if-room .ensures .0) .same
 
 -- all that is left is good
@@ -65,7 +65,7 @@ returns c =
     let at-run = at-part .before .before .before in
     let at-rest = at-run .before in
     let at-loop = at-rest .before .before in
-    let ran = at-run .good-run .ensures in
+    let ran = at-run .good-run-with .ensures in
     taking-whole (at-loop .loop .inv) _ _ _ (at-rest .from .ensures) (ran .0) (ran .1) _ (at-part .up-to .ensures) _ _ (at-put .put-if-room .ensures .1) (at-put .put-if-room .ensures .0) (c .if1 .taken)
 
 -- the number of the bad line
@@ -74,7 +74,7 @@ add-number c =
     let at-run = c .before .before .before .before .before .before .before .before in
     let at-rest = at-run .before in
     let at-loop = at-rest .before .before in
-    let ran = at-run .good-run .ensures in
+    let ran = at-run .good-run-with .ensures in
     record {
       fits = omega (
         arith,
@@ -100,7 +100,7 @@ loop-again c =
     let at-run = at-tail .before in
     let at-rest = at-run .before in
     let at-loop = at-rest .before .before in
-    let ran = at-run .good-run .ensures in
+    let ran = at-run .good-run-with .ensures in
     taking-again (at-loop .loop .inv) _ _ _ (at-rest .from .ensures) (ran .0) (ran .1) _ (at-part .up-to .ensures) _ _ (at-put .put-if-room .ensures .1) (at-put .put-if-room .ensures .0)
     (at-rest .before .loop-test .taken) _ (at-tail .from2 .ensures) _ (at-line .first-place .ensures .0) (at-test .if1 .left) _ _ _ _ refl refl (at-row .put-row-if-room .ensures .1) (at-row .put-row-if-room .ensures .0)
 

@@ -1,0 +1,3 @@
+-- The laws of the functions that are proved by hand. Stats: a `stat` in memory.
+-- Assumes nothing.
+pub mod Stats
