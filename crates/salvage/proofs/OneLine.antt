@@ -32,7 +32,7 @@ left-line : (l t : List ℕ) → has newline l ≡ false → left (l ++ newline 
 unfolding joined
 left-line l t h = ap left (sym (append-assoc l (newline ∷ []) t)) ∙ left-append (l ++ newline ∷ []) t (left-joined (l ∷ []) (h, tt))
 
-badPiece-some : (n : ℕ) (s : List ℕ) → 0 < length s → badPiece n s ≡ record { number = n; size = length s } ∷ []
+pub badPiece-some : (n : ℕ) (s : List ℕ) → 0 < length s → badPiece n s ≡ record { number = n; size = length s } ∷ []
 badPiece-some n [] h = absurd (omega arith)
 badPiece-some n (b ∷ s) h = refl
 

@@ -31,6 +31,7 @@ use Rattle.stamps.specs.declared.book.Checked.the-variants.{Refused}
 use Rattle.stamps.proofs.Fields.{length-before}
 use Rattle.stamps.proofs.Listings.{checked-at, checkOf-within, le-maxBook-of-checkOf}
 use Rattle.salvage.specs.Salvage.{Dropped, goodLines, salvaged, badLines, badPiece, dropped}
+use Rattle.salvage.proofs.OneLine.{badPiece-some}
 
 -- the lines of s that are dropped, where m lines stand above it
 abbrev pub droppedBelow : ℕ → ℕ → List ℕ → List Dropped
@@ -112,10 +113,6 @@ module _ (bound : ℕ) (s : List ℕ) where
         by-test (has newline s) (λ h. ap (λ (ls : List (List ℕ)). joined (goodLines bound ls)) (endedLines-first s h) ∙ rw (bad-of-ended h))
         (λ h. ap (λ (ls : List (List ℕ)). joined (goodLines bound ls)) (endedLines-open s h ∙ sym (ap endedLines (behind-open h) ∙ endedLines-nil)))
 
-    piece-of : (n : ℕ) (t : List ℕ) → 0 < length t → badPiece n t ≡ dropAt n (length t) ∷ []
-    piece-of n [] k = absurd (omega arith)
-    piece-of n (b ∷ t) k = refl
-
     below-bad : (m : ℕ) → droppedBelow bound m s ≡ dropAt (suc m) (firstPlace newline s) ∷ droppedBelow bound (suc m) (behind s)
     unfolding badLines
     below-bad m =
@@ -127,7 +124,7 @@ module _ (bound : ℕ) (s : List ℕ) where
         let piece : droppedBelow bound m s ≡ badPiece (suc m) s =
         (λ i. badLines bound (suc m) (none i) ++ badPiece (suc (m + length (none i))) (left-open s none i)) ∙ ap (λ (n : ℕ). badPiece n s) z in
         let size : length s ≡ firstPlace newline s = omega (arith, firstPlace-le-length s, ltb-false (firstPlace newline s) (length s) (unfold-has h)) in
-        piece ∙ piece-of (suc m) s some ∙ (λ i. dropAt (suc m) (size i) ∷ sym (below-nil bound (suc m) (behind s) (behind-open h)) i))
+        piece ∙ badPiece-some (suc m) s some ∙ (λ i. dropAt (suc m) (size i) ∷ sym (below-nil bound (suc m) (behind s) (behind-open h)) i))
 
 -- ---- a text by the run of good lines at its front
 -- how many bytes the run has, and what follows it

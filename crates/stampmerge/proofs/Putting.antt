@@ -10,7 +10,8 @@ use Rattle.text.specs.Decimal.{decimal}
 use Rattle.text.specs.Quote.{bytes}
 use Rattle.merge.specs.declared.lists.Machine.{Machine}
 use Rattle.merge.specs.declared.lists.Fault.{Fault}
-use Rattle.stampmerge.specs.Messages.{pathOf, nameOf, atLine, faultWords, messageOf}
+use Rattle.streams.specs.Names.{nameOf}
+use Rattle.stampmerge.specs.Messages.{pathOf, atLine, faultWords, messageOf}
 
 -- what is wrong at line n, then the number of the line, then a colon
 pub line-put : (n : ℕ) (what u v w x : List ℕ) → v ≡ what ++ u → w ≡ decimal n ++ v → x ≡ code ":" ∷ w → x ≡ atLine n what ++ u

@@ -1,14 +1,13 @@
--- What `stampmerge` says of a list that is at fault (RULES 15.8), as bytes. In order: the path of the list; its name in a message; what is
--- wrong with it; the message. A path is an argument as it was given. Lines are counted from 1.
+-- What `stampmerge` says of a list that is at fault (RULES 15.8), as bytes. In order: the path of the list; what is wrong with it; the
+-- message. A path is an argument as it was given. Lines are counted from 1.
 -- Assumes nothing.
 use Prim.Native.Nat.{ℕ}
 use Prim.Native.Char.{code}
-use mathlib.Core.Bool.{cond}
 use mathlib.Core.List.{List, [], _∷_, _++_}
 use lib.ListN.{take}
-use Rattle.text.specs.Bytes.{same}
 use Rattle.text.specs.Decimal.{decimal}
 use Rattle.text.specs.Quote.{bytes}
+use Rattle.streams.specs.Names.{nameOf}
 use Rattle.merge.specs.declared.lists.Machine.{Machine}
 use Rattle.merge.specs.declared.lists.Machine.the-variants.{Neither, First, Second}
 use Rattle.merge.specs.declared.lists.Fault.{Fault}
@@ -19,10 +18,6 @@ abbrev pub pathOf : Machine → List ℕ → List ℕ → List ℕ
 pathOf First first second = first
 pathOf Second first second = second
 pathOf Neither first second = []
-
--- the name of a list: its path, or that of the input if the path is `-`
-abbrev pub nameOf : List ℕ → List ℕ → List ℕ
-nameOf input path = cond (same path (bytes "-")) input path
 
 -- what is wrong at a line: the number of the line, with a colon in front, and these words
 abbrev pub atLine : ℕ → List ℕ → List ℕ

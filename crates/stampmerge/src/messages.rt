@@ -9,10 +9,9 @@ ghost use mathlib.Core.List.{_++_};
 ghost use Prim.Native.Nat.{_+_, _≤_};
 ghost use lib.ListN.{length, drop};
 ghost use Rattle.text.specs.Decimal.{decimal as decimalOf};
-ghost use Rattle.stampmerge.specs.Messages.{pathOf, nameOf, atLine, faultWords, messageOf};
+ghost use Rattle.stampmerge.specs.Messages.{pathOf, atLine, faultWords, messageOf};
 use merge::lists::Fault;
 use merge::lists::Machine;
-use text::bytes;
 use text::copy;
 use text::decimal;
 use text::places;
@@ -44,7 +43,7 @@ pub fn put_message<'a>(
     ensures { λ r. ⌜ drop r (now (room .exit)) ≡ messageOf machine fault (now (first .entry)) (now (second .entry)) ⌝ }
 {
     let at = put_fault(fault, room.len(), room);
-    let name = name_of(path_of(machine, first, second), b"standard input");
+    let name = streams::name_of(path_of(machine, first, second), b"standard input");
     put_text(places::up_to(name, MAX_NAME), at, room)
 }
 
@@ -57,16 +56,6 @@ fn path_of<'a>(machine: Machine, first: &'a [u8], second: &'a [u8]) -> &'a [u8]
         Machine::Second => second,
         Machine::Neither => places::up_to(first, 0),
     }
-}
-
-// The name of a list in a message: `-` is standard input.
-fn name_of<'a>(path: &'a [u8], input: &'a [u8]) -> &'a [u8]
-    ensures { λ r. ⌜ now r ≡ nameOf (now (input .entry)) (now (path .entry)) ⌝ }
-{
-    if bytes::same(path, b"-") {
-        return input;
-    }
-    path
 }
 
 // What is wrong with a list, behind its name.

@@ -13,7 +13,8 @@ use Rattle.text.specs.Quote.{bytes}
 use Rattle.stamps.proofs.Fields.{field-append, rest-append}
 use Rattle.salvage.specs.Salvage.{Dropped, rowOf}
 use Rattle.salvage.proofs.AddUp.{Free-decimal}
-use Rattle.stampsalvage.specs.Messages.{nameOf, placeWords, sizeWords, messageOf}
+use Rattle.streams.specs.Names.{nameOf}
+use Rattle.stampsalvage.specs.Messages.{placeWords, sizeWords, messageOf}
 
 -- the row of a line gives its number and its length, in plain decimal
 pub messageOf-rowOf : (name : List ℕ) (d : Dropped) → messageOf name (rowOf d) ≡ take 4096 name ++ (placeWords (decimal (d .number)) ++ sizeWords (decimal (d .size)))

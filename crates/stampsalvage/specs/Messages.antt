@@ -1,6 +1,5 @@
--- What `stampsalvage` says of a line that is dropped (RULES 16), as bytes: `BOOK:3: 17 bytes dropped`. In order: the name of a book; where the
--- line is; how many bytes it has; the message. A path is an argument as it was given. A row of the report is a line's number, a tab and its
--- length without the newline, both in plain decimal.
+-- What `stampsalvage` says of a line that is dropped (RULES 16), as bytes: `BOOK:3: 17 bytes dropped`. In order: where the line is; how many
+-- bytes it has; the message. A row of the report is a line's number, a tab and its length without the newline, both in plain decimal.
 -- Assumes nothing.
 use Prim.Native.Nat.{ℕ}
 use mathlib.Core.Bool.{cond}
@@ -9,10 +8,6 @@ use lib.ListN.{take}
 use Rattle.text.specs.Bytes.{same}
 use Rattle.text.specs.Lines.{field, rest}
 use Rattle.text.specs.Quote.{bytes}
-
--- the name of a book: its path, or that of the input if the path is `-`
-abbrev pub nameOf : List ℕ → List ℕ → List ℕ
-nameOf input path = cond (same path (bytes "-")) input path
 
 -- the number of a line, behind the name
 abbrev pub placeWords : List ℕ → List ℕ

@@ -9,7 +9,7 @@ ghost use Prim.Native.Nat.{_+_, _≤_};
 ghost use lib.ListN.{length};
 ghost use Rattle.text.specs.Lines.{field, rest};
 ghost use Rattle.text.specs.Room.{putAt};
-ghost use Rattle.stampsalvage.specs.Messages.{nameOf, placeWords, sizeWords, messageOf};
+ghost use Rattle.stampsalvage.specs.Messages.{placeWords, sizeWords, messageOf};
 use text::bytes;
 use text::copy;
 use text::places;
@@ -23,16 +23,6 @@ const MAX_NAME: usize = 4096;
 // Enough for every message: a name of 4,096 bytes, two numbers that are no longer than a row, and 18
 // bytes of words.
 pub const MESSAGE: usize = 4178;
-
-// The name of a book in a message: `-` is standard input.
-pub fn name_of<'a>(path: &'a [u8], input: &'a [u8]) -> &'a [u8]
-    ensures { λ r. ⌜ now r ≡ nameOf (now (input .entry)) (now (path .entry)) ⌝ }
-{
-    if bytes::same(path, b"-") {
-        return input;
-    }
-    path
-}
 
 // Puts the message on a row of the report from place `at` on, and returns the place past it.
 pub fn put_message(name: &[u8], row: &[u8], at: usize, room: &mut [u8]) -> usize

@@ -53,7 +53,7 @@ fn salvage_from<'a>(path: &'a [u8], out: &'a [u8]) {
     if reading.failed {
         return;
     }
-    let name = messages::name_of(path, b"standard input");
+    let name = streams::name_of(path, b"standard input");
     write_salvaged(name, places::up_to(&room, reading.length), out);
 }
 

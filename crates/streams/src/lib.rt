@@ -10,10 +10,12 @@ pub mod files;
 ghost use Prim.Native.Nat.{_≤_};
 ghost use mathlib.Core.Path.{_≡_};
 ghost use lib.ListN.{length};
+ghost use Rattle.streams.specs.Names.{nameOf};
 use libc::STDERR_FILENO;
 use libc::STDIN_FILENO;
 use libc::STDOUT_FILENO;
 use libc::types::timespec;
+use text::bytes;
 use text::places;
 
 // How long a program waits for a descriptor that is not ready, in nanoseconds.
@@ -26,6 +28,16 @@ const NAMES: usize = 8192;
 pub struct Reading {
     pub length: usize,
     pub failed: bool,
+}
+
+// The name of an input in a message: `-` is standard input.
+pub fn name_of<'a>(path: &'a [u8], input: &'a [u8]) -> &'a [u8]
+    ensures { λ r. ⌜ now r ≡ nameOf (now (input .entry)) (now (path .entry)) ⌝ }
+{
+    if bytes::same(path, b"-") {
+        return input;
+    }
+    path
 }
 
 // Reads a file to its end, or until `room` is full. If the file cannot be opened or read, the reason

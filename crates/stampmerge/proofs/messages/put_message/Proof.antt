@@ -9,7 +9,7 @@ use lib.ListN.{length, length-take, take}
 use lib.Seq.{drop-length}
 use denote.Ref.{now}
 use Rattle.text.specs.Quote.{bytes}
-use Rattle.stampmerge.specs.Messages.{nameOf}
+use Rattle.streams.specs.Names.{nameOf}
 use Rattle.stampmerge.proofs.Putting.{message-put}
 use borrow.Author.Needs.{needs}
 use Rattle.stampmerge.proofs.messages.put_message.Statement.{statement}

@@ -1,6 +1,6 @@
 -- `stampsalvage::messages::put_size` meets its contract: the length, then the words for one byte or for several.
 -- Assumes nothing.
-use mathlib.Core.Path.{_≡_, ap}
+use mathlib.Core.Path.{ap}
 use native.Mathlib.Omega.{arith}
 use lib.ListN.{length, length-append}
 use Rattle.text.specs.Quote.{bytes}

@@ -1,8 +1,8 @@
--- `stampsalvage::messages::name_of` meets its contract.
+-- `streams::name_of` meets its contract.
 -- Assumes nothing.
 use borrow.Author.Needs.{needs}
-use Rattle.stampsalvage.proofs.messages.name_of.Statement.{statement}
-use Rattle.stampsalvage.proofs.messages.name_of.Tie as tie
+use Rattle.streams.proofs.name_of.Statement.{statement}
+use Rattle.streams.proofs.name_of.Tie as tie
 
 returns : tie.Need-returns
 returns c = rw (← c .before .same .ensures, c .if1 .taken)
