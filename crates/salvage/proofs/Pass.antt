@@ -9,9 +9,8 @@ use lib.ListN.{length, take, drop, length-append, length-drop, drop-of-length-le
 use lib.Seq.{drop-drop}
 use Rattle.text.specs.Lines.{newline}
 use Rattle.text.specs.Places.{firstPlace}
-use Rattle.stamps.specs.Book.{maxBook, linesIn, firstBad}
+use Rattle.stamps.specs.Book.{maxBook, linesIn, firstBad, badNumber}
 use Rattle.stamps.specs.Copies.{joined}
-use Rattle.stamps.specs.Held.{badNumber}
 use Rattle.stamps.proofs.Books.{behind}
 use Rattle.salvage.specs.Salvage.{Dropped, salvaged, dropped, lastNumber, rowOf, rowsOf, report}
 use Rattle.salvage.specs.Held.{endedRow, putIfRoom}

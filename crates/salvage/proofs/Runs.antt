@@ -20,9 +20,8 @@ use Rattle.text.proofs.FirstPlaces.{getD-firstPlace}
 use Rattle.text.proofs.Lists.{by-test, both}
 use Rattle.text.proofs.Runs.{run-le-length}
 use Rattle.time.specs.declared.Refusal.the-variants.{Book}
-use Rattle.stamps.specs.Book.{linesIn, firstBad, checkOf}
+use Rattle.stamps.specs.Book.{linesIn, firstBad, badNumber, goodFront, checkOf}
 use Rattle.stamps.specs.Copies.{joined}
-use Rattle.stamps.specs.Held.{goodFront, badNumber}
 use Rattle.stamps.specs.Lines.{lineOf, isGood}
 use Rattle.stamps.specs.declared.line.Line.{Line}
 use Rattle.stamps.specs.declared.line.Line.the-variants.{Hull, Since, Bad}

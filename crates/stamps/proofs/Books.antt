@@ -22,11 +22,11 @@ use Rattle.time.specs.declared.Refusal.the-variants.{Book}
 use Rattle.text.proofs.Lists.{by-test, both}
 use Rattle.text.proofs.Lines.{endedLines-none, endedLines-cut}
 use Rattle.stamps.specs.Lines.{lineOf, isGood}
-use Rattle.stamps.specs.Book.{maxBook, judged, linesIn, lastPiece, firstBad, checkedAt, checkOf}
+use Rattle.stamps.specs.Book.{maxBook, judged, linesIn, lastPiece, firstBad, badNumber, goodFront, checkedAt, checkOf}
 use Rattle.stamps.specs.Copies.{joined}
 use Rattle.stamps.specs.Listing.{isListed, orAbove, cutOffBelow, listed, listing}
 use Rattle.stamps.specs.Theorems.{areGood}
-use Rattle.stamps.specs.Held.{FirstLine, NextLine, markOf, marksOf, badNumber, goodFront}
+use Rattle.stamps.specs.Held.{FirstLine, NextLine, markOf, marksOf}
 use Rattle.stamps.specs.declared.line.Line.{Line}
 use Rattle.stamps.specs.declared.line.Line.the-variants.{Hull, Since, Bad}
 use Rattle.stamps.specs.declared.line.First.{First}

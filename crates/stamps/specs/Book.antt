@@ -10,7 +10,7 @@ use Rattle.text.specs.declared.number.Number.{Number}
 use Rattle.text.specs.declared.number.Number.the-variants.{Value, Nothing}
 use Rattle.time.specs.Answers.{numberOf}
 use Rattle.time.specs.declared.Refusal.the-variants.{Book}
-use Rattle.stamps.specs.Lines.{lineOf}
+use Rattle.stamps.specs.Lines.{lineOf, isGood}
 use Rattle.stamps.specs.declared.line.Line.{Line}
 use Rattle.stamps.specs.declared.line.Line.the-variants.{Hull, Since, Bad}
 use Rattle.stamps.specs.declared.book.Checked.{Checked}
@@ -40,6 +40,16 @@ firstBad n [] = Nothing
 firstBad n (Hull h ∷ ls) = firstBad (suc n) ls
 firstBad n (Since x ∷ ls) = firstBad (suc n) ls
 firstBad n (Bad ∷ ls) = Value n
+
+-- its number, or 0 if there is none
+abbrev pub badNumber : Number → ℕ
+badNumber (Value n) = n
+badNumber Nothing = 0
+
+-- the good lines in front of it
+unfoldable pub goodFront : ℕ → List (List ℕ) → List (List ℕ)
+goodFront bound [] = []
+goodFront bound (l ∷ ls) = cond (isGood (lineOf bound l)) (l ∷ goodFront bound ls) []
 
 -- refused by 10 at the first bad line
 abbrev pub checkedAt : Number → Checked

@@ -1,6 +1,6 @@
 -- What the code holds on the way to an answer. Nothing here is needed to read what the public calls ensure. In order: the classes
 -- of bytes that a scan passes; a number, and the tail of a stamp, at the front of a longer text; the first line of a text; a line
--- from one of its places on; the marks of the lines that are listed; the first bad line, and the good ones in front of it.
+-- from one of its places on; the marks of the lines that are listed.
 -- Assumes nothing.
 use Prim.Native.Nat.{ℕ, _+_, _*_}
 use Prim.Native.Char.{code}
@@ -17,8 +17,6 @@ use Rattle.text.specs.Places.{before, firstPlace, has, part}
 use Rattle.text.specs.Lines.{tab, newline, field, rest}
 use Rattle.text.specs.declared.number.Integer.{Integer}
 use Rattle.text.specs.declared.number.Integer.the-variants.{Is, Nothing as NoInteger}
-use Rattle.text.specs.declared.number.Number.{Number}
-use Rattle.text.specs.declared.number.Number.the-variants.{Value, Nothing as NoNumber}
 use Rattle.header.specs.Held.{twoDigits}
 use Rattle.stamps.specs.Stamps.{printed}
 use Rattle.stamps.specs.Lines.{isPathByte, isHexDigit, hullOf, sinceOf, lineOf, isGood}
@@ -147,13 +145,3 @@ unfoldable pub picked : List ℕ → List (List ℕ) → List (List ℕ)
 picked [] ls = []
 picked (m ∷ ms) [] = []
 picked (m ∷ ms) (l ∷ ls) = let below = picked ms ls in cond (eqb m 1) (l ∷ below) below
-
--- the number of a bad line, or 0 if there is none
-abbrev pub badNumber : Number → ℕ
-badNumber (Value n) = n
-badNumber NoNumber = 0
-
--- the good ones of these lines, up to the first bad one
-unfoldable pub goodFront : ℕ → List (List ℕ) → List (List ℕ)
-goodFront bound [] = []
-goodFront bound (l ∷ ls) = cond (isGood (lineOf bound l)) (l ∷ goodFront bound ls) []
