@@ -13,11 +13,9 @@ Usage: compare.py --program FILE [--seed N] [--books N] [--save FILE] [--list] [
 Exit status: 0 if nothing differs (with --planted: if every mistake is found), otherwise 1.
 """
 
-import random
 import re
 import struct
 import sys
-import time
 from itertools import chain
 from pathlib import Path
 
@@ -25,137 +23,33 @@ from book import DAY, Rules, date_of_day, first_day_of_month, fits
 from books import SUITES, bucket_of, hash_of
 
 sys.path.append(str(Path(__file__).resolve().parents[1] / "shared"))
-from asking import Program, command_line
+from asking import command_line
+from comparing import MOST_PLANTED, Inputs, compare, planted, shown, streams
 
-BATCH = 1 << 20  # bytes
-MOST_TRIED = 20 << 20  # bytes of smaller books that are tried
 MOST_REMEMBERED = 200000
+WIDTHS = {"suite": 10, "books": 8, "bytes": 11, "good": 8, "listed": 8, "shorter": 8, "differ": 8, "seconds": 8}
 
 
-class Library(Program):
-    """The program that calls the library for batches of books."""
+class Books(Inputs):
+    """Books, each with the answers wanted of a listing and of compacting."""
 
-    def send(self, wanted):
-        """The differences of a batch, as places and texts; nothing if the program ended."""
-        records = []
-        for text, *both in wanted:
-            numbers = [value for number, line, written, need in both for value in (number, line, len(written), need)]
-            records += struct.pack("=9I", len(text), *numbers), text, *(written for _, _, written, _ in both)
-        records = b"".join(records)
-        return self.ask(struct.pack("=2I", len(wanted), len(records)) + records)
+    def answers(self, rules, batch):
+        if len(rules.known) > MOST_REMEMBERED:
+            rules.known.clear()
+        return [(text, rules.answer(text), rules.compact(text)) for text in batch]
 
-    def differences(self, wanted):
-        """As `send`. If the program ended, the books are sent one by one until it ends again."""
-        answer = self.send(wanted)
-        if answer is not None:
-            return answer
-        self.start()
-        for place, one in enumerate(wanted):
-            answer = self.send([one])
-            if answer is None:
-                return 1, [(place, f"the program was ended by {self.how_it_ended()}")]
-        raise SystemExit("compare: the program ended on a batch, but on no book of it alone")
+    def record(self, text, *both):
+        numbers = [value for number, line, written, need in both for value in (number, line, len(written), need)]
+        return struct.pack("=9I", len(text), *numbers), text, *(written for _, _, written, _ in both)
 
+    def counts(self, text, listing, compacted):
+        shorter = compacted[0] == 0 and len(compacted[2]) < len(text)
+        return {"good": listing[0] == 0, "listed": bool(listing[2]), "shorter": shorter}
 
-def batches(books):
-    """Books, some at a time."""
-    batch, length = [], 0
-    for text in books:
-        batch.append(text)
-        length += len(text)
-        if length > BATCH or len(batch) == 2000:
-            yield batch
-            batch, length = [], 0
-    if batch:
-        yield batch
-
-
-def answers(rules, batch):
-    """Each book with the answers wanted of a listing and of compacting."""
-    if len(rules.known) > MOST_REMEMBERED:
-        rules.known.clear()
-    return [(text, rules.answer(text), rules.compact(text)) for text in batch]
-
-
-def difference(library, rules, text):
-    """What differs for one book, or nothing."""
-    _, found = library.differences(answers(rules, [text]))
-    return found[0][1] if found else None
-
-
-def smallest(library, rules, text):
-    """The book cut down as far as it still differs: first by lines, then by bytes, in ever smaller parts."""
-    tried = 0
-    for pieces in (lambda text: text.splitlines(keepends=True), lambda text: [text[i:i + 1] for i in range(len(text))]):
-        parts = pieces(text)
-        size = max(len(parts) // 2, 1)
-        while size > 0:
-            place = 0
-            cut = False
-            while place < len(parts) and tried < MOST_TRIED:
-                less = b"".join(parts[:place] + parts[place + size:])
-                tried += len(less) + 1000
-                if difference(library, rules, less) is not None:
-                    del parts[place:place + size]
-                    cut = True
-                else:
-                    place += size
-            if not (cut and size == 1):
-                size //= 2
-        text = b"".join(parts)
-    return text
-
-
-def shown(text, most=600):
-    if len(text) > most and text == text[:1] * len(text):
-        return f"{len(text)} times {text[:1]!r}"
-    return repr(text) if len(text) <= most else f"{text[:most // 2]!r} ... {text[-most // 2:]!r}"
-
-
-def report(library, rules, text, seed, save):
-    text = smallest(library, rules, text)
-    print(f"The smallest differing book, of {len(text)} bytes (seed {seed}):")
-    print(f"  {shown(text)}")
-    for what, (number, line, written, _) in ("listing", rules.answer(text)), ("compacted book", rules.compact(text)):
-        print(f"  wanted: number {number}, line {line}, {what} of {len(written)} bytes {shown(written)}")
-    print(f"  {difference(library, rules, text)}")
-    if save is not None:
-        Path(save).write_bytes(text)
-        print(f"  written to {save}")
-
-
-def compare(chosen, options):
-    library, rules = Library(options.program), Rules()
-    differing, shortest, total = 0, None, 0
-    print(f"{'suite':10} {'books':>8} {'bytes':>11} {'good':>8} {'listed':>8} {'shorter':>8} {'differ':>8} {'seconds':>8}")
-    for name in chosen:
-        started = time.monotonic()
-        books = length = good = listed = shorter = differ = 0
-        for batch in batches(SUITES[name](random.Random(options.seed), options.books)):
-            wanted = answers(rules, batch)
-            count, found = library.differences(wanted)
-            books += len(batch)
-            length += sum(map(len, batch))
-            good += sum(1 for _, answer, _ in wanted if answer[0] == 0)
-            listed += sum(1 for _, answer, _ in wanted if answer[2])
-            shorter += sum(1 for text, _, answer in wanted if answer[0] == 0 and len(answer[2]) < len(text))
-            differ += count
-            for place, what in found:
-                if differing < 3:
-                    print(f"{name}: {shown(batch[place], 200)}: {what}")
-                differing += 1
-                if shortest is None or len(batch[place]) < len(shortest):
-                    shortest = batch[place]
-        total += books
-        seconds = time.monotonic() - started
-        print(f"{name:10} {books:8} {length:11} {good:8} {listed:8} {shorter:8} {differ:8} {seconds:8.1f}", flush=True)
-    if shortest is None:
-        library.stop()
-        print(f"book: {total} books, seed {options.seed}: nothing differs")
-        return 0
-    report(library, rules, shortest, options.seed, options.save)
-    library.stop()
-    return 1
+    def wanted(self, rules, text):
+        answers = ("listing", rules.answer(text)), ("compacted book", rules.compact(text))
+        return [f"number {number}, line {line}, {what} of {len(written)} bytes {shown(written)}"
+                for what, (number, line, written, _) in answers]
 
 
 # ---------------------------------------------------------------------------------------------------------------------------
@@ -895,43 +789,33 @@ def with_value(name, value):
     return rules
 
 
-def planted(chosen, options):
-    """Every mistake must be found. Prints how many books that took, and the smallest."""
-    missed = 0
-    right = Library(options.program)
+def every_mistake():
+    """Every mistake: its name, the rules with it, and the entry and the number for compare.c."""
     mistakes = [(mistake.__doc__, mistake(), "none", 0) for mistake in Rules.__subclasses__()]
     mistakes += [(sentence, with_value(name, value), "none", 0) for sentence, name, value in OTHER_VALUES]
     for entry, names in ("check", OF_CHECK), ("list", OF_MEMORY), ("compact", OF_MEMORY):
         mistakes += [(f"{entry}: {name}", Rules(), entry, number) for number, name in enumerate(names, 1)]
-    for name, rules, entry, number in mistakes:
-        library = Library(options.program, entry, number)
-        books = chain.from_iterable(SUITES[suite](random.Random(options.seed), min(options.books, 20000)) for suite in chosen)
-        looked_at = 0
-        for batch in batches(books):
-            _, found = library.differences(answers(rules, batch))
-            if found:
-                looked_at += found[0][0] + 1
-                text = smallest(library, rules, min((batch[place] for place, _ in found), key=len))
-                if difference(right, Rules(), text) is not None:
-                    print(f"differs without a mistake: {shown(text)}")
-                    return 1
-                print(f"found after {looked_at:6} books: {name}: {shown(text, 120)}", flush=True)
-                break
-            looked_at += len(batch)
-        else:
-            print(f"NOT FOUND in {looked_at} books: {name}", flush=True)
-            missed += 1
-        library.stop()
-    right.stop()
-    print(f"book: {len(mistakes)} mistakes planted, {missed} not found")
-    return 1 if missed else 0
+    return mistakes
 
 
 def main():
     sentences = {name: suite.__doc__ for name, suite in SUITES.items()}
     options = command_line(__doc__.split("Usage: ")[1], sentences, books={"type": int, "default": 300000}, save={})
-    chosen = options.suites or list(SUITES)
-    return planted(chosen, options) if options.planted else compare(chosen, options)
+    books = Books()
+
+    def suites(number):
+        return streams(SUITES, lambda suite: books, options.suites or SUITES, options.seed, number)
+
+    def suites_as_one():
+        """All suites as one that has no name, so that a batch may hold books of several suites."""
+        return [("", books, chain.from_iterable(texts for _, _, texts in suites(min(options.books, MOST_PLANTED))))]
+
+    def nothing_differs(totals):
+        return f"book: {totals[books]} books, seed {options.seed}: nothing differs"
+
+    if options.planted:
+        return planted("book", options, suites_as_one, Rules, every_mistake())
+    return compare(options, suites(options.books), Rules(), WIDTHS, nothing_differs)
 
 
 if __name__ == "__main__":

@@ -12,73 +12,11 @@
 # Exit status: 0 all as stated; 1 something differs, each with what was wanted and got; 2 there is no such program.
 set -eu
 
-here=$(cd "$(dirname "$0")" && pwd)
-program=${1-$here/../../target/bin/stampsalvage}
-[ -x "$program" ] || { echo "program.sh: there is no program $program; rt check stampsalvage builds it" >&2; exit 2; }
-program=$(cd "$(dirname "$program")" && pwd)/$(basename "$program")
+. "$(dirname "$0")/../shared/program.sh"
+
+begin stampsalvage "$@"
 books=${2-300}
 seed=${3-1}
-
-work=$(mktemp -d)
-trap 'cd /; rm -rf "$work"' EXIT
-cd "$work"
-umask 022
-cases=0 differ=0 skipped=0
-
-# Before the program's name: the words that run it under strace or as another user.
-by=
-
-skip() {
-    skipped=$((skipped + 1))
-    echo "skipped: $1"
-}
-
-wrong() {
-    differ=$((differ + 1))
-    echo "$1"
-}
-
-# Compares the file `got.KIND` with the file `wanted.KIND`, for the case $name.
-compare() {
-    if ! cmp -s "wanted.$1" "got.$1"; then
-        differ=$((differ + 1))
-        printf '%s, %s: wanted\n' "$name" "$1"
-        cat "wanted.$1"
-        echo 'got'
-        cat "got.$1"
-    fi
-}
-
-# Runs stampsalvage with the words behind the first three: a name for the case, the output and the messages wanted, as for printf.
-# Standard input is the file `input`. The end of a new file's name differs from run to run, so NEW is put in its place.
-expect() {
-    name=$1
-    printf "$2" > wanted.out
-    printf "$3" > wanted.err
-    shift 3
-    $by "$program" "$@" < input > got.out 2> got.raw || echo "exit status $?" >> got.raw
-    sed 's/\.tmp\.[A-Za-z0-9]*:/.tmp.NEW:/' got.raw > got.err
-    cases=$((cases + 1))
-    compare out
-    compare err
-}
-
-# Compares a file with the bytes wanted, as for printf, and its mode with that wanted.
-holds() {
-    printf "$2" > wanted.file
-    cat "$1" > got.file 2> /dev/null || echo "no file $1" > got.file
-    compare file
-    echo "$3" > wanted.mode
-    stat -c %a "$1" > got.mode 2> /dev/null || echo "no file $1" > got.mode
-    compare mode
-}
-
-# No new file is left behind.
-clean() {
-    : > wanted.left
-    find . -name '*.tmp.*' > got.left
-    compare left
-}
 
 # Salvages a book that is given as for printf, to standard output: a name for the case, the book, the good lines and the messages wanted.
 salvages() {
@@ -344,55 +282,42 @@ cases=$((cases + 4))
 rm -f out saved
 
 # Calls that fail, and kills, by strace.
-if strace -o trace "$program" --version > /dev/null 2>&1; then
+if can_trace; then
     fault() {
         printf 'old' > out
         chmod 640 out
-        by="strace -o trace -e inject=$2"
-        expect "$1" '' "$3" book out
-        by=
+        injected "$2" "$1" '' "$3" book out
         holds out 'old' 640
         holds book "$damaged" 640
         clean
     }
     printf 'old' > out
     chmod 640 out
-    strace -o calls "$program" book out > /dev/null 2>&1
-    write=$(sed '/^rename/,$d' calls | grep -c '^write(')
+    trace book out
+    write=$(before_rename write)
     fault 'the sync fails' fsync:error=EIO 'stampsalvage: out.tmp.NEW: Input/output error\n'
     fault 'the write fails' "write:error=ENOSPC:when=$write" 'stampsalvage: out.tmp.NEW: No space left on device\n'
     fault 'the rename fails' /^rename:error=EIO 'stampsalvage: out: Input/output error\n'
     # The write behind that of the good lines is the report's: all messages at once.
     for error in EINTR EAGAIN; do
         printf 'old' > out
-        by="strace -o trace -e inject=write:error=$error:when=$((write + 1))"
-        expect "the report's write ends in $error" '' "$dropped" book out
-        by=
+        injected "write:error=$error:when=$((write + 1))" "the report's write ends in $error" '' "$dropped" book out
         holds out "$good" 640
     done
-    # Kills at each call of the system, one run for each: at the first, second and further one of each name, until a run is not killed.
+    # Kills at each call of the system, one run for each.
     name='a kill'
     cases=$((cases + 1))
     printf 'old' > old.book
     printf "$good" > new.book
     cp book damaged.book
-    runs=0 olds=0 news=0 left=0 torn=0 hurt=0
-    for call in $(sed -n 's/^\([a-z0-9_]*\)(.*/\1/p' calls | sort -u); do
-        at=0 status=137
-        while [ "$status" -ne 0 ]; do
-            at=$((at + 1))
-            runs=$((runs + 1))
-            printf 'old' > out
-            status=0
-            # The shell that waits for the program says that it was killed, so it is a shell of its own.
-            sh -c 'strace -o trace -e inject="$1" "$2" book out; exit $?' sh "$call:signal=KILL:when=$at" "$program" > /dev/null 2>&1 || status=$?
-            if cmp -s out old.book; then olds=$((olds + 1)); elif cmp -s out new.book; then news=$((news + 1)); else torn=$((torn + 1)); fi
-            cmp -s book damaged.book || hurt=$((hurt + 1))
-            for file in out.tmp.*; do
-                [ ! -e "$file" ] || { left=$((left + 1)); rm "$file"; }
-            done
-        done
-    done
+    hurt=0
+    before_kill() {
+        printf 'old' > out
+    }
+    after_kill() {
+        cmp -s book damaged.book || hurt=$((hurt + 1))
+    }
+    kills out book out
     echo "kills: $runs runs, OUT was the old file in $olds, the good lines in $news, torn in $torn; BOOK was changed in $hurt; a new file was left in $left"
     if [ "$torn" -ne 0 ] || [ "$hurt" -ne 0 ] || [ "$olds" -eq 0 ] || [ "$news" -eq 0 ] || [ "$left" -eq 0 ]; then
         wrong 'a kill: wanted the old file and the good lines, a new file left, and nothing torn'
@@ -496,5 +421,4 @@ else
     skip 'random books: python3 is missing'
 fi
 
-echo "program: $cases cases, $differ differ, $skipped skipped"
-[ "$differ" -eq 0 ]
+finish
