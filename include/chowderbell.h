@@ -289,6 +289,8 @@ uint8_t chowderbell_book_compact(const uint8_t *book, size_t len, uint8_t *room,
    If it returns 8 or 10, *length, *report_length and *last_bad are set to 0, and every byte of both rooms is as it was.
    The lines kept are a good book. A good book is kept as it is, and its report is empty; so the lines kept, salvaged again, stay the
    same. For a book that is not good and not too long, the first row has the line that chowderbell_book_check names.
+   A line is judged by its form. Damage that leaves a line in good form is not found, and the line is kept: a digit of a key that
+   has become another digit, for example.
    If a bad line was a `since` line, its cut-off is lost: the `hull` lines below it then fall under the cut-off of the `since` line
    above it, or under none. So the listing can gain hulls or lose hulls by salvaging, also hulls whose own lines were not damaged. */
 uint8_t chowderbell_book_salvage(const uint8_t *book, size_t len, uint8_t *room, size_t room_len, uint8_t *report, size_t report_len,

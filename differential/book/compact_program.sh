@@ -10,72 +10,12 @@
 # Exit status: 0 all as stated; 1 something differs, each with what was wanted and got; 2 there is no such program.
 set -eu
 
-here=$(cd "$(dirname "$0")" && pwd)
-program=${1-$here/../../target/bin/stampcompact}
-[ -x "$program" ] || { echo "compact_program.sh: there is no program $program; rt check stampcompact builds it" >&2; exit 2; }
-program=$(cd "$(dirname "$program")" && pwd)/$(basename "$program")
+. "$(dirname "$0")/../shared/program.sh"
 
-work=$(mktemp -d)
+begin stampcompact "$@"
 mounted=
 trap 'cd /; [ -z "$mounted" ] || umount "$mounted"; rm -rf "$work"' EXIT
 chmod 755 "$work"
-cd "$work"
-umask 022
-cases=0 differ=0 skipped=0
-
-# Before the program's name: the words that run it as another user, or under strace.
-by=
-
-skip() {
-    skipped=$((skipped + 1))
-    echo "skipped: $1"
-}
-
-# Compares the file `got.KIND` with the file `wanted.KIND`, for the case $name.
-compare() {
-    if ! cmp -s "wanted.$1" "got.$1"; then
-        differ=$((differ + 1))
-        printf '%s, %s: wanted\n' "$name" "$1"
-        cat "wanted.$1"
-        echo 'got'
-        cat "got.$1"
-    fi
-}
-
-# Runs stampcompact with the words behind the first three: a name for the case, the output and the messages wanted, as for printf.
-# Standard input is the file `input`. The end of a new file's name differs from run to run, so NEW is put in its place.
-expect() {
-    name=$1
-    printf "$2" > wanted.out
-    printf "$3" > wanted.err
-    shift 3
-    $by "$program" "$@" < input > got.out 2> got.raw || echo "exit status $?" >> got.raw
-    named
-    cases=$((cases + 1))
-    compare out
-    compare err
-}
-
-named() {
-    sed 's/\.tmp\.[A-Za-z0-9]*:/.tmp.NEW:/' got.raw > got.err
-}
-
-# Compares a file with the bytes wanted, as for printf, and its mode with that wanted.
-holds() {
-    printf "$2" > wanted.file
-    cat "$1" > got.file 2> /dev/null || echo "no file $1" > got.file
-    compare file
-    echo "$3" > wanted.mode
-    stat -c %a "$1" > got.mode 2> /dev/null || echo "no file $1" > got.mode
-    compare mode
-}
-
-# No new file is left behind in a folder.
-clean() {
-    : > wanted.left
-    find "$1" -name '*.tmp.*' > got.left
-    compare left
-}
 
 # The book of each case, and what it is compacted to.
 old='hull\toak.hull\t0123456789abcdef\t5 +0000\n'
@@ -291,20 +231,18 @@ else
 fi
 
 # Calls that fail, and kills, by strace.
-if strace -o trace "$program" --version > /dev/null 2>&1; then
+if can_trace; then
     fault() {
         fresh
-        by="strace -o trace -e inject=$2"
-        expect "$1" '' "$3" book
-        by=
+        injected "$2" "$1" '' "$3" book
         holds book "$book" 640
         clean .
     }
     # Which write and which close are those of the new file: the last ones before the rename.
     fresh
-    strace -o calls "$program" book > /dev/null 2>&1
-    write=$(sed '/^rename/,$d' calls | grep -c '^write(')
-    close=$(sed '/^rename/,$d' calls | grep -c '^close(')
+    trace book
+    write=$(before_rename write)
+    close=$(before_rename close)
     fault 'the permissions cannot be set' fchmod:error=EPERM 'stampcompact: book.tmp.NEW: Operation not permitted\n'
     fault 'the sync fails' fsync:error=EIO 'stampcompact: book.tmp.NEW: Input/output error\n'
     fault 'the write fails' "write:error=EIO:when=$write" 'stampcompact: book.tmp.NEW: Input/output error\n'
@@ -312,33 +250,22 @@ if strace -o trace "$program" --version > /dev/null 2>&1; then
     fault 'the rename fails' /^rename:error=EIO 'stampcompact: book: Input/output error\n'
     for error in EINTR EAGAIN; do
         fresh
-        by="strace -o trace -e inject=write:error=$error:when=$write"
-        expect "a write that ends in $error" '' "$said" book
-        by=
+        injected "write:error=$error:when=$write" "a write that ends in $error" '' "$said" book
         holds book "$compacted" 640
         clean .
     done
-    # Kills at each call of the system, one run for each: at the first, second and further one of each name, until a run is not killed.
+    # Kills at each call of the system, one run for each.
     name='a kill'
     cases=$((cases + 1))
     printf "$book" > old.book
     printf "$compacted" > new.book
-    runs=0 olds=0 news=0 left=0 torn=0
-    for call in $(sed -n 's/^\([a-z0-9_]*\)(.*/\1/p' calls | sort -u); do
-        at=0 status=137
-        while [ "$status" -ne 0 ]; do
-            at=$((at + 1))
-            runs=$((runs + 1))
-            fresh
-            status=0
-            # The shell that waits for the program says that it was killed, so it is a shell of its own.
-            sh -c 'strace -o trace -e inject="$1" "$2" book; exit $?' sh "$call:signal=KILL:when=$at" "$program" > /dev/null 2>&1 || status=$?
-            if cmp -s book old.book; then olds=$((olds + 1)); elif cmp -s book new.book; then news=$((news + 1)); else torn=$((torn + 1)); fi
-            for file in book.tmp.*; do
-                [ ! -e "$file" ] || { left=$((left + 1)); rm "$file"; }
-            done
-        done
-    done
+    before_kill() {
+        fresh
+    }
+    after_kill() {
+        :
+    }
+    kills book book
     echo "kills: $runs runs, the book was the old one in $olds, the compacted one in $news, torn in $torn; a new file was left in $left"
     if [ "$torn" -ne 0 ] || [ "$olds" -eq 0 ] || [ "$news" -eq 0 ] || [ "$left" -eq 0 ]; then
         differ=$((differ + 1))
@@ -348,5 +275,4 @@ else
     skip 'calls that fail, and kills at each call: strace is missing or refused here'
 fi
 
-echo "program: $cases cases, $differ differ, $skipped skipped"
-[ "$differ" -eq 0 ]
+finish

@@ -173,6 +173,9 @@ pub fn compacted(book: impl AsRef<[u8]>, room: &mut [u8]) -> Result<&str, BookEr
 /// A room of as many bytes as the book is always long enough, and a report of 8 times as many. With these the book is judged once;
 /// with less, it is measured first. Rooms of exactly the bytes to be written are enough.
 ///
+/// A line is judged by its form. Damage that leaves a line in good form is not found, and the line is kept: a digit of a key that
+/// has become another digit, for example.
+///
 /// If a bad line was a `since` line, its cut-off is lost: the `hull` lines below it then fall under the cut-off of the `since` line
 /// above it, or under none. So the listing can gain hulls or lose hulls by salvaging, also hulls whose lines were not damaged.
 ///
