@@ -40,14 +40,14 @@ pub const MOST_YEAR: i64 = 9999;
 pub const YEAR_0: i64 = 10000;
 
 // A month, and a day of it from 0.
-#[derive(Drop)]
+#[derive(Clone, Copy)]
 pub struct Date {
     pub month: u64,
     pub day: u64,
 }
 
 // A day, or a time in seconds, that may not exist.
-#[derive(Drop)]
+#[derive(Clone, Copy)]
 pub enum Found {
     At(u64),
     Nothing,

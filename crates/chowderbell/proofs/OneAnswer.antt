@@ -12,7 +12,7 @@ use Rattle.time.specs.declared.Answer.{Answer}
 use Rattle.time.specs.declared.Written.{Written}
 use Rattle.stamps.specs.declared.book.Checked.{Checked}
 use Rattle.stamps.specs.declared.book.Copied.{Copied}
-use Rattle.dates.specs.Contracts.{OneAnswer, OneAnswerAnd}
+use Rattle.dates.specs.OneAnswer.{OneAnswer, OneAnswerAnd}
 use Rattle.dates.proofs.Contracts.{one_answer}
 use Rattle.chowderbell.specs.Entries.{HandedOut, HandedMarked, HandedLength, HandedCheck, HandedCopy}
 use Rattle.time.proofs.Time.new.Reads as time-new

@@ -39,7 +39,7 @@ const SET: u8 = 1;
 const MARKED: u32 = 256;
 
 // The rule that a number names, or that it names none.
-#[derive(Drop)]
+#[derive(Clone, Copy)]
 enum Named {
     By(Rule),
     Nothing,

@@ -13,7 +13,7 @@ use crate::table;
 use text::{copy, places as cut};
 
 // The lines that are kept: how many there are, and how many bytes they have with their newlines.
-#[derive(Drop)]
+#[derive(Clone, Copy)]
 pub struct Kept {
     pub count: usize,
     pub length: usize,

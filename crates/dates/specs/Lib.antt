@@ -3,4 +3,4 @@
 pub mod Any
 pub mod Examples
 pub mod Theorems
-pub mod Contracts
+pub mod OneAnswer

@@ -16,14 +16,14 @@ const LARGEST_8_BIT: u64 = 255;
 
 // Which numbers a field may be. In a header it is a signed number, so `-5` is a field. In a raw
 // date it is an unsigned 8-bit number, so `+5` is a field and `-5` is not.
-#[derive(Drop)]
+#[derive(Clone, Copy)]
 pub enum Field {
     Signed,
     Byte,
 }
 
 // The sign of an offset, and the fields after it.
-#[derive(Drop)]
+#[derive(Clone, Copy)]
 pub struct Fields {
     pub minus: bool,
     pub hours: i64,
@@ -32,7 +32,7 @@ pub struct Fields {
 }
 
 // The fields of an offset, or no offset.
-#[derive(Drop)]
+#[derive(Clone, Copy)]
 pub enum Parsed {
     Offset(Fields),
     Nothing,

@@ -12,7 +12,7 @@ use text::words;
 use time::{Answer, Refusal, Time};
 
 // Which limits hold for hours and minutes: rule 1, which is gix-date's, or rule 2, which is wider.
-#[derive(Drop)]
+#[derive(Clone, Copy)]
 pub enum Rule {
     One,
     Two,

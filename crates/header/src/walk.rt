@@ -20,7 +20,7 @@ use text::{bytes, number, scan};
 // What a text holds: the number of its first word as a header reads it (RULES 5.2), whether that
 // number is the whole word, the bounds of the second word, and whether there is a `:` anywhere. The
 // bounds are empty if there is no second word, or a third, or a `:`.
-#[derive(Drop)]
+#[derive(Clone, Copy)]
 pub struct First {
     pub number: FittedInteger,
     pub whole: bool,
@@ -29,7 +29,7 @@ pub struct First {
 }
 
 // What the pass finds, or that the text is not ASCII.
-#[derive(Drop)]
+#[derive(Clone, Copy)]
 pub enum Walked {
     Words(First),
     NotAscii,
@@ -138,7 +138,7 @@ fn only_bounds(start: usize, end: usize, third: bool) -> Span
 }
 
 // What a text holds from a place on: whether it is all ASCII, and whether there is a `:`.
-#[derive(Drop)]
+#[derive(Clone, Copy)]
 struct Rest {
     ascii: bool,
     colon: bool,

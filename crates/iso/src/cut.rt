@@ -49,7 +49,7 @@ fn is_spaced(s: &[u8], at: usize) -> bool
 
 // The place of a text's last space, and that of the rightmost sign with a digit directly after it: the sign of `+:05` has none. Where
 // there is no such space or sign, the place is the text's length.
-#[derive(Drop)]
+#[derive(Clone, Copy)]
 struct Marks {
     space: usize,
     sign: usize,

@@ -10,7 +10,7 @@ use text::number::{Integer, Number, Width};
 use text::{number, places, trim};
 
 // A date, which may not exist, a second of the day, an offset in seconds.
-#[derive(Drop)]
+#[derive(Clone, Copy)]
 pub struct Local {
     pub year: i64,
     pub month: i64,
@@ -20,7 +20,7 @@ pub struct Local {
 }
 
 // What a form reads in a text.
-#[derive(Drop)]
+#[derive(Clone, Copy)]
 pub enum Fields {
     Are(Local),
     Nothing,

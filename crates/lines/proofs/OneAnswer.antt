@@ -2,7 +2,7 @@
 -- Assumes nothing.
 use mathlib.Core.List.{List}
 use Prim.Native.Nat.{ℕ}
-use Rattle.dates.specs.Contracts.{OneAnswer, OneAnswerAnd}
+use Rattle.dates.specs.OneAnswer.{OneAnswer, OneAnswerAnd}
 use Rattle.dates.proofs.Contracts.{one_answer}
 use Rattle.lines.proofs.answer.Reads as answer
 use Rattle.lines.proofs.answer_with.Reads as answer-with

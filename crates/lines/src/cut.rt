@@ -17,7 +17,7 @@ use text::places;
 const MAX_KEPT: usize = MAX_LINE + 1;
 
 // How many bytes of a buffer were answered, and how many bytes the answers took.
-#[derive(Drop)]
+#[derive(Clone, Copy)]
 pub struct Step {
     pub taken: usize,
     pub written: usize,

@@ -14,7 +14,7 @@ use time::{Now, Time};
 pub const MAX_LINE: usize = 4096;
 
 // The five forms of a date.
-#[derive(Drop)]
+#[derive(Clone, Copy)]
 pub enum Form {
     Header,
     Raw,
@@ -25,7 +25,7 @@ pub enum Form {
 
 // What a line asks for: that the text which begins at a place of the line is read in a form, at a
 // current time. `Wrong` is a line that has the wrong layout or is too long.
-#[derive(Drop)]
+#[derive(Clone, Copy)]
 pub enum Line {
     Asks(Form, Now, usize),
     Wrong,
@@ -58,14 +58,14 @@ pub fn parse_line(line: &[u8]) -> Line
 }
 
 // The form that a field names.
-#[derive(Drop)]
+#[derive(Clone, Copy)]
 pub(crate) enum Named {
     As(Form),
     Nothing,
 }
 
 // The current time that two fields give.
-#[derive(Drop)]
+#[derive(Clone, Copy)]
 pub(crate) enum Current {
     Is(Now),
     Nothing,

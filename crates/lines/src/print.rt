@@ -7,7 +7,7 @@ ghost use Rattle.lines.specs.Rows.{row_bytes, written_in, answer_room};
 use text::decimal;
 
 // What an answer line says.
-#[derive(Drop)]
+#[derive(Clone, Copy)]
 pub struct Row {
     pub number: u64,
     pub seconds: i64,

@@ -13,7 +13,7 @@ use crate::lists::{Fault, Machine, Next, Verdict};
 use text::{bytes, places};
 
 // A front line: empty, a `hull` line at these seconds, or bad.
-#[derive(Drop)]
+#[derive(Clone, Copy)]
 pub enum Front {
     Empty,
     At(i64),

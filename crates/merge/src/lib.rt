@@ -19,7 +19,7 @@ use lists::{Fault, Machine, Verdict};
 
 // What a merge returns: how many bytes it wrote to the book and to the report; or what is wrong with
 // the list of which machine, by 12; or that a room is too short, by 8.
-#[derive(Drop)]
+#[derive(Clone, Copy)]
 pub enum Merged {
     Lengths(usize, usize),
     Faulty(Machine, Fault),

@@ -15,7 +15,7 @@ use text::places;
 pub const MAX_LIST: usize = 32768;
 
 // The machine whose list it is. Neither machine is at fault if a room is too short.
-#[derive(Drop)]
+#[derive(Clone, Copy)]
 pub enum Machine {
     Neither,
     First,
@@ -24,7 +24,7 @@ pub enum Machine {
 
 // What is wrong with a list: it is too long; a line, which has this number, is no good `hull` line; or
 // a line has fewer seconds than the line above it. Lines are counted from 1.
-#[derive(Drop)]
+#[derive(Clone, Copy)]
 pub enum Fault {
     TooLong,
     BadLine(usize),
@@ -32,7 +32,7 @@ pub enum Fault {
 }
 
 // Whether both lists are good, and else which one is at fault, and how.
-#[derive(Drop)]
+#[derive(Clone, Copy)]
 pub enum Verdict {
     Good,
     Faulty(Machine, Fault),
@@ -80,7 +80,7 @@ fn check_lines(machine: Machine, list: &[u8]) -> Verdict
 
 // The first line of a text if it is a `hull` line with its newline: its seconds, and how many bytes it
 // has with its newline.
-#[derive(Drop)]
+#[derive(Clone, Copy)]
 pub enum Next {
     Hull(i64, usize),
     Nothing,

@@ -7,14 +7,14 @@ pub const MAX_PAIRS: usize = 256;
 
 // One of a unit is this many seconds off the time, or this many months off the month count. An
 // unknown unit counts as seconds if the text has the mark `ago`, and otherwise the text is refused.
-#[derive(Drop)]
+#[derive(Clone, Copy)]
 pub enum Unit {
     Seconds(u64),
     Months(u64),
     Unknown,
 }
 
-#[derive(Drop)]
+#[derive(Clone, Copy)]
 pub struct Pair {
     pub count: u64,
     pub unit: Unit,

@@ -16,7 +16,7 @@ use text::words::{Separator, Taken, Words};
 use time::range::Moved;
 
 // How many pairs a text has. Nothing if it has none, or an unknown unit without the mark.
-#[derive(Drop)]
+#[derive(Clone, Copy)]
 pub enum Counted {
     Pairs(usize),
     Nothing,
@@ -37,7 +37,7 @@ pub fn verdict(n: usize, allowed: bool) -> Counted
 
 // How many pairs there are, whether all their units are known, whether the mark was set, and where the
 // pairs land.
-#[derive(Drop)]
+#[derive(Clone, Copy)]
 pub struct Scanned {
     pub n: usize,
     pub known: bool,

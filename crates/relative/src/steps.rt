@@ -13,7 +13,7 @@ use time::range::{Instant, Moved, OFFSET_ZERO};
 use time::{Answer, Now, Refusal};
 
 // Where the steps start; or why they cannot: there is no current time, or it is out of range.
-#[derive(Drop)]
+#[derive(Clone, Copy)]
 pub enum Start {
     From(Instant),
     Refused(Refusal),

@@ -20,7 +20,7 @@ pub const REPORT_PER_BYTE: usize = 8;
 
 // What a salvage returns: how many bytes it wrote to the room and to the report, and the number, from 1,
 // of the last bad line, or 0 if there is none; or why it wrote nothing.
-#[derive(Drop)]
+#[derive(Clone, Copy)]
 pub enum Salvaged {
     Lengths(usize, usize, usize),
     Refused(Refusal),

@@ -13,7 +13,7 @@ use text::{copy, places};
 
 // What a pass over a book finds: how many bytes its good lines have, and the report; and the number of
 // the last bad line, or 0 if there is none.
-#[derive(Drop)]
+#[derive(Clone, Copy)]
 pub struct Found {
     pub length: usize,
     pub told: usize,

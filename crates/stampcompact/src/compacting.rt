@@ -13,7 +13,7 @@ use text::{bytes, places};
 const ROOM: usize = book::MAX_BOOK + 1;
 
 // How long a compacted book is, or nothing if the book is bad.
-#[derive(Drop)]
+#[derive(Clone, Copy)]
 enum Compacted {
     Length(usize),
     Nothing,

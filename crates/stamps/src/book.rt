@@ -34,7 +34,7 @@ const LISTED: u8 = 1;
 
 // What a check returns: a refusal has its reason and the number, from 1, of the first bad line, or 0
 // if the book is too long.
-#[derive(Drop)]
+#[derive(Clone, Copy)]
 pub enum Checked {
     Good,
     Refused(Refusal, usize),
@@ -42,7 +42,7 @@ pub enum Checked {
 
 // What a call returns that copies lines of a book to a room: how many bytes it wrote, or why it wrote
 // none and at which line. The line is 0 if the book is too long or if the room is too short.
-#[derive(Drop)]
+#[derive(Clone, Copy)]
 pub enum Copied {
     Length(usize),
     Refused(Refusal, usize),
@@ -106,7 +106,7 @@ pub fn list_with(months: &[u32], book: &[u8], room: &mut [u8]) -> Copied
 
 // The good lines at the front of a text: the number of the bad line behind them, or 0 if there is none,
 // and the place where they end.
-#[derive(Drop)]
+#[derive(Clone, Copy)]
 pub struct Run {
     pub bad: usize,
     pub end: usize,
@@ -133,7 +133,7 @@ fn no_marks() -> [u8; MAX_LINES]
 
 // What a pass over a book finds: the number of the first bad line, or 0 if there is none; where the good
 // lines in front of it end; and the length of the listing, if no line is bad.
-#[derive(Drop)]
+#[derive(Clone, Copy)]
 struct Survey {
     bad: usize,
     end: usize,
@@ -178,7 +178,7 @@ fn judge_lines(months: &[u32], book: &[u8], marks: &mut [u8]) -> Survey
 
 // What the next line of a book is: how many bytes it has with its newline, or 0 if it is bad; whether
 // it is listed; and the cut-off that it gives.
-#[derive(Drop)]
+#[derive(Clone, Copy)]
 struct Next {
     size: usize,
     listed: bool,

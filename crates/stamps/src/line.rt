@@ -29,7 +29,7 @@ pub(crate) const MAX_PATH: usize = 255;
 pub const KEY: usize = 16;
 
 // A hull: where its path and its key are in the line, and its time.
-#[derive(Drop)]
+#[derive(Clone, Copy)]
 pub struct Hull {
     pub path: Span,
     pub key: Span,
@@ -38,7 +38,7 @@ pub struct Hull {
 
 // A cut-off: where its text is in the line, the current time beside it, and the time that the text
 // means at that current time.
-#[derive(Drop)]
+#[derive(Clone, Copy)]
 pub struct Since {
     pub text: Span,
     pub current: Time,
@@ -46,7 +46,7 @@ pub struct Since {
 }
 
 // A line judged alone.
-#[derive(Drop)]
+#[derive(Clone, Copy)]
 pub enum Line {
     Hull(Hull),
     Since(Since),
@@ -73,7 +73,7 @@ pub fn read_with(months: &[u32], line: &[u8]) -> Line
 }
 
 // The first line of a text, and, if it is good, how many bytes it has before its newline.
-#[derive(Drop)]
+#[derive(Clone, Copy)]
 pub struct First {
     pub line: Line,
     pub length: usize,

@@ -7,7 +7,7 @@ use text::bytes;
 
 // The bytes of a path (32 to 126), of a key (lower-case hexadecimal digits), and of the text in a
 // `since` line (any but tab and newline).
-#[derive(Drop)]
+#[derive(Clone, Copy)]
 pub enum Class {
     Path,
     Hex,

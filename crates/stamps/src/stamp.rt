@@ -23,21 +23,21 @@ pub const SECONDS_PER_MINUTE: u64 = 60;
 const TAIL: usize = 6;
 
 // The time that a stamp means, or that a text is no stamp.
-#[derive(Drop)]
+#[derive(Clone, Copy)]
 pub enum Stamp {
     At(Time),
     Nothing,
 }
 
 // The tail of a stamp: its offset, and the mark of `-0000`.
-#[derive(Drop)]
+#[derive(Clone, Copy)]
 enum Tail {
     Is(i64, bool),
     Nothing,
 }
 
 // A number that is printed at a place of a text, and the place past its sign and its digits.
-#[derive(Drop)]
+#[derive(Clone, Copy)]
 pub struct PrintedNumber {
     pub number: Integer,
     pub end: usize,

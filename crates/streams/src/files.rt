@@ -23,7 +23,7 @@ const PERMISSIONS: u32 = 0o777;
 const UNKNOWN: u32 = 0;
 
 // What a new file takes over from the file that it replaces.
-#[derive(Drop)]
+#[derive(Clone, Copy)]
 struct Kept {
     mode: u32,
     user: u32,

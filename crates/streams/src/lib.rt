@@ -21,7 +21,7 @@ const PAUSE: i64 = 1000000;
 const NAMES: usize = 8192;
 
 // What reading an input gave: how many bytes, and whether it failed.
-#[derive(Drop)]
+#[derive(Clone, Copy)]
 pub struct Reading {
     pub length: usize,
     pub failed: bool,
@@ -133,7 +133,7 @@ fn write_whole(program: &[u8], name: &[u8], fd: i32, s: &[u8]) -> bool {
 }
 
 // How many bytes a write took, and whether it failed for good.
-#[derive(Drop)]
+#[derive(Clone, Copy)]
 struct Wrote {
     taken: usize,
     failed: bool,

@@ -36,7 +36,7 @@ const MONDAY_TO_THURSDAY: u64 = 3;
 // A month's strip. Weekdays are 1 for Monday to 7 for Sunday. Row r of the days is at places 7 * r to
 // 7 * r + 6, Monday first. A place of another month has day 0, and a row with no day of this month has
 // week 0. Only the last two rows can be such rows.
-#[derive(Drop)]
+#[derive(Clone, Copy)]
 pub struct Strip {
     pub length: u8,
     pub weekday: u8,
@@ -45,7 +45,7 @@ pub struct Strip {
 }
 
 // A strip and the number of the answer: 0; or 6 if there is no such month, and then all of the strip is 0.
-#[derive(Drop)]
+#[derive(Clone, Copy)]
 pub struct Answered {
     pub number: u8,
     pub strip: Strip,

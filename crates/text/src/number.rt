@@ -14,7 +14,7 @@ use crate::scan::Class;
 use crate::{bytes, scan};
 
 // The width of a signed number.
-#[derive(Drop)]
+#[derive(Clone, Copy)]
 pub enum Width {
     Bits32,
     Bits64,
@@ -36,21 +36,21 @@ fn half_of(width: Width) -> u64
 }
 
 // An unsigned number, or no number.
-#[derive(Drop)]
+#[derive(Clone, Copy)]
 pub enum Number {
     Value(u64),
     Nothing,
 }
 
 // A signed number, or no number.
-#[derive(Drop)]
+#[derive(Clone, Copy)]
 pub enum Integer {
     Is(i64),
     Nothing,
 }
 
 // An unsigned number, or one that is too large for its width, or no number.
-#[derive(Drop)]
+#[derive(Clone, Copy)]
 pub enum Fitted {
     Value(u64),
     TooLarge,
@@ -58,7 +58,7 @@ pub enum Fitted {
 }
 
 // A signed number, or one that is too large for its width, or no number.
-#[derive(Drop)]
+#[derive(Clone, Copy)]
 pub enum FittedInteger {
     Is(i64),
     TooLarge,
@@ -125,7 +125,7 @@ pub fn digits(s: &[u8], from: usize, limit: u64) -> Number
 }
 
 // The number that leading digits are, and the place past them.
-#[derive(Drop)]
+#[derive(Clone, Copy)]
 pub struct Leading {
     pub number: Fitted,
     pub end: usize,
@@ -202,7 +202,7 @@ fn as_u64(b: u8) -> u64
 
 // The number that an optional sign and the digits after it are, the place past them, and whether
 // the sign is there.
-#[derive(Drop)]
+#[derive(Clone, Copy)]
 pub struct LeadingInteger {
     pub number: FittedInteger,
     pub end: usize,

@@ -8,7 +8,7 @@ use crate::bytes;
 
 // The bytes that a scan passes. A mark is any byte but an ASCII letter or digit. A plain byte is no
 // white space, no `:`, and ASCII.
-#[derive(Drop)]
+#[derive(Clone, Copy)]
 pub enum Class {
     Space,
     NotSpace,

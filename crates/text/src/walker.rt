@@ -15,7 +15,7 @@ use crate::places;
 use crate::words::{Separator, Span, Taken, Words, within};
 
 // A text, and the place in it from which the next word is looked for.
-#[derive(Drop)]
+#[derive(Clone, Copy)]
 pub struct Walker<'a> {
     pub text: &'a [u8],
     pub at: usize,

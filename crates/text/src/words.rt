@@ -8,7 +8,7 @@ use crate::scan;
 use crate::scan::Class;
 
 // The bounds of a part of a text: from `start` up to `end`, without the byte at `end`.
-#[derive(Drop)]
+#[derive(Clone, Copy)]
 pub struct Span {
     pub start: usize,
     pub end: usize,
@@ -35,20 +35,20 @@ pub fn within(s: &[u8], p: Span) -> &[u8]
 
 // What separates words: white space; or marks, which are all bytes but ASCII letters and digits, so
 // that words are runs of those.
-#[derive(Drop)]
+#[derive(Clone, Copy)]
 pub enum Separator {
     Space,
     Mark,
 }
 
 // A reader of words, at a place in a text.
-#[derive(Drop)]
+#[derive(Clone, Copy)]
 pub struct Words {
     pub at: usize,
 }
 
 // The bounds of a word and the reader past it; or nothing, if only separators are left.
-#[derive(Drop)]
+#[derive(Clone, Copy)]
 pub enum Taken {
     Word(Span, Words),
     Nothing,

@@ -12,14 +12,14 @@ pub fn widest() -> usize
 }
 
 // The bytes of the buffer, and how many of them the header that was last written takes.
-#[derive(Drop)]
+#[derive(Clone, Copy)]
 pub struct TimeBuf {
     pub bytes: [u8; 26],
     pub end: usize,
 }
 
 // The answer of a call that writes into a buffer, and the buffer after it.
-#[derive(Drop)]
+#[derive(Clone, Copy)]
 pub struct Stored {
     pub answer: Written,
     pub buf: TimeBuf,

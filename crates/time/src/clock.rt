@@ -1,7 +1,7 @@
 // What a local clock shows: a date, and a second of its day. An ISO line is written from it.
 use calendar::Date;
 
-#[derive(Drop)]
+#[derive(Clone, Copy)]
 pub struct Clock {
     pub date: Date,
     pub second: u64,

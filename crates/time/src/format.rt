@@ -27,7 +27,7 @@ const YEAR_0: u64 = 10000;
 const MONTH_OF_YEAR_0: u64 = 120000;
 
 // The instant whose local clock a line shows, or why the time has no line.
-#[derive(Drop)]
+#[derive(Clone, Copy)]
 pub enum Line {
     At(Instant),
     Refused(Refusal),

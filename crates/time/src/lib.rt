@@ -22,7 +22,7 @@ const OFFSET_LIMIT: u64 = 360000;
 
 // Seconds since 1970, an offset from UTC in seconds, and a mark: the offset is written `-0000`. The mark counts beside offset 0 alone;
 // beside any other offset it is ignored. It is not the last field because readers are slower then (docs/SPEED.md).
-#[derive(Drop)]
+#[derive(Clone, Copy)]
 pub struct Time {
     pub seconds: i64,
     pub mark: bool,
@@ -140,7 +140,7 @@ impl Time {
 }
 
 // Why a text is not read, or a time not written.
-#[derive(Drop)]
+#[derive(Clone, Copy)]
 pub enum Refusal {
     // 1: the text holds a byte of 128 or more.
     NotAscii,
@@ -188,21 +188,21 @@ pub fn number_of(r: Refusal) -> u8
 }
 
 // What a reader returns.
-#[derive(Drop)]
+#[derive(Clone, Copy)]
 pub enum Answer {
     Time(Time),
     Refused(Refusal),
 }
 
 // What a writer returns: how many bytes it wrote, or why it wrote none.
-#[derive(Drop)]
+#[derive(Clone, Copy)]
 pub enum Written {
     Length(usize),
     Refused(Refusal),
 }
 
 // The current time (RULES 1.5). Only relative dates use it.
-#[derive(Drop)]
+#[derive(Clone, Copy)]
 pub enum Now {
     Missing,
     At(Time),

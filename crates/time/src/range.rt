@@ -30,13 +30,13 @@ const LEAST_OFFSET_FROM_0: u64 = 1;
 
 const MOST_OFFSET_FROM_0: u64 = 187199;
 
-#[derive(Drop)]
+#[derive(Clone, Copy)]
 pub struct Instant {
     pub seconds: u64,
     pub offset: u64,
 }
 
-#[derive(Drop)]
+#[derive(Clone, Copy)]
 pub enum Moved {
     In(Instant),
     Nothing,

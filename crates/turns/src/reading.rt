@@ -10,7 +10,7 @@ use relative::{MAX_PAIRS, Pair};
 use text::bytes;
 use time::{Answer, Now, Refusal};
 
-#[derive(Drop)]
+#[derive(Clone, Copy)]
 pub struct Reading {
     // How many pairs have been read, counted up to MAX_PAIRS + 1.
     pub pairs: usize,

@@ -50,7 +50,7 @@ fn answer_all(months: &[u32], buffer: &mut [u8], out: &mut [u8])
 
 // What a turn leaves: how many bytes at the front of the buffer are the start of a line that has no
 // end yet, and whether this was the last turn.
-#[derive(Drop)]
+#[derive(Clone, Copy)]
 struct Turn {
     held: usize,
     is_last: bool,
