@@ -1,0 +1,13 @@
+-- `calendar::first_day` meets its contract: month m's place in its cycle, carried on by the whole cycles before it.
+use native.Mathlib.Omega.{arith}
+use borrow.Author.Rules.{rules}
+use Rattle.calendar.proofs.Cycle.{first_day_by_cycle, first_day_in_range}
+use Rattle.calendar.proofs.first_day.Goals as goal
+
+pub returns : goal.returns
+returns c =
+    let m = c.args.m in
+    let all = omega (arith, c.first_day_in_cycle.ensures, first_day_by_cycle m, first_day_in_range m c.requires.month) in record { is = all.0; range = all.1 }
+
+pub overflow_add-result : goal.overflow_add-result
+overflow_add-result c = omega (arith, (returns c).1)

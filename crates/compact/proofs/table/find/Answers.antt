@@ -1,0 +1,24 @@
+-- `compact::table::find` meets its contract.
+use mathlib.Core.Path.{sym, ap, ◌∙◌}
+use Prim.Native.Nat.{ℕ}
+use native.Mathlib.Omega.{arith}
+use borrow.Author.Rules.{rules}
+use lib.ListN.{get_or}
+use Rattle.compact.specs.Held.{number_in}
+use Rattle.compact.proofs.table.find.Goals as goal
+
+-- the chain begins with a line that is kept
+pub find_in_chain-requires : goal.find_in_chain-requires
+find_in_chain-requires c =
+    let bucket = c.bucket_of-bucket.result in
+    let table = c.requires.1 in
+    (omega (arith, table.heads_le bucket, table.few, table.link_places, table.place_places), table.link_places ∙ sym table.place_places, λ k lt. table.down k (omega (arith, table.heads_le bucket)))
+
+pub returns : goal.returns
+returns c =
+    let chain : ℕ → ℕ = λ b. let first = get_or c.args.heads.now b 0 in
+    number_in c.args.book.now c.args.links.now c.args.places.now c.args.path.now first first in
+    c.find_in_chain.ensures ∙ ap chain c.bucket_of-bucket.ensures.0
+
+pub offset_bounds-heads-bucket : goal.offset_bounds-heads-bucket
+offset_bounds-heads-bucket c = let table = c.requires.1 in omega (arith, c.bucket_of-bucket.ensures.1, table.head_places)

@@ -1,0 +1,12 @@
+use mathlib.Core.Path.{sym, ◌∙◌}
+use native.Mathlib.Omega.{arith}
+use Rattle.text.specs.Places.{last_place, opens_with}
+use Rattle.text.proofs.Runs.{None, none_before_block}
+use borrow.Author.Rules.{rules}
+use Rattle.iso.proofs.cut.block_end.Given as goal
+
+abbrev pub invariant-loop-e : goal.invariant-loop-e
+invariant-loop-e l = None (opens_with 32) l.s l.e
+
+abbrev pub decreases-loop-e : goal.decreases-loop-e
+decreases-loop-e l = l.e

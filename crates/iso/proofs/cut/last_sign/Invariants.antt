@@ -1,0 +1,16 @@
+use mathlib.Core.Path.{◌≡◌, sym}
+use native.Mathlib.Omega.{arith}
+use borrow.Author.Rules.{rules}
+use lib.ListN.{get_or, drop}
+use Rattle.text.specs.Bytes.{is_digit}
+use Rattle.text.proofs.Lists.{drop-sub-one}
+use Rattle.text.proofs.Runs.{None}
+use Rattle.iso.specs.Cut.{is_offset}
+use Rattle.iso.proofs.Marks.{sign_here, sign_before}
+use Rattle.iso.proofs.cut.last_sign.Given as goal
+
+abbrev pub invariant-loop-e : goal.invariant-loop-e
+invariant-loop-e l = None is_offset l.s l.e × (is_digit (get_or (drop l.e l.s) 0 0) ≡ l.digit)
+
+abbrev pub decreases-loop-e : goal.decreases-loop-e
+decreases-loop-e l = l.e

@@ -1,0 +1,35 @@
+-- `iso::cut::split_time_and_offset` meets its contract: the tests are in the order of RULES 6.6.
+use mathlib.Core.Path.{sym, ◌∙◌}
+use borrow.Author.Tests.{eq-eqb, ne_eqb}
+use Rattle.text.specs.Places.{last_place, opens_with}
+use Rattle.text.proofs.Runs.{last_where-le-length}
+use Rattle.iso.specs.Cut.{is_offset}
+use Rattle.iso.proofs.Cuts.{cut-nil, cut_zed, cut_space, cut_sign, sign_place_of_lt, sign_place_of_le}
+use borrow.Author.Rules.{rules}
+use Rattle.iso.proofs.cut.split_time_and_offset.Goals as goal
+
+-- an empty text
+pub returns-then-s-eq0 : goal.returns-then-s-eq0
+returns-then-s-eq0 c = (cut-nil _ c.if-s-eq0.true, search rules)
+
+-- a final `Z`
+pub returns-then-s-end-eq90 : goal.returns-then-s-end-eq90
+returns-then-s-end-eq90 c = (cut_zed _ (eq-eqb _ _ c.if-s-end-eq90.true), search rules)
+
+-- the last space is beyond place 5, and what follows it starts with a sign
+pub returns-then-is_spaced : goal.returns-then-is_spaced
+unfolding last_place
+returns-then-is_spaced c =
+    let m = c.find_marks-m.ensures in
+    (cut_space _ (ne_eqb _ _ c.if-s-end-eq90.false) _ m.0 (sym c.is_spaced.ensures ∙ c.if-is_spaced.true), rw m.0 (last_where-le-length (opens_with 32) _))
+
+-- a sign at place 0 or 1 opens no offset
+pub returns-then-m-lt2 : goal.returns-then-m-lt2
+returns-then-m-lt2 c =
+    (sign_place_of_lt _ _ c.find_marks-m.ensures.sign c.if-m-lt2.true ∙ cut_sign _ (ne_eqb _ _ c.if-s-end-eq90.false) (sym c.is_spaced.ensures ∙ c.if-is_spaced.false), search rules)
+
+-- at place 2 or later, or at the end
+pub returns : goal.returns
+returns c =
+    let m = c.find_marks-m.ensures in
+    (sign_place_of_le _ _ m.1 c.if-m-lt2.false ∙ cut_sign _ (ne_eqb _ _ c.if-s-end-eq90.false) (sym c.is_spaced.ensures ∙ c.if-is_spaced.false), rw m.1 (last_where-le-length is_offset _))

@@ -1,0 +1,7 @@
+-- `iso::parts::two` meets its contract.
+use native.Mathlib.Nat.{add-sub_cancel_left}
+use borrow.Author.Rules.{rules}
+use Rattle.iso.proofs.parts.two.Goals as goal
+
+pub returns : goal.returns
+returns c = rw add-sub_cancel_left

@@ -1,0 +1,6 @@
+-- `lines::layout::asks` meets its contract.
+use borrow.Author.Rules.{rules}
+use Rattle.lines.proofs.layout.asks.Goals as goal
+
+pub returns-in-Is : goal.returns-in-Is
+returns-in-Is c = rw (c.in-As.is, c.in-Is.is)

@@ -1,0 +1,29 @@
+-- `relative::steps::subtract_pair` meets its contract.
+use native.Mathlib.Nat.{mul-one}
+use Rattle.relative.specs.Steps.{step, landing}
+use borrow.Author.Rules.{rules}
+use Rattle.relative.proofs.steps.subtract_pair.Goals as goal
+
+pub seconds_back-requires : goal.seconds_back-requires
+seconds_back-requires c = c.requires.1
+
+pub months_earlier-requires : goal.months_earlier-requires
+months_earlier-requires c = c.requires
+
+pub seconds_back-requires-in-Unknown : goal.seconds_back-requires-in-Unknown
+seconds_back-requires-in-Unknown c = c.requires.1
+
+pub returns-in-Seconds : goal.returns-in-Seconds
+unfolding step landing
+returns-in-Seconds c = rw c.in
+    let all = -Seconds.is c.seconds_back.ensures in record { is = all.0; range = all.1 }
+
+pub returns-in-Months : goal.returns-in-Months
+unfolding step landing
+returns-in-Months c = rw c.in
+    let all = -Months.is c.months_earlier.ensures in record { is = all.0; range = all.1 }
+
+pub returns-in-Unknown : goal.returns-in-Unknown
+unfolding step landing
+returns-in-Unknown c = rw c.in
+    let all = -Unknown.is (rw mul-one at c.seconds_back-in-Unknown.ensures) in record { is = all.0; range = all.1 }

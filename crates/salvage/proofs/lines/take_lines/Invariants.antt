@@ -1,0 +1,14 @@
+use mathlib.Core.Path.{refl}
+use Prim.Native.Nat.{◌+◌, ◌-◌}
+use native.Mathlib.Omega.{arith}
+use borrow.Author.Rules.{rules}
+use lib.ListN.{length as length_of}
+use Rattle.relative.specs.Relative.{max_pairs}
+use Rattle.salvage.proofs.Pass.{Taking, taking_start, taking_end, taking_whole, taking_again, kept_fits, run_has_room, rows_have_room, line_within, bad_within, pos_of_not-zero}
+use Rattle.salvage.proofs.lines.take_lines.Given as goal
+
+abbrev pub invariant-loop-at : goal.invariant-loop-at
+invariant-loop-at l = Taking max_pairs l.book l.initial.room l.initial.report l.room l.report l.at l.number l.length l.told l.last
+
+abbrev pub decreases-loop-at : goal.decreases-loop-at
+decreases-loop-at l = length_of l.book + 1 - l.at

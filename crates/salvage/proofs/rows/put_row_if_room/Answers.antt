@@ -1,0 +1,27 @@
+-- `salvage::rows::put_row_if_room` meets its contract.
+use mathlib.Core.Path.{ap}
+use Prim.Native.Nat.{ℕ, ◌+◌}
+use native.Mathlib.Omega.{arith}
+use borrow.Author.Rules.{rules}
+use Rattle.salvage.specs.Held.{ended_row}
+use Rattle.salvage.proofs.PutRows.{put_none, put_all, put_at-row}
+use Rattle.salvage.proofs.rows.put_row_if_room.Goals as goal
+
+-- there is no room
+pub returns-then-report-end : goal.returns-then-report-end
+returns-then-report-end c =
+    let end_is = ap (λ (k : ℕ). c.args.at + k) c.row_length.ensures.0 in record {
+      value = end_is;
+      report_after = put_none (ended_row c.args.n c.args.size) c.args.report.now c.args.at (omega (arith, c.if-report-end.true, end_is));
+    }
+
+pub returns : goal.returns
+returns c =
+    let end_is = ap (λ (k : ℕ). c.args.at + k) c.row_length.ensures.0 in
+    let put = put_at-row c.args.n c.args.size c.args.report.now _ c.args.at _ end_is c.put_row.ensures in record {
+      value = end_is;
+      report_after = put_all (ended_row c.args.n c.args.size) c.args.report.now _ c.args.at (omega (arith, c.if-report-end.false, end_is)) put;
+    }
+
+pub put_row-requires : goal.put_row-requires
+put_row-requires c = (omega (arith, c.row_length.ensures.0), c.if-report-end.false)

@@ -1,0 +1,12 @@
+use Prim.Native.Nat.{◌-◌}
+use native.Mathlib.Omega.{arith}
+use borrow.Author.Rules.{rules}
+use lib.ListN.{length}
+use Rattle.stamps.proofs.Marks.{Copying, copying_start, copying_fits, copying_again, copying_end}
+use Rattle.stamps.proofs.book.copy_marked.Given as goal
+
+abbrev pub invariant-loop-at : goal.invariant-loop-at
+invariant-loop-at l = Copying l.book l.marks l.initial.room l.room l.at l.n l.written
+
+abbrev pub decreases-loop-at : goal.decreases-loop-at
+decreases-loop-at l = length l.book - l.at

@@ -1,0 +1,14 @@
+-- `stamps::write::put_time_field` meets its contract: the header is put right behind the tab.
+use native.Mathlib.Omega.{arith}
+use mathlib.Core.List.{[], ◌∷◌}
+use Rattle.text.specs.Lines.{tab}
+use Rattle.time.specs.Header.{header_bytes}
+use Rattle.text.proofs.Behind.{put_at-behind}
+use borrow.Author.Rules.{rules}
+use Rattle.stamps.proofs.write.put_time_field.Goals as goal
+
+pub returns : goal.returns
+returns c = record {
+      value = omega (arith, c.put_time.ensures.value, c.put_part-next.ensures.value);
+      room_after = put_at-behind (tab ∷ []) (header_bytes c.args.time) c.args.room.now _ _ c.args.at _ (omega arith) c.put_part-next.ensures.value c.put_part-next.ensures.room_after c.put_time.ensures.room_after;
+    }

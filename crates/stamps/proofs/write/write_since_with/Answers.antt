@@ -1,0 +1,19 @@
+-- `stamps::write::write_since_with` meets its contract.
+use mathlib.Core.Path.{◌≡◌, sym, ◌∙◌}
+use mathlib.Core.Bool.{true}
+use Rattle.relative.specs.Relative.{max_pairs}
+use Rattle.stamps.specs.Writing.{is_since, since_line, since_written}
+use Rattle.stamps.proofs.Writing.{wrote_nothing}
+use borrow.Author.Rules.{rules}
+use Rattle.stamps.proofs.write.write_since_with.Goals as goal
+
+pub returns-then-is_since : goal.returns-then-is_since
+unfolding since_written
+returns-then-is_since c =
+    let good : is_since max_pairs c.args.text.now c.args.current ≡ true = sym c.is_since.ensures ∙ c.if-is_since.true in
+    let all = rw good c.put_if_fits.ensures in record { value = all.0; room_after = all.1 }
+
+pub returns : goal.returns
+unfolding since_written
+returns c =
+    let all = wrote_nothing (since_line c.args.text.now c.args.current) c.args.room.now (sym c.is_since.ensures ∙ c.if-is_since.false) in record { value = all.0; room_after = all.1 }

@@ -1,0 +1,14 @@
+use mathlib.Core.Path.{◌≡◌, refl, sym}
+use Prim.Native.Nat.{◌-◌, ◌<◌, ◌≤◌}
+use borrow.Author.Rules.{rules}
+use borrow.Author.Tests.{eq-eqb, ne_eqb}
+use lib.ListN.{length, drop, drop_of_length-le}
+use Rattle.text.specs.Bytes.{same}
+use Rattle.text.proofs.Lists.{drop-cons-add-one, same_of_length}
+use Rattle.text.proofs.bytes.same.Given as goal
+
+abbrev pub invariant-loop-i : goal.invariant-loop-i
+invariant-loop-i l = same l.s l.t ≡ same (drop l.i l.s) (drop l.i l.t)
+
+abbrev pub decreases-loop-i : goal.decreases-loop-i
+decreases-loop-i l = length l.s - l.i

@@ -1,0 +1,37 @@
+-- `text::number::digits` meets its contract: with a byte after the digits there is no number, and digits up to the end are the
+-- whole.
+use mathlib.Core.Path.{◌≡◌, ap, ◌∙◌}
+use mathlib.Core.List.{List}
+use Prim.Native.Nat.{ℕ, ◌<◌, ◌≤◌}
+use native.Mathlib.Omega.{arith}
+use lib.ListN.{length, drop, length-drop}
+use lib.Seq.{take_all}
+use Rattle.text.specs.Bytes.{is_digit}
+use Rattle.text.specs.Places.{run, leading, past}
+use Rattle.text.specs.Number.{digits_of, fit, plain_number}
+use Rattle.text.specs.declared.number.Number.TheVariants.{Nothing}
+use Rattle.text.proofs.Numbers.{digits_of_of_run-lt}
+use borrow.Author.Rules.{rules}
+use Rattle.text.proofs.number.digits.Goals as goal
+
+module _ (s : List ℕ) (from : ℕ) where
+  digitsOf-of-past-lt : past is_digit s from < length s → digits_of (drop from s) ≡ Nothing
+  unfolding past
+  digitsOf-of-past-lt h = digits_of_of_run-lt (drop from s) (omega (arith, length-drop from s))
+
+  leading-of-past-le : length s ≤ past is_digit s from → leading is_digit (drop from s) ≡ drop from s
+  unfolding past
+  leading-of-past-le h =
+      let k : length (drop from s) ≤ run is_digit (drop from s) = omega (arith, length-drop from s) in
+      take_all _ _ k
+
+pub returns-then-read-s : goal.returns-then-read-s
+unfolding fit
+returns-then-read-s c = rw (digitsOf-of-past-lt _ _ (rw c.leading_number-read.ensures.end_value at c.if-read-s.true))
+
+pub returns : goal.returns
+unfolding fit
+returns c =
+    let a = c.args in
+    c.plain_number.ensures ∙ ap plain_number c.leading_number-read.ensures.number_value
+    ∙ ap (λ (t : List ℕ). fit a.limit (digits_of t)) (leading-of-past-le _ a.from (rw c.leading_number-read.ensures.end_value at c.if-read-s.false))

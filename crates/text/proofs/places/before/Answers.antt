@@ -1,0 +1,11 @@
+-- `text::places::before` meets its contract: the first place of a byte is no later than the end of the text.
+use mathlib.Core.Path.{sym}
+use lib.Seq.{length-take-le}
+use borrow.Author.Rules.{rules}
+use Rattle.text.proofs.places.before.Goals as goal
+
+pub slice_bounds-result-end : goal.slice_bounds-result-end
+slice_bounds-result-end c = sym (length-take-le _ _ c.first-place.ensures.1)
+
+pub returns : goal.returns
+returns c = rw c.first-place.ensures.0

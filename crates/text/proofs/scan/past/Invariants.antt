@@ -1,0 +1,14 @@
+use Rattle.text.specs.Places.{past}
+use mathlib.Core.Path.{◌≡◌, refl, sym, ◌∙◌}
+use Prim.Native.Nat.{◌-◌}
+use lib.ListN.{length}
+use Rattle.text.specs.Scan.{is_of}
+use Rattle.text.proofs.Runs.{past_of-true, past_of-false, past_of-length-le}
+use borrow.Author.Rules.{rules}
+use Rattle.text.proofs.scan.past.Given as goal
+
+abbrev pub invariant-loop-i : goal.invariant-loop-i
+invariant-loop-i l = past (is_of l.class) l.s l.at ≡ past (is_of l.class) l.s l.i
+
+abbrev pub decreases-loop-i : goal.decreases-loop-i
+decreases-loop-i l = length l.s - l.i

@@ -1,0 +1,27 @@
+-- `text::words::Words::take` meets its contract: a word starts before the end of the text, or there is none.
+use mathlib.Core.Path.{◌≡◌}
+use mathlib.Core.Bool.{Bool}
+use mathlib.Core.List.{List}
+use Prim.Native.Nat.{ℕ, ◌≤◌, ◌<◌}
+use borrow.Author.Tests.{lt-ltb, le-ltb}
+use lib.ListN.{length}
+use Rattle.text.specs.Places.{no, past}
+use Rattle.text.specs.Words.{take_word}
+use Rattle.text.specs.declared.words.Taken.TheVariants.{Word, Nothing}
+use borrow.Author.Rules.{rules}
+use Rattle.text.proofs.words.Words.take.Goals as goal
+
+module _ (p : ℕ → Bool) (s : List ℕ) (at start : ℕ) (e : start ≡ past p s at) where
+  takeWord-of-lt : (end : ℕ) → start < length s → end ≡ past (no p) s start → Word (record { start = start; end = end }) (record { at = end }) ≡ take_word p s at
+  unfolding take_word
+  takeWord-of-lt end h f = rw (← e, lt-ltb _ _ h, ← f)
+
+  takeWord-of-le : length s ≤ start → Nothing ≡ take_word p s at
+  unfolding take_word
+  takeWord-of-le h = rw (← e, le-ltb _ _ h)
+
+pub returns-then-start-s : goal.returns-then-start-s
+returns-then-start-s c = takeWord-of-lt _ _ _ _ c.word_start-start.ensures _ c.if-start-s.true c.word_end-end.ensures
+
+pub returns : goal.returns
+returns c = takeWord-of-le _ _ _ _ c.word_start-start.ensures c.if-start-s.false

@@ -1,0 +1,31 @@
+-- `time::write::header_sign` meets its contract.
+use mathlib.Core.Path.{◌≡◌, sym, ap, ◌∙◌}
+use mathlib.Core.Bool.{Bool, ◌&&◌}
+use native.Mathlib.Omega.{arith}
+use lib.Dec.{eqb}
+use lib.IntN.{pos}
+use mir.Syntax.{w32}
+use mir.Val.{SFits, of_z}
+use Rattle.ints.proofs.Equals.{eqb-of_z}
+use Rattle.ints.proofs.Machine.{back}
+use Rattle.time.specs.Header.{sign_byte, header_sign, is_minus_zero}
+use Rattle.time.specs.declared.Time.{Time}
+use borrow.Author.Rules.{rules}
+use Rattle.time.proofs.write.header_sign.Goals as goal
+
+-- the test of the code
+test-is : (t : Time) → SFits w32 t.offset → (t.mark && eqb (of_z w32 t.offset) (of_z w32 (pos 0))) ≡ is_minus_zero t
+test-is t f = ap (λ (b : Bool). t.mark && b) (eqb-of_z w32 t.offset (pos 0) f (record { sfits = omega arith }))
+
+pub returns-then-mark-offset : goal.returns-then-mark-offset
+unfolding header_sign
+returns-then-mark-offset c =
+    let t = c.args.t in
+    rw (sym (test-is t (record { sfits = c.struct_told-1.given.1.1.0.1 })) ∙ c.if-mark-offset.true)
+
+pub returns : goal.returns
+unfolding header_sign
+returns c =
+    let t = c.args.t in
+    let f = c.struct_told-1.given.1.1.0.1 in
+    rw (sym (test-is t (record { sfits = f })) ∙ c.if-mark-offset.false) (c.sign_byte.ensures ∙ ap sign_byte (back w32 t.offset f))
