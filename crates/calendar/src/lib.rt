@@ -7,6 +7,8 @@
 // `months` builds a table of some 19 KB. Build it once if you make many calls. Every other function
 // borrows it: the whole table, any leading part of it, or `&[]`; beyond its end, first days are
 // computed by the leap rule. `IsMonths` says that the entries are right as far as they go.
+#![tactic(auto)]
+
 mod table;
 
 ghost use Rattle.std.specs.Prelude.{◌≡◌, ◌+◌, ◌*◌, ◌≤◌, ◌<◌};

@@ -2,6 +2,8 @@
 // and `since` lines all stay. The book is checked first. Then its lines are taken from the last to the
 // first: a line is kept unless its path is already that of a kept line. Last, the kept lines are copied.
 // Nothing is written before the book is known to be good and the room to be long enough.
+#![tactic(auto)]
+
 pub mod lines;
 pub mod table;
 

@@ -1,4 +1,6 @@
 // Reads a date in any form, as Git writes it or people type it: the forms are tried one after the other (RULES 8).
+#![tactic(auto)]
+
 ghost use Rattle.std.specs.Prelude.{◌≡◌};
 ghost use Rattle.calendar.specs.Table.{IsMonths};
 ghost use Rattle.header.specs.Raw.{rule1, limits_of};

@@ -3,6 +3,8 @@
 // answer for every text, of any length and any bytes, in one pass from front to end, and copy
 // nothing. The usual form (number, space, sign, four digits) is recognised as soon as the number
 // ends. Any other text reads those six bytes twice.
+#![tactic(auto)]
+
 mod offset;
 pub mod raw;
 mod walk;

@@ -5,6 +5,8 @@
 //
 // `parse_git_date_format` uses no table of months; `parse_git_date_format_with` borrows one, for
 // callers that read many texts.
+#![tactic(auto)]
+
 mod clock;
 mod cut;
 mod forms;

@@ -4,6 +4,8 @@
 // A line is form, current seconds, current offset and text, with tabs between; its answer line is
 // number, seconds and offset, with tabs between and a newline. Every line has an answer, whatever
 // its length and its bytes. No answer line is longer than 64 bytes (`answer_room` in the contracts).
+#![tactic(auto)]
+
 pub mod cut;
 pub mod layout;
 pub mod print;

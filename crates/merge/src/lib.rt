@@ -2,6 +2,8 @@
 // seconds never fall. `fronts` tells which of two front lines is the earlier, `lists` checks both lists,
 // `merge` writes the merged book and a report on the paths whose keys differ. Nothing is written before
 // both lists are known to be good and both rooms to be long enough.
+#![tactic(auto)]
+
 pub mod fronts;
 mod keys;
 pub mod lists;

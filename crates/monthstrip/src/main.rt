@@ -7,6 +7,8 @@
 //
 // The exit status is always 0: a Rattle program has no other. Arguments that are refused, and a write
 // that fails, are reported on standard error.
+#![tactic(auto)]
+
 mod help;
 mod page;
 

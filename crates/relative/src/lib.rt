@@ -3,6 +3,8 @@
 //
 // Every text has an answer: a time, or the first of the refusals 1, 2, 5, 3, 4 and 6 that applies.
 // `parse` needs no month table. `parse_with` borrows one; it is for callers that read many texts.
+#![tactic(auto)]
+
 mod pair;
 mod pairs;
 mod steps;

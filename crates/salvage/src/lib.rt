@@ -1,6 +1,8 @@
 // Salvages a damaged book (RULES 16): the good lines are copied to one room, and another one gets a report
 // on the bad lines. Each line is judged alone, as in a check. Nothing is written before both rooms are known
 // to be long enough.
+#![tactic(auto)]
+
 mod lines;
 mod rows;
 

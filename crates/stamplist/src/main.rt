@@ -7,6 +7,8 @@
 //
 // The exit status is always 0: a Rattle program has no other. A bad book, and a read or a write that
 // fails, is reported on standard error.
+#![tactic(auto)]
+
 mod help;
 mod listing;
 

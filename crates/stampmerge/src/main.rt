@@ -8,6 +8,8 @@
 //
 // The exit status is always 0: a Rattle program has no other. A list that is at fault, and a call of the
 // system that fails, is reported on standard error.
+#![tactic(auto)]
+
 mod help;
 mod merging;
 mod messages;

@@ -5,6 +5,8 @@
 // and ends. A read or a write that a signal interrupts is made again, and so is one on a descriptor
 // that does not block and is not ready. The exit status of a Rattle program is always 0, so every
 // failure is reported by a message.
+#![tactic(auto)]
+
 pub mod files;
 
 ghost use Rattle.std.specs.Prelude.{◌≤◌, ◌≡◌, length};

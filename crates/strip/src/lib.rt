@@ -3,6 +3,8 @@
 //
 // Months and days are counted as in `calendar`: from January, and from 1 January, of year -10000. All
 // first days come from `calendar::first_day`, which reads the month table that relative dates read.
+#![tactic(auto)]
+
 pub mod write;
 
 ghost use Rattle.std.specs.Prelude.{◌≡◌, ◌+◌, ◌≤◌, ◌<◌};

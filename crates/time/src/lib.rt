@@ -1,5 +1,7 @@
 // Times (RULES 1.4), what readers and writers return (RULES 2), and the two writers (RULES 9). Seconds and offset may have any value that
 // their width holds. Only calendar arithmetic needs the smaller range of the module `range`.
+#![tactic(auto)]
+
 pub mod buf;
 pub mod clock;
 mod format;

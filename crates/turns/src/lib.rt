@@ -5,6 +5,8 @@
 // No pair is stored: each is subtracted when its unit is read. A call goes one level deeper with
 // every word, so texts are limited to MAX_LENGTH bytes. `relative::parse` gives the same answers
 // without that limit.
+#![tactic(auto)]
+
 mod reading;
 
 ghost use Rattle.std.specs.Prelude.{◌≡◌, ◌∷◌, []};

@@ -8,6 +8,8 @@
 //
 // The exit status is always 0: a Rattle program has no other. A read or a write that fails is
 // reported on standard error.
+#![tactic(auto)]
+
 mod arguments;
 mod help;
 

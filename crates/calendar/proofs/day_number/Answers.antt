@@ -17,38 +17,38 @@ days c = c.first_day.ensures.is ∙ first_day-add-one _ ∙ rw c.first_day-f.ens
 pub returns-then-y-ge-YEARS_COUNTED : goal.returns-then-y-ge-YEARS_COUNTED
 unfolding day_number exists
 returns-then-y-ge-YEARS_COUNTED c = record {
-      is = simp (le-ltb c.args.y 20000 (omega arith));
-      range = tt;
-    }
+  is = simp (le-ltb c.args.y 20000 (omega arith));
+  range = tt;
+}
 
 -- month 0
 pub returns-then-m-lt1 : goal.returns-then-m-lt1
 unfolding day_number exists
 returns-then-m-lt1 c = record {
-      is = simp (lt-ltb _ _ c.if-y-ge-YEARS_COUNTED.false, lt-leb _ _ c.if-m-lt1.true);
-      range = tt;
-    }
+  is = simp (lt-ltb _ _ c.if-y-ge-YEARS_COUNTED.false, lt-leb _ _ c.if-m-lt1.true);
+  range = tt;
+}
 
 -- a month beyond 12
 pub returns-then-m-gt12 : goal.returns-then-m-gt12
 unfolding day_number exists
 returns-then-m-gt12 c = record {
-      is = simp (lt-ltb _ _ c.if-y-ge-YEARS_COUNTED.false, le-leb _ _ c.if-m-lt1.false, lt-leb _ _ c.if-m-gt12.true);
-      range = tt;
-    }
+  is = simp (lt-ltb _ _ c.if-y-ge-YEARS_COUNTED.false, le-leb _ _ c.if-m-lt1.false, lt-leb _ _ c.if-m-gt12.true);
+  range = tt;
+}
 
 -- day 0
 pub returns-then-k-lt1 : goal.returns-then-k-lt1
 unfolding day_number exists
 returns-then-k-lt1 c = record {
-      is = simp (
-        lt-ltb _ _ c.if-y-ge-YEARS_COUNTED.false,
-        le-leb _ _ c.if-m-lt1.false,
-        le-leb _ _ c.if-m-gt12.false,
-        lt-leb _ _ c.if-k-lt1.true,
-      );
-      range = tt;
-    }
+  is = simp (
+    lt-ltb _ _ c.if-y-ge-YEARS_COUNTED.false,
+    le-leb _ _ c.if-m-lt1.false,
+    le-leb _ _ c.if-m-gt12.false,
+    lt-leb _ _ c.if-k-lt1.true,
+  );
+  range = tt;
+}
 
 pub overflow_sub-first_day : goal.overflow_sub-first_day
 overflow_sub-first_day c = omega (arith, days c)

@@ -6,8 +6,7 @@ use Rattle.calendar.proofs.first_day.Goals as goal
 
 pub returns : goal.returns
 returns c =
-    let m = c.args.m in
-    let all = omega (arith, c.first_day_in_cycle.ensures, first_day_by_cycle m, first_day_in_range m c.requires.month) in record { is = all.0; range = all.1 }
+    let m = c.args.m in record { is = omega (arith, c.first_day_in_cycle.ensures, first_day_by_cycle m, first_day_in_range m c.requires.month); range = omega (arith, c.first_day_in_cycle.ensures, first_day_by_cycle m, first_day_in_range m c.requires.month) }
 
 pub overflow_add-result : goal.overflow_add-result
 overflow_add-result c = omega (arith, (returns c).1)

@@ -16,5 +16,4 @@ overflow_sub-result c = omega (arith, next c)
 
 pub returns : goal.returns
 returns c =
-    let m = c.args.m in
-    let all = omega (arith, next c, c.first_day-2.ensures.is, month_length-ge m, month_length-le m) in record { is = all.0; least = all.1; most = all.2 }
+    let m = c.args.m in record { is = omega (arith, next c, c.first_day-2.ensures.is, month_length-ge m, month_length-le m); least = omega (arith, next c, c.first_day-2.ensures.is, month_length-ge m, month_length-le m); most = omega (arith, next c, c.first_day-2.ensures.is, month_length-ge m, month_length-le m) }

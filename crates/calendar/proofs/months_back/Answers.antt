@@ -9,14 +9,16 @@ use Rattle.calendar.proofs.months_back.Goals as goal
 -- the month is too early
 pub returns-then-x-n : goal.returns-then-x-n
 returns-then-x-n c = record {
-      is = sym (back_of_of_lt _ _ (IsDate_of_date_of c.date_of-x.ensures.is) c.if-x-n.true);
-      range = tt;
-    }
+  is = sym (back_of_of_lt _ _ (IsDate_of_date_of c.date_of-x.ensures.is) c.if-x-n.true);
+  range = tt;
+}
 
 -- the month is there
 pub returns : goal.returns
 returns c =
     let t = c.args.local in
     let n = c.args.n in
-    let p = IsDate_of_date_of c.date_of-x.ensures.is in
-    let all = rw c.first_day.ensures.is (sym (back_of_of_IsDate t n p (omega arith)), omega (arith, back-le t n p)) in record { is = all.0; range = all.1 }
+    let p = IsDate_of_date_of c.date_of-x.ensures.is in record {
+      is = rw c.first_day.ensures.is (sym (back_of_of_IsDate t n p (omega arith)));
+      range = rw c.first_day.ensures.is (omega (arith, back-le t n p));
+    }

@@ -26,23 +26,23 @@ d-from c =
 -- a month below 0
 pub returns-then-m-lt0 : goal.returns-then-m-lt0
 returns-then-m-lt0 c = record {
-      is = day_of-month _ _ _ (lt_yes (param w64 c.ranges.m) (lit (pos 0)) c.if-m-lt0.true);
-      range = tt;
-    }
+  is = day_of-month _ _ _ (lt_yes (param w64 c.ranges.m) (lit (pos 0)) c.if-m-lt0.true);
+  range = tt;
+}
 
 -- a day below 0
 pub returns-then-d-lt0 : goal.returns-then-d-lt0
 returns-then-d-lt0 c = record {
-      is = day_of-day _ _ _ (lt_yes (param w64 c.ranges.d) (lit (pos 0)) c.if-d-lt0.true);
-      range = tt;
-    }
+  is = day_of-day _ _ _ (lt_yes (param w64 c.ranges.d) (lit (pos 0)) c.if-d-lt0.true);
+  range = tt;
+}
 
 -- a year before -9999
 pub returns-then-y-lt-LEAST_YEAR : goal.returns-then-y-lt-LEAST_YEAR
 returns-then-y-lt-LEAST_YEAR c = record {
-      is = day_of-year _ _ _ (is_in_of_lt (negsuc 9998) (pos 9999) (lt_yes (param w64 c.ranges.y) (lit (negsuc 9998)) c.if-y-lt-LEAST_YEAR.true));
-      range = tt;
-    }
+  is = day_of-year _ _ _ (is_in_of_lt (negsuc 9998) (pos 9999) (lt_yes (param w64 c.ranges.y) (lit (negsuc 9998)) c.if-y-lt-LEAST_YEAR.true));
+  range = tt;
+}
 
 -- a year after 9999
 pub returns-then-y-gt-MOST_YEAR : goal.returns-then-y-gt-MOST_YEAR

@@ -10,7 +10,7 @@ use Rattle.lines.proofs.answer_with.Goals as goal
 pub returns : goal.returns
 unfolding answer_line
 returns c = let room = c.args.out.now in record {
-      value = c.write_row.ensures.value ∙ ap (λ (x : Row). written_in (row_bytes x) room) c.row_of.ensures;
-      out_after = c.write_row.ensures.out_after ∙ ap (λ (x : Row). room_after (fits (row_bytes x) room) (row_bytes x) room) c.row_of.ensures;
-      upper_bound = c.write_row.ensures.upper_bound;
-    }
+  value = c.write_row.ensures.value ∙ ap (λ (x : Row). written_in (row_bytes x) room) c.row_of.ensures;
+  out_after = c.write_row.ensures.out_after ∙ ap (λ (x : Row). room_after (fits (row_bytes x) room) (row_bytes x) room) c.row_of.ensures;
+  upper_bound = c.write_row.ensures.upper_bound;
+}

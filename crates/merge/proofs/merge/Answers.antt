@@ -12,11 +12,11 @@ merge_good-requires c = sym c.check-verdict.ensures ∙ c.in-Good.is
 -- two good lists
 pub returns-in-Good : goal.returns-in-Good
 returns-in-Good c =
-    let all = rw (sym c.check-verdict.ensures ∙ c.in-Good.is) c.merge_good.ensures in record { value = all.0; book_after = all.1; report_after = all.2 }
+    let all = rw (sym c.check-verdict.ensures ∙ c.in-Good.is) c.merge_good.ensures in record { value = all.0; book_after = all.1.0; report_after = all.1.1 }
 
 -- lists of which one is not
 pub returns-in-Faulty : goal.returns-in-Faulty
 returns-in-Faulty c =
     let first = c.args.first.now in
     let second = c.args.second.now in
-    let all = merges_refused (merged max_pairs first second) c.args.book.now (report max_pairs first second) c.args.report.now _ _ _ (sym c.in-Faulty.is ∙ c.check-verdict.ensures) in record { value = all.0; book_after = all.1; report_after = all.2 }
+    let all = merges_refused (merged max_pairs first second) c.args.book.now (report max_pairs first second) c.args.report.now _ _ _ (sym c.in-Faulty.is ∙ c.check-verdict.ensures) in record { value = all.0; book_after = all.1.0; report_after = all.1.1 }

@@ -28,17 +28,17 @@ fits c =
 
 pub keep_lines-found-requires : goal.keep_lines-found-requires
 keep_lines-found-requires c = record {
-      book_value = book_of_list max_pairs _ (both-lists c.before.before.before.before.before.before.before.before.before.before).0;
-      value = c.no_heads-heads.ensures;
-      value_2 = (c.no_numbers-links.ensures, c.no_numbers-places.ensures);
-    }
+  book_value = book_of_list max_pairs _ (both-lists c.before.before.before.before.before.before.before.before.before.before).0;
+  value = c.no_heads-heads.ensures;
+  value_2 = (c.no_numbers-links.ensures, c.no_numbers-places.ensures);
+}
 
 pub keep_lines-requires : goal.keep_lines-requires
 keep_lines-requires c = record {
-      book_value = book_of_list max_pairs _ (both-lists c.before.before.before.before.before.before.before.before.before.before.before.before.before.before.before.before.before.before.before.before).1;
-      value = c.no_heads-other_heads.ensures;
-      value_2 = (c.no_numbers-other_links.ensures, c.no_numbers-others.ensures);
-    }
+  book_value = book_of_list max_pairs _ (both-lists c.before.before.before.before.before.before.before.before.before.before.before.before.before.before.before.before.before.before.before.before).1;
+  value = c.no_heads-other_heads.ensures;
+  value_2 = (c.no_numbers-other_links.ensures, c.no_numbers-others.ensures);
+}
 
 pub find_rows-length-requires : goal.find_rows-length-requires
 find_rows-length-requires c =
@@ -53,18 +53,18 @@ pub returns-then-book-whole : goal.returns-then-book-whole
 returns-then-book-whole c =
     let first = c.args.first.now in
     let second = c.args.second.now in
-    let all = merges_too_short (merged max_pairs first second) c.args.book.now (report max_pairs first second) c.args.report.now _ _ (book-length c.before.before.before.before.before.before.before.before.before.before.before.before.before.before.before.before.before.before.before.before.before.before.before.before.before.before.before.before.before.before.before.before.before) c.find_rows-length.ensures.value c.if-book-whole.true in record { value = all.0; book_after = all.1; report_after = all.2 }
+    let all = merges_too_short (merged max_pairs first second) c.args.book.now (report max_pairs first second) c.args.report.now _ _ (book-length c.before.before.before.before.before.before.before.before.before.before.before.before.before.before.before.before.before.before.before.before.before.before.before.before.before.before.before.before.before.before.before.before.before) c.find_rows-length.ensures.value c.if-book-whole.true in record { value = all.0; book_after = all.1.0; report_after = all.1.1 }
 
 pub take_lines-requires : goal.take_lines-requires
 take_lines-requires c =
-    let all = (c.requires, ((_, c.keep_lines-found.ensures.table, c.find_rows-length.ensures.all_wait), fits c.before.before.before.before.before.before.before)) in record { second_value = all.0; by_index = all.1; second_in_bounds = all.2; second_in_bounds_2 = all.3 }
+    let all = (c.requires, ((_, c.keep_lines-found.ensures.table, c.find_rows-length.ensures.all_wait), fits c.before.before.before.before.before.before.before)) in record { second_value = all.0; by_index = all.1.0; second_in_bounds = all.1.1.0; second_in_bounds_2 = all.1.1.1 }
 
 pub returns : goal.returns
 returns c =
     let first = c.args.first.now in
     let second = c.args.second.now in
     let all = merges_written (merged max_pairs first second) c.args.book.now (report max_pairs first second) c.args.report.now _ _ (book-length c.before.before.before.before.before.before.before.before.before.before.before.before.before.before.before.before.before.before.before.before.before.before.before.before.before.before.before.before.before.before.before.before.before.before.before.before.before.before.before.before.before.before.before.before.before.before) c.find_rows-length.ensures.value _ _ (fits c.before.before.before.before.before.before.before.before.before.before.before.before.before)
-    c.take_lines.ensures.book_after c.take_lines.ensures.report_after in record { value = all.0; book_after = all.1; report_after = all.2 }
+    c.take_lines.ensures.book_after c.take_lines.ensures.report_after in record { value = all.0; book_after = all.1.0; report_after = all.1.1 }
 
 pub overflow_add-whole : goal.overflow_add-whole
 overflow_add-whole c = record { fits = omega (arith, (both-lists c.before.before.before.before.before.before.before.before.before.before.before.before.before.before.before.before.before.before.before.before.before.before.before.before.before.before.before.before.before.before.before.before).0.short, (both-lists c.before.before.before.before.before.before.before.before.before.before.before.before.before.before.before.before.before.before.before.before.before.before.before.before.before.before.before.before.before.before.before.before).1.short) }

@@ -8,16 +8,16 @@ use Rattle.salvage.proofs.salvage_with.Goals as goal
 -- the book is too long
 pub returns-then-book-gt-MAX_BOOK : goal.returns-then-book-gt-MAX_BOOK
 returns-then-book-gt-MAX_BOOK c =
-    let all = salvages_too_long max_pairs c.args.book.now c.args.room.now c.args.report.now c.if-book-gt-MAX_BOOK.true in record { value = all.0; room_after = all.1; report_after = all.2 }
+    let all = salvages_too_long max_pairs c.args.book.now c.args.room.now c.args.report.now c.if-book-gt-MAX_BOOK.true in record { value = all.0; room_after = all.1.0; report_after = all.1.1 }
 
 -- both are written
 pub returns-then-are_long_enough : goal.returns-then-are_long_enough
 returns-then-are_long_enough c =
     let found = c.take_lines-found.ensures in
     let all = salvages_written max_pairs c.args.book.now c.args.room.now c.args.report.now c.if-book-gt-MAX_BOOK.false _ _ _ _ _
-    (sym c.are_long_enough.ensures ∙ c.if-are_long_enough.true) found.0 found.1.0 found.1.1 in record { value = all.0; room_after = all.1; report_after = all.2 }
+    (sym c.are_long_enough.ensures ∙ c.if-are_long_enough.true) found.0 found.1.0 found.1.1 in record { value = all.0; room_after = all.1.0; report_after = all.1.1 }
 
 -- a room is too short
 pub returns : goal.returns
 returns c =
-    let all = salvages_too_short max_pairs c.args.book.now c.args.room.now c.args.report.now c.if-book-gt-MAX_BOOK.false (sym c.are_long_enough.ensures ∙ c.if-are_long_enough.false) in record { value = all.0; room_after = all.1; report_after = all.2 }
+    let all = salvages_too_short max_pairs c.args.book.now c.args.room.now c.args.report.now c.if-book-gt-MAX_BOOK.false (sym c.are_long_enough.ensures ∙ c.if-are_long_enough.false) in record { value = all.0; room_after = all.1.0; report_after = all.1.1 }

@@ -25,9 +25,9 @@ m-at c = known w64 tt (m-in c)
 -- a year before -9999
 pub returns-then-year-lt-LEAST_YEAR : goal.returns-then-year-lt-LEAST_YEAR
 returns-then-year-lt-LEAST_YEAR c = record {
-      is = sym (month_in_of_year _ _ (is_in_of_lt (negsuc 9998) (pos 9999) (lt_yes (param w64 c.ranges.year) (lit (negsuc 9998)) c.if-year-lt-LEAST_YEAR.true)));
-      range = tt;
-    }
+  is = sym (month_in_of_year _ _ (is_in_of_lt (negsuc 9998) (pos 9999) (lt_yes (param w64 c.ranges.year) (lit (negsuc 9998)) c.if-year-lt-LEAST_YEAR.true)));
+  range = tt;
+}
 
 -- a year after 9999
 pub returns-then-year-gt-MOST_YEAR : goal.returns-then-year-gt-MOST_YEAR
@@ -40,9 +40,9 @@ returns-then-year-gt-MOST_YEAR c =
 -- a month before 1
 pub returns-then-month-lt-FIRST_MONTH : goal.returns-then-month-lt-FIRST_MONTH
 returns-then-month-lt-FIRST_MONTH c = record {
-      is = sym (month_in_of_month _ _ (is_in_of_lt (pos 1) (pos 12) (lt_yes (param w64 c.ranges.month) (lit (pos 1)) c.if-month-lt-FIRST_MONTH.true)));
-      range = tt;
-    }
+  is = sym (month_in_of_month _ _ (is_in_of_lt (pos 1) (pos 12) (lt_yes (param w64 c.ranges.month) (lit (pos 1)) c.if-month-lt-FIRST_MONTH.true)));
+  range = tt;
+}
 
 -- a month after 12
 pub returns-then-month-gt-LAST_MONTH : goal.returns-then-month-gt-LAST_MONTH

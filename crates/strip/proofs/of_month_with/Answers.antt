@@ -19,9 +19,9 @@ returns-in_default c =
 
 pub month_strip-requires : goal.month_strip-requires
 month_strip-requires c = record {
-      table = c.requires;
-      month = in_of_HasStrip c.in-At.is c.month_of-found.ensures.range;
-    }
+  table = c.requires;
+  month = in_of_HasStrip c.in-At.is c.month_of-found.ensures.range;
+}
 
 -- the month is there
 pub returns : goal.returns

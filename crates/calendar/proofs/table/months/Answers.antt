@@ -7,6 +7,6 @@ use Rattle.calendar.proofs.table.months.Goals as goal
 pub returns : goal.returns
 unfolding month_length lengths leap
 returns c = record {
-      entries = IsMonths_of_walk tt;
-      length = refl;
-    }
+  entries = IsMonths_of_walk tt;
+  length = refl;
+}

@@ -4,6 +4,6 @@ use Rattle.chowderbell.proofs.book.chowderbell_book_compact.Goals as goal
 
 pub returns : goal.returns
 returns c = record {
-      answer = rw (← c.compact.ensures.value) c.hand_copy.ensures;
-      room = c.compact.ensures.room_after;
-    }
+  answer = rw (← c.compact.ensures.value) c.hand_copy.ensures;
+  room = c.compact.ensures.room_after;
+}

@@ -58,14 +58,14 @@ bounds-w-0-then-is_sign c = omega (arith, long c.before.before.before.before.bef
 
 pub returns-then-is_sign : goal.returns-then-is_sign
 returns-then-is_sign c = rw (
-      back w64 c.in-Is.h c.known_told-1.given.0.1,
-      back w64 c.in-Is-minutes.m c.known_told-in-Is-minutes-1.given.0.1,
-      back w64 c.in-Is-seconds.x c.known_told-in-Is-seconds-1.given.0.1,
-      opened c.before.before.before.before.before.before.before.before.before.before.before.before.before,
-      hours_is c.before.before.before.before.before.before.before.before.before,
-      minutes_is c.before.before.before.before.before,
-      seconds_is c.before,
-    )
+  back w64 c.in-Is.h c.known_told-1.given.0.1,
+  back w64 c.in-Is-minutes.m c.known_told-in-Is-minutes-1.given.0.1,
+  back w64 c.in-Is-seconds.x c.known_told-in-Is-seconds-1.given.0.1,
+  opened c.before.before.before.before.before.before.before.before.before.before.before.before.before,
+  hours_is c.before.before.before.before.before.before.before.before.before,
+  minutes_is c.before.before.before.before.before,
+  seconds_is c.before,
+)
 
 -- no sign
 pub returns-then-five_or_seven : goal.returns-then-five_or_seven

@@ -22,23 +22,23 @@ second-le c =
 -- no hour
 pub returns-in_default : goal.returns-in_default
 returns-in_default c = record {
-      is = clock-not-hour _ _ _ (sym c.unsigned_number.ensures ∙ c.in_default.is);
-      range = tt;
-    }
+  is = clock-not-hour _ _ _ (sym c.unsigned_number.ensures ∙ c.in_default.is);
+  range = tt;
+}
 
 -- no minute
 pub returns-in_default-unsigned_number : goal.returns-in_default-unsigned_number
 returns-in_default-unsigned_number c = record {
-      is = clock-not-minute _ _ _ (sym c.unsigned_number.ensures ∙ c.in-Value.is) (sym c.unsigned_number-2.ensures ∙ c.in_default-unsigned_number.is);
-      range = tt;
-    }
+  is = clock-not-minute _ _ _ (sym c.unsigned_number.ensures ∙ c.in-Value.is) (sym c.unsigned_number-2.ensures ∙ c.in_default-unsigned_number.is);
+  range = tt;
+}
 
 -- no second
 pub returns-in_default-unsigned_number-2 : goal.returns-in_default-unsigned_number-2
 returns-in_default-unsigned_number-2 c = record {
-      is = clock-not-second _ _ _ (sym c.unsigned_number.ensures ∙ c.in-Value.is) (sym c.unsigned_number-2.ensures ∙ c.in-Value-unsigned_number.is) (sym c.unsigned_number-3.ensures ∙ c.in_default-unsigned_number-2.is);
-      range = tt;
-    }
+  is = clock-not-second _ _ _ (sym c.unsigned_number.ensures ∙ c.in-Value.is) (sym c.unsigned_number-2.ensures ∙ c.in-Value-unsigned_number.is) (sym c.unsigned_number-3.ensures ∙ c.in_default-unsigned_number-2.is);
+  range = tt;
+}
 
 pub overflow_mul-result : goal.overflow_mul-result
 overflow_mul-result c = let h = hour-le c in record { fits = omega arith }

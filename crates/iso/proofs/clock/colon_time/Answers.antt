@@ -12,13 +12,13 @@ slice_bounds-clock-end c = sym (length-take-le _ _ c.first-place.ensures.1)
 -- a colon more: the third part ends at the next
 pub returns-then-i-s : goal.returns-then-i-s
 returns-then-i-s c = record {
-      is = c.clock.ensures.is ∙ colon_time-third _ _ _ c.first-place.ensures.0 _ c.if1.true c.before-then-i-s.ensures;
-      range = c.clock.ensures.range;
-    }
+  is = c.clock.ensures.is ∙ colon_time-third _ _ _ c.first-place.ensures.0 _ c.if1.true c.before-then-i-s.ensures;
+  range = c.clock.ensures.range;
+}
 
 -- two parts
 pub returns : goal.returns
 returns c = record {
-      is = c.clock-2.ensures.is ∙ colon_time-second _ _ _ c.first_place-i.ensures.0 c.if-i-s.false;
-      range = c.clock-2.ensures.range;
-    }
+  is = c.clock-2.ensures.is ∙ colon_time-second _ _ _ c.first_place-i.ensures.0 c.if-i-s.false;
+  range = c.clock-2.ensures.range;
+}

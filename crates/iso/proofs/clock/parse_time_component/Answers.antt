@@ -11,13 +11,13 @@ slice_bounds-colon_time-end c = sym (length-take-le _ _ c.first-place.ensures.1)
 -- with colons
 pub returns-then-i-t : goal.returns-then-i-t
 returns-then-i-t c = record {
-      is = iso_time-colon _ _ c.first-place.ensures.0 _ c.if1.true c.colon_time.ensures.is;
-      range = c.colon_time.ensures.range;
-    }
+  is = iso_time-colon _ _ c.first-place.ensures.0 _ c.if1.true c.colon_time.ensures.is;
+  range = c.colon_time.ensures.range;
+}
 
 -- without
 pub returns : goal.returns
 returns c = record {
-      is = c.plain_time.ensures.is ∙ iso_time-plain _ _ c.first_place-i.ensures.0 c.if-i-t.false;
-      range = c.plain_time.ensures.range;
-    }
+  is = c.plain_time.ensures.is ∙ iso_time-plain _ _ c.first_place-i.ensures.0 c.if-i-t.false;
+  range = c.plain_time.ensures.range;
+}

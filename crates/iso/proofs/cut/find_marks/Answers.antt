@@ -40,9 +40,9 @@ last_sign-requires c =
 pub returns-then-b-eq32 : goal.returns-then-b-eq32
 unfolding last_place
 returns-then-b-eq32 c = record {
-      space = last-here (opens_with 32) _ _ c.loop-e-test.true c.loop-e.invariant.0 (eq-eqb _ _ c.if-b-eq32.true);
-      sign = c.last_sign.ensures;
-    }
+  space = last-here (opens_with 32) _ _ c.loop-e-test.true c.loop-e.invariant.0 (eq-eqb _ _ c.if-b-eq32.true);
+  sign = c.last_sign.ensures;
+}
 
 -- the rightmost sign
 pub last_space-requires : goal.last_space-requires

@@ -12,37 +12,37 @@ use Rattle.iso.proofs.forms.all_fields.Goals as goal
 -- no year
 pub returns-in_default : goal.returns-in_default
 returns-in_default c = record {
-      is = all_fields-not-year _ _ _ _ _ c.in_default.is;
-      range = tt;
-    }
+  is = all_fields-not-year _ _ _ _ _ c.in_default.is;
+  range = tt;
+}
 
 -- no month
 pub returns-in_default-m : goal.returns-in_default-m
 returns-in_default-m c = record {
-      is = all_fields-not-month _ _ _ _ _ c.in-Is.is c.in_default-m.is;
-      range = tt;
-    }
+  is = all_fields-not-month _ _ _ _ _ c.in-Is.is c.in_default-m.is;
+  range = tt;
+}
 
 -- no day
 pub returns-in_default-d : goal.returns-in_default-d
 returns-in_default-d c = record {
-      is = all_fields-not-day _ _ _ _ _ c.in-Is.is c.in-Is-m.is c.in_default-d.is;
-      range = tt;
-    }
+  is = all_fields-not-day _ _ _ _ _ c.in-Is.is c.in-Is-m.is c.in_default-d.is;
+  range = tt;
+}
 
 -- no time
 pub returns-in_default-t : goal.returns-in_default-t
 returns-in_default-t c = record {
-      is = all_fields-not-time _ _ _ _ _ c.in-Is.is c.in-Is-m.is c.in-Is-d.is c.in_default-t.is;
-      range = tt;
-    }
+  is = all_fields-not-time _ _ _ _ _ c.in-Is.is c.in-Is-m.is c.in-Is-d.is c.in_default-t.is;
+  range = tt;
+}
 
 -- no offset
 pub returns-in_default-o : goal.returns-in_default-o
 returns-in_default-o c = record {
-      is = all_fields-not-offset _ _ _ _ _ c.in-Is.is c.in-Is-m.is c.in-Is-d.is c.in-Value.is c.in_default-o.is;
-      range = tt;
-    }
+  is = all_fields-not-offset _ _ _ _ _ c.in-Is.is c.in-Is-m.is c.in-Is-d.is c.in-Value.is c.in_default-o.is;
+  range = tt;
+}
 
 -- all five
 pub returns : goal.returns

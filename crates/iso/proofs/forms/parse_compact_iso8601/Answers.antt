@@ -11,9 +11,9 @@ use Rattle.iso.proofs.forms.parse_compact_iso8601.Goals as goal
 -- too short
 pub returns-then-s-lt9 : goal.returns-then-s-lt9
 returns-then-s-lt9 c = record {
-      is = compact_short _ c.if-s-lt9.true;
-      range = tt;
-    }
+  is = compact_short _ c.if-s-lt9.true;
+  range = tt;
+}
 
 pub slice_bounds-first_place-end : goal.slice_bounds-first_place-end
 slice_bounds-first_place-end c =
@@ -23,9 +23,9 @@ slice_bounds-first_place-end c =
 -- the first `T` elsewhere
 pub returns-then-first_place-ne8 : goal.returns-then-first_place-ne8
 returns-then-first_place-ne8 c = record {
-      is = compact_no _ _ c.first_place.ensures.0 c.if-first_place-ne8.true;
-      range = tt;
-    }
+  is = compact_no _ _ c.first_place.ensures.0 c.if-first_place-ne8.true;
+  range = tt;
+}
 
 pub slice_bounds-read_fields-end : goal.slice_bounds-read_fields-end
 slice_bounds-read_fields-end c = let s = c.before.before.args.s.now in let h : 4 ≤ length s = omega arith in sym (length-take-le 4 s h)
@@ -33,6 +33,6 @@ slice_bounds-read_fields-end c = let s = c.before.before.args.s.now in let h : 4
 -- the first `T` at place 8
 pub returns : goal.returns
 returns c = record {
-      is = c.read_fields.ensures.is ∙ compact_yes _ _ _ _ c.first-place.ensures.0 c.if2.false c.if1.false c.two.ensures c.two-2.ensures;
-      range = c.read_fields.ensures.range;
-    }
+  is = c.read_fields.ensures.is ∙ compact_yes _ _ _ _ c.first-place.ensures.0 c.if2.false c.if1.false c.two.ensures c.two-2.ensures;
+  range = c.read_fields.ensures.range;
+}

@@ -18,9 +18,9 @@ z-in c =
 -- no number
 pub returns-in_default : goal.returns-in_default
 returns-in_default c = record {
-      is = up_to-not _ _ (sym c.signed_number.ensures ∙ c.in_default.is);
-      range = tt;
-    }
+  is = up_to-not _ _ (sym c.signed_number.ensures ∙ c.in_default.is);
+  range = tt;
+}
 
 -- up to the limit
 pub returns-then-z-limit : goal.returns-then-z-limit
@@ -33,6 +33,6 @@ returns-then-z-limit c =
 -- beyond it
 pub returns : goal.returns
 returns c = record {
-      is = up_to-over _ _ (sym c.signed_number.ensures ∙ c.in-Is.is) (le_no (known w64 tt (z-in c.before)) (param w64 c.ranges.limit) c.if-z-limit.false);
-      range = tt;
-    }
+  is = up_to-over _ _ (sym c.signed_number.ensures ∙ c.in-Is.is) (le_no (known w64 tt (z-in c.before)) (param w64 c.ranges.limit) c.if-z-limit.false);
+  range = tt;
+}

@@ -53,16 +53,16 @@ loop-i-preserved c =
 -- HH
 pub returns-then-n-eq2 : goal.returns-then-n-eq2
 returns-then-n-eq2 c = record {
-      is = rw (c.seconds.ensures.is, c.field.ensures.is, held c.before.before.before, c.if-n-eq2.true) (hours_minutes-two c.loop-i.f c.loop-i.invariant.0);
-      range = c.seconds.ensures.range;
-    }
+  is = rw (c.seconds.ensures.is, c.field.ensures.is, held c.before.before.before, c.if-n-eq2.true) (hours_minutes-two c.loop-i.f c.loop-i.invariant.0);
+  range = c.seconds.ensures.range;
+}
 
 -- HHMM
 pub returns-then-n-eq4-2 : goal.returns-then-n-eq4-2
 returns-then-n-eq4-2 c = record {
-      is = rw (c.seconds-then-n-eq4-2.ensures.is, c.field-then-n-eq4-2-2.ensures.is, c.field-then-n-eq4-2.ensures.is, held c.before.before.before.before.before, c.if-n-eq4-2.true) (hours_minutes-four c.loop-i.f c.loop-i.invariant.0);
-      range = c.seconds-then-n-eq4-2.ensures.range;
-    }
+  is = rw (c.seconds-then-n-eq4-2.ensures.is, c.field-then-n-eq4-2-2.ensures.is, c.field-then-n-eq4-2.ensures.is, held c.before.before.before.before.before, c.if-n-eq4-2.true) (hours_minutes-four c.loop-i.f c.loop-i.invariant.0);
+  range = c.seconds-then-n-eq4-2.ensures.range;
+}
 
 -- any other number of bytes
 pub returns : goal.returns

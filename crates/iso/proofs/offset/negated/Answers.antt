@@ -15,15 +15,15 @@ negated-at c =
 
 pub returns-in_default : goal.returns-in_default
 returns-in_default c = record {
-      is = negated-not c.in_default.is;
-      range = tt;
-    }
+  is = negated-not c.in_default.is;
+  range = tt;
+}
 
 pub overflow_sub-result : goal.overflow_sub-result
 overflow_sub-result c = fits w64 tt (negated-at c)
 
 pub returns : goal.returns
 returns c = let z = read w64 tt (negated-at c) in record {
-      is = ap Is z.is ∙ negated_value c.in-Is.is;
-      range = In_of_At z;
-    }
+  is = ap Is z.is ∙ negated_value c.in-Is.is;
+  range = In_of_At z;
+}

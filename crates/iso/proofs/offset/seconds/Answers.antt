@@ -20,16 +20,16 @@ minutes c =
 -- no hours
 pub returns-in_default : goal.returns-in_default
 returns-in_default c = record {
-      is = offset_seconds-not-hours _ c.in_default.is;
-      range = tt;
-    }
+  is = offset_seconds-not-hours _ c.in_default.is;
+  range = tt;
+}
 
 -- no minutes
 pub returns-in_default-m : goal.returns-in_default-m
 returns-in_default-m c = record {
-      is = offset_seconds-not-minutes c.in-Is.is c.in_default-m.is;
-      range = tt;
-    }
+  is = offset_seconds-not-minutes c.in-Is.is c.in_default-m.is;
+  range = tt;
+}
 
 pub overflow_mul-result : goal.overflow_mul-result
 overflow_mul-result c = fits w64 tt (times 3600 (hours c))

@@ -12,13 +12,13 @@ loop-rest-init c = going_start c.args.s.now c.args.out.now
 
 pub returns-then-rest-e : goal.returns-then-rest-e
 returns-then-rest-e c =
-    let all = stop_no_line c.loop-rest.invariant _ _ c.from-rest.ensures c.first_place-e.ensures.0 c.if-rest-e.true in record { value = all.0; out_after = all.1; taken_in_bounds = all.2 }
+    let all = stop_no_line c.loop-rest.invariant _ _ c.from-rest.ensures c.first_place-e.ensures.0 c.if-rest-e.true in record { value = all.0; out_after = all.1.0; taken_in_bounds = all.1.1 }
 
 pub answer_at-n-requires : goal.answer_at-n-requires
 answer_at-n-requires c = record {
-      months = c.requires;
-      at_in_bounds = omega (arith, c.loop-rest.invariant.within, c.loop-rest.invariant.size);
-    }
+  months = c.requires;
+  at_in_bounds = omega (arith, c.loop-rest.invariant.within, c.loop-rest.invariant.size);
+}
 
 pub shape_of-out-then-n-eq0 : goal.shape_of-out-then-n-eq0
 shape_of-out-then-n-eq0 c = let e = c.loop-rest.invariant.size in search rules
@@ -26,7 +26,7 @@ shape_of-out-then-n-eq0 c = let e = c.loop-rest.invariant.size in search rules
 pub returns-then-n-eq0 : goal.returns-then-n-eq0
 returns-then-n-eq0 c =
     let all = stop_full c.loop-rest.invariant _ _ _ _ _ c.from-rest.ensures c.first_place-e.ensures.0 c.if-rest-e.false c.up_to.ensures
-    c.answer_at-n.ensures.value c.if-n-eq0.true c.answer_at-n.ensures.result_nonzero c.answer_at-n.ensures.out_after in record { value = all.0; out_after = all.1; taken_in_bounds = all.2 }
+    c.answer_at-n.ensures.value c.if-n-eq0.true c.answer_at-n.ensures.result_nonzero c.answer_at-n.ensures.out_after in record { value = all.0; out_after = all.1.0; taken_in_bounds = all.1.1 }
 
 -- one line more is still within the buffer, and its answer within the room
 pub loop-rest-preserved : goal.loop-rest-preserved

@@ -14,14 +14,14 @@ shape_of-buffer-then-buffer-at c = length_moved c.loop-at.invariant
 
 pub returns-then-buffer-at : goal.returns-then-buffer-at
 returns-then-buffer-at c =
-    let all = kept_at_length c.loop-at.invariant c.if-buffer-at.true in record { value = all.0; buffer_after = all.1; upper_bound = all.2 }
+    let all = kept_at_length c.loop-at.invariant c.if-buffer-at.true in record { value = all.0; buffer_after = all.1.0; upper_bound = all.1.1 }
 
 pub shape_of-buffer-then-n-ge-MAX_KEPT : goal.shape_of-buffer-then-n-ge-MAX_KEPT
 shape_of-buffer-then-n-ge-MAX_KEPT c = length_moved c.loop-at.invariant
 
 pub returns-then-n-ge-MAX_KEPT : goal.returns-then-n-ge-MAX_KEPT
 returns-then-n-ge-MAX_KEPT c =
-    let all = kept_at_most c.loop-at.invariant c.if-n-ge-MAX_KEPT.true in record { value = all.0; buffer_after = all.1; upper_bound = all.2 }
+    let all = kept_at_most c.loop-at.invariant c.if-n-ge-MAX_KEPT.true in record { value = all.0; buffer_after = all.1.0; upper_bound = all.1.1 }
 
 pub bounds-buffer-n : goal.bounds-buffer-n
 bounds-buffer-n c = omega (arith, c.loop-at.invariant.place)
@@ -34,4 +34,4 @@ shape_of-buffer c = length_moved c.loop-at.invariant
 
 pub returns : goal.returns
 returns c =
-    let all = kept_at_end c.loop-at.invariant c.loop-at-test.false in record { value = all.0; buffer_after = all.1; upper_bound = all.2 }
+    let all = kept_at_end c.loop-at.invariant c.loop-at-test.false in record { value = all.0; buffer_after = all.1.0; upper_bound = all.1.1 }

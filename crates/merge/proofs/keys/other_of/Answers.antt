@@ -36,9 +36,9 @@ keys c =
 
 pub returns-then-n-eq0 : goal.returns-then-n-eq0
 returns-then-n-eq0 c = record {
-      value = other_none _ _ _ _ _ _ (number c.before) c.if-n-eq0.true;
-      upper_bound = omega arith;
-    }
+  value = other_none _ _ _ _ _ _ (number c.before) c.if-n-eq0.true;
+  upper_bound = omega arith;
+}
 
 pub offset_bounds-others-n : goal.offset_bounds-others-n
 offset_bounds-others-n c = record { fits = omega (arith, within c.before.before) }

@@ -106,12 +106,11 @@ loop-x-smaller-then-same_ignoring_case c = omega (arith, moved c.before.before.b
 
 -- `ago`: the mark
 pub loop-x-preserved-then-same_ignoring_case : goal.loop-x-preserved-then-same_ignoring_case
-loop-x-preserved-then-same_ignoring_case c =
-    (
-      omega (arith, moved c.before.before.before.before),
-      (at-loop c.before.before.before.before).loop.invariant.1,
-      marked (first c.before.before.before.before) (rw (← c.within-word.ensures, ← c.same_ignoring_case.ensures) c.if-same_ignoring_case.true),
-    )
+loop-x-preserved-then-same_ignoring_case c = (
+  omega (arith, moved c.before.before.before.before),
+  (at-loop c.before.before.before.before).loop.invariant.1,
+  marked (first c.before.before.before.before) (rw (← c.within-word.ensures, ← c.same_ignoring_case.ensures) c.if-same_ignoring_case.true),
+)
 
 pub loop-x-smaller-in_default-c : goal.loop-x-smaller-in_default-c
 loop-x-smaller-in_default-c c = omega (arith, moved (at-word c.before.before.before))

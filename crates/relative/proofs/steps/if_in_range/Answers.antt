@@ -17,6 +17,6 @@ returns-then-in_range c = let e = sym c.in_range.ensures ∙ c.if-in_range.true 
 pub returns : goal.returns
 unfolding landed
 returns c = record {
-      is = rw (← c.in_range.ensures, c.if-in_range.false);
-      range = tt;
-    }
+  is = rw (← c.in_range.ensures, c.if-in_range.false);
+  range = tt;
+}

@@ -14,6 +14,6 @@ returns-in-In c = rw c.in
 pub returns-in-Nothing : goal.returns-in-Nothing
 unfolding step
 returns-in-Nothing c = record {
-      is = rw c.in-Nothing.is;
-      range = tt;
-    }
+  is = rw c.in-Nothing.is;
+  range = tt;
+}

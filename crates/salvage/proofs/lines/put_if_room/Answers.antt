@@ -7,12 +7,12 @@ use Rattle.salvage.proofs.lines.put_if_room.Goals as goal
 -- there is no room
 pub returns-then-room-end : goal.returns-then-room-end
 returns-then-room-end c = record {
-      value = refl;
-      room_after = put_none c.args.part.now c.args.room.now c.args.at c.if-room-end.true;
-    }
+  value = refl;
+  room_after = put_none c.args.part.now c.args.room.now c.args.at c.if-room-end.true;
+}
 
 pub returns : goal.returns
 returns c = record {
-      value = c.put_part.ensures.value;
-      room_after = put_all c.args.part.now c.args.room.now _ c.args.at c.if-room-end.false c.put_part.ensures.room_after;
-    }
+  value = c.put_part.ensures.value;
+  room_after = put_all c.args.part.now c.args.room.now _ c.args.at c.if-room-end.false c.put_part.ensures.room_after;
+}

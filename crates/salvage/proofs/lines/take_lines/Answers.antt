@@ -39,7 +39,7 @@ shape_of-room-then-bad-eq0 c =
 pub returns-then-bad-eq0 : goal.returns-then-bad-eq0
 returns-then-bad-eq0 c =
     let ran = c.good_run_with-run.ensures in
-    let all = taking_whole c.loop-at.invariant _ _ _ c.from-rest.ensures ran.0 ran.1 _ c.up_to.ensures _ _ c.put_if_room-length.ensures.room_after c.put_if_room-length.ensures.value c.if-bad-eq0.true in record { length_value = all.0; room_after = all.1; report_after = all.2 }
+    let all = taking_whole c.loop-at.invariant _ _ _ c.from-rest.ensures ran.0 ran.1 _ c.up_to.ensures _ _ c.put_if_room-length.ensures.room_after c.put_if_room-length.ensures.value c.if-bad-eq0.true in record { length_value = all.0; room_after = all.1.0; report_after = all.1.1 }
 
 -- the number of the bad line
 pub overflow_add-number : goal.overflow_add-number
@@ -93,4 +93,4 @@ shape_of-report c = c.loop-at.invariant.in_report.same
 
 pub returns : goal.returns
 returns c =
-    let all = taking_end c.loop-at.invariant c.loop-at-test.false in record { length_value = all.0; room_after = all.1; report_after = all.2 }
+    let all = taking_end c.loop-at.invariant c.loop-at-test.false in record { length_value = all.0; room_after = all.1.0; report_after = all.1.1 }

@@ -14,7 +14,7 @@ loop-at-init c = judging_start max_pairs c.args.book.now c.args.marks.now
 -- a bad line
 pub returns-then-size-eq0 : goal.returns-then-size-eq0
 returns-then-size-eq0 c =
-    let all = judging_stop c.loop-at.invariant _ _ c.from.ensures c.loop-at-test.true c.next_line-next.ensures c.if-size-eq0.true in record { bad_value = all.0; length_value = all.1; marks_after = all.2 }
+    let all = judging_stop c.loop-at.invariant _ _ c.from.ensures c.loop-at-test.true c.next_line-next.ensures c.if-size-eq0.true in record { bad_value = all.0; length_value = all.1.0; marks_after = all.1.1 }
 
 -- a good line
 pub loop-at-preserved : goal.loop-at-preserved
@@ -47,4 +47,4 @@ shape_of-marks c = c.loop-at.invariant.places
 
 pub returns : goal.returns
 returns c =
-    let all = judging_end c.loop-at.invariant c.loop-at-test.false in record { bad_value = all.0; length_value = all.1; marks_after = all.2 }
+    let all = judging_end c.loop-at.invariant c.loop-at-test.false in record { bad_value = all.0; length_value = all.1.0; marks_after = all.1.1 }

@@ -8,6 +8,6 @@ use Rattle.stamps.proofs.put.put_time.Goals as goal
 
 pub returns : goal.returns
 returns c = record {
-      value = ap (λ (n : ℕ). c.args.at + n) (c.size.ensures.0 ∙ sym (length-header_bytes c.args.t));
-      room_after = put_at-header c.args.t c.args.room.now _ c.args.at c.requires.0 c.requires.1 c.write_to.ensures.room_after;
-    }
+  value = ap (λ (n : ℕ). c.args.at + n) (c.size.ensures.0 ∙ sym (length-header_bytes c.args.t));
+  room_after = put_at-header c.args.t c.args.room.now _ c.args.at c.requires.0 c.requires.1 c.write_to.ensures.room_after;
+}

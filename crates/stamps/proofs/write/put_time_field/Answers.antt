@@ -9,6 +9,6 @@ use Rattle.stamps.proofs.write.put_time_field.Goals as goal
 
 pub returns : goal.returns
 returns c = record {
-      value = omega (arith, c.put_time.ensures.value, c.put_part-next.ensures.value);
-      room_after = put_at-behind (tab ∷ []) (header_bytes c.args.time) c.args.room.now _ _ c.args.at _ (omega arith) c.put_part-next.ensures.value c.put_part-next.ensures.room_after c.put_time.ensures.room_after;
-    }
+  value = omega (arith, c.put_time.ensures.value, c.put_part-next.ensures.value);
+  room_after = put_at-behind (tab ∷ []) (header_bytes c.args.time) c.args.room.now _ _ c.args.at _ (omega arith) c.put_part-next.ensures.value c.put_part-next.ensures.room_after c.put_time.ensures.room_after;
+}

@@ -17,9 +17,9 @@ returns-then-room-n c =
 
 pub put_hull-requires : goal.put_hull-requires
 put_hull-requires c = record {
-      time_value = sym c.is_hull.ensures ∙ c.if-is_hull.true;
-      time_in_bounds = omega (arith, c.if-room-n.false, c.hull_width-n.ensures);
-    }
+  time_value = sym c.is_hull.ensures ∙ c.if-is_hull.true;
+  time_in_bounds = omega (arith, c.if-room-n.false, c.hull_width-n.ensures);
+}
 
 pub returns-then-is_hull : goal.returns-then-is_hull
 unfolding hull_written

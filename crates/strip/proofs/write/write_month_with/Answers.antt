@@ -27,9 +27,9 @@ returns-then-room-lt-STRIP_LENGTH c =
 
 pub month_strip-requires : goal.month_strip-requires
 month_strip-requires c = record {
-      table = c.requires;
-      month = in_of_HasStrip c.in-At.is c.month_of-found.ensures.range;
-    }
+  table = c.requires;
+  month = in_of_HasStrip c.in-At.is c.month_of-found.ensures.range;
+}
 
 -- the strip is written
 pub returns : goal.returns

@@ -59,12 +59,11 @@ pub overflow_add-v : goal.overflow_add-v
 overflow_add-v c = omega (arith, room c)
 
 pub loop-i-preserved : goal.loop-i-preserved
-loop-i-preserved c =
-    (
-      room c,
-      c.loop-i.invariant.1 ∙ past_of-true _ _ _ c.loop-i-test.true (sym c.is_digit.ensures ∙ c.if-is_digit.true),
-      more c.before.before,
-    )
+loop-i-preserved c = (
+  room c,
+  c.loop-i.invariant.1 ∙ past_of-true _ _ _ c.loop-i-test.true (sym c.is_digit.ensures ∙ c.if-is_digit.true),
+  more c.before.before,
+)
 
 -- a digit that has no room: no digit after it has
 pub returns-else-has_room : goal.returns-else-has_room

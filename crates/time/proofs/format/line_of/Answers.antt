@@ -21,18 +21,18 @@ wide_is c e =
 
 pub returns-then-offset : goal.returns-then-offset
 returns-then-offset c = record {
-      is = line_instant_of_wide _ (leb-true 86400 _ (wide_is c.before c.if-offset.true));
-      range = tt;
-    }
+  is = line_instant_of_wide _ (leb-true 86400 _ (wide_is c.before c.if-offset.true));
+  range = tt;
+}
 
 pub returns-in_default : goal.returns-in_default
 returns-in_default c = let t = c.args.t in record {
-      is = ap line_from (sym c.in_default.is ∙ c.instant_of-moved.ensures.value) ∙ line_instant_of_narrow t (leb-false 86400 _ (wide_is c.before.before.before.before c.if-offset.false));
-      range = tt;
-    }
+  is = ap line_from (sym c.in_default.is ∙ c.instant_of-moved.ensures.value) ∙ line_instant_of_narrow t (leb-false 86400 _ (wide_is c.before.before.before.before c.if-offset.false));
+  range = tt;
+}
 
 pub returns : goal.returns
 returns c = let t = c.args.t in record {
-      is = ap line_from (sym c.in-In.is ∙ c.instant_of-moved.ensures.value) ∙ line_instant_of_narrow t (leb-false 86400 _ (wide_is c.before.before.before.before.before c.if-offset.false));
-      range = rw c.in-In.is at c.instant_of-moved.ensures.ranges;
-    }
+  is = ap line_from (sym c.in-In.is ∙ c.instant_of-moved.ensures.value) ∙ line_instant_of_narrow t (leb-false 86400 _ (wide_is c.before.before.before.before.before c.if-offset.false));
+  range = rw c.in-In.is at c.instant_of-moved.ensures.ranges;
+}

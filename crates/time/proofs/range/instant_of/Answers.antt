@@ -47,6 +47,6 @@ returns-then-seconds_in_range-offset_in_range c =
 -- out of it
 pub returns : goal.returns
 returns c = record {
-      value = sym (moved_of-out c.args.t (seconds-test c.before) (offset-test c.before) c.if-seconds_in_range-offset_in_range.false);
-      ranges = tt;
-    }
+  value = sym (moved_of-out c.args.t (seconds-test c.before) (offset-test c.before) c.if-seconds_in_range-offset_in_range.false);
+  ranges = tt;
+}
