@@ -6,7 +6,7 @@
 #   bench    measure both sides. WORDS: --rounds N, or words of the rows to be measured
 #   sample   write a sample of gix-date's answers to the folder that WORDS names
 #
-# The library is proved and built by `rt staticlib chowderbell`, or taken from the folder that CHOWDERBELL_LIB_DIR names.
+# The library is proved and built by `tools/build.sh chowderbell`, or taken from the folder that CHOWDERBELL_LIB_DIR names.
 # Exit status: that of the program (compare: 1 if anything differs), or that of oracle.sh or rt where these fail.
 set -eu
 
@@ -25,7 +25,7 @@ features=
 if [ "$program" = sample ]; then
     features=--no-default-features
 elif [ -z "${CHOWDERBELL_LIB_DIR-}" ]; then
-    (cd "$top" && rt staticlib chowderbell)
+    (cd "$top" && tools/build.sh chowderbell)
 fi
 CARGO_TARGET_DIR=$work/cargo cargo build --quiet --release --offline --config "$work/config.toml" \
     --manifest-path "$here/Cargo.toml" $features --bin "$program"

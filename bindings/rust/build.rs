@@ -1,6 +1,6 @@
 //! Finds the proved library, `libchowderbell.a`, and has it linked.
 //!
-//! It is looked for in the folder that `CHOWDERBELL_LIB_DIR` names, and otherwise where `rt staticlib chowderbell`
+//! It is looked for in the folder that `CHOWDERBELL_LIB_DIR` names, and otherwise where `tools/build.sh chowderbell`
 //! writes it: `target/staticlib` at the top of this repository.
 
 use std::path::PathBuf;
@@ -23,7 +23,7 @@ fn main() {
     }
     if !library.is_file() {
         eprintln!("chowderbell: there is no {}", library.display());
-        eprintln!("chowderbell: make it by `rt staticlib chowderbell` at the top of the repository, or name its folder in CHOWDERBELL_LIB_DIR");
+        eprintln!("chowderbell: make it by `tools/build.sh chowderbell` at the top of the repository, or name its folder in CHOWDERBELL_LIB_DIR");
         process::exit(1);
     }
     println!("cargo:rustc-link-search=native={}", folder.display());

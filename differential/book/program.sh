@@ -9,7 +9,7 @@ set -eu
 
 here=$(cd "$(dirname "$0")" && pwd)
 program=${1-$here/../../target/bin/stamplist}
-[ -x "$program" ] || { echo "program.sh: there is no program $program; rt check stamplist builds it" >&2; exit 2; }
+[ -x "$program" ] || { echo "program.sh: there is no program $program; tools/build.sh stamplist builds it" >&2; exit 2; }
 program=$(cd "$(dirname "$program")" && pwd)/$(basename "$program")
 
 work=$(mktemp -d)

@@ -6,7 +6,7 @@
 #   bench     measure. WORDS: `list` or `compact` for one of the two tables, or words of the rows to be measured
 #   selftest  test book.py alone, by its own cases, by the laws of compacting and by vectors/. Asks for no library
 #
-# The library is proved and built by `rt staticlib chowderbell`, or taken from the folder that CHOWDERBELL_LIB_DIR names.
+# The library is proved and built by `tools/build.sh chowderbell`, or taken from the folder that CHOWDERBELL_LIB_DIR names.
 # Exit status: that of the program (compare: 1 if anything differs), or that of rt or cc where these fail.
 set -eu
 

@@ -7,7 +7,7 @@
 #   rules      our answers are those of rules.py. Asks for no library
 #   --planted  would it notice? Mistakes are planted, and each must be found
 #
-# The library is proved and built by `rt staticlib chowderbell`, or taken from the folder that CHOWDERBELL_LIB_DIR names.
+# The library is proved and built by `tools/build.sh chowderbell`, or taken from the folder that CHOWDERBELL_LIB_DIR names.
 # Exit status: 0 if all is as the page says, 1 if anything differs, or that of rt or cc where these fail.
 set -eu
 

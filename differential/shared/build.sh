@@ -20,7 +20,7 @@ export PYTHONDONTWRITEBYTECODE=1
 build() {
     library=${CHOWDERBELL_LIB_DIR:-$top/target/staticlib}
     if [ -z "${CHOWDERBELL_LIB_DIR-}" ]; then
-        (cd "$top" && rt staticlib chowderbell)
+        (cd "$top" && tools/build.sh chowderbell)
     fi
     mkdir -p "$work"
     cc -O2 -Wall -Wextra -I"$top/include" "$here/$1.c" "$library/libchowderbell.a" -o "$work/$1"

@@ -8,10 +8,10 @@ here=$(cd "$(dirname "$0")" && pwd)
 cases=0 differ=0 skipped=0
 by=
 
-# `begin NAME [FILE]` finds the program NAME, which is FILE or what rt check has built, and goes to a new folder, removed at the end.
+# `begin NAME [FILE]` finds the program NAME, which is FILE or what tools/build.sh has built, and goes to a new folder, removed at the end.
 begin() {
     program=${2-$here/../../target/bin/$1}
-    [ -x "$program" ] || { echo "${0##*/}: there is no program $program; rt check $1 builds it" >&2; exit 2; }
+    [ -x "$program" ] || { echo "${0##*/}: there is no program $program; tools/build.sh $1 builds it" >&2; exit 2; }
     program=$(cd "$(dirname "$program")" && pwd)/$(basename "$program")
     work=$(mktemp -d)
     trap 'cd /; rm -rf "$work"' EXIT

@@ -76,7 +76,7 @@ def main():
     here = os.path.dirname(os.path.abspath(__file__))
     program = sys.argv[1] if len(sys.argv) > 1 else os.path.join(here, "..", "..", "target", "bin", "monthstrip")
     if not os.access(program, os.X_OK):
-        print(f"program.py: there is no program {program}; rt check monthstrip builds it", file=sys.stderr)
+        print(f"program.py: there is no program {program}; tools/build.sh monthstrip builds it", file=sys.stderr)
         return 2
     cases = [([str(year), str(month)], page(year, month), "") for year in YEARS for month in range(1, 13)]
     cases += [(words, page(*month), "") for words, month in SPELLINGS]

@@ -6,7 +6,7 @@
 #   bench     measure, about ten seconds. WORDS: words of the rows to be measured
 #   selftest  test the sources alone, by strips worked out by hand. Asks for no library
 #
-# The library is proved and built by `rt staticlib chowderbell`, or taken from the folder that CHOWDERBELL_LIB_DIR names.
+# The library is proved and built by `tools/build.sh chowderbell`, or taken from the folder that CHOWDERBELL_LIB_DIR names.
 # A source that is not installed is skipped, with a line that says so.
 # Exit status: that of the program (compare: 1 if anything differs), or that of rt or cc where these fail.
 set -eu
