@@ -1,6 +1,5 @@
 -- `calendar::by_rule` meets its contract: the days from March are those that one pass along the cycle has tested.
 use native.Mathlib.Omega.{arith}
-use borrow.Author.Rules.{rules}
 use Rattle.calendar.proofs.Cycle.{from_march-first_day}
 use Rattle.calendar.proofs.by_rule.Goals as goal
 

@@ -3,7 +3,6 @@
 use mathlib.Core.Path.{◌≡◌, sym}
 use Prim.Native.Nat.{ℕ, ◌-◌, ◌<◌}
 use native.Mathlib.Omega.{arith}
-use borrow.Author.Rules.{rules}
 use Rattle.calendar.specs.Calendar.{first_day, IsDate}
 use Rattle.calendar.specs.Dates.{date_of}
 use Rattle.calendar.specs.declared.Date.{Date}

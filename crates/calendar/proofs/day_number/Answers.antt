@@ -1,17 +1,16 @@
 -- `calendar::day_number` meets its contract: at each return the tests that led there decide whether the date exists.
 use mathlib.Core.Path.{◌≡◌, ◌∙◌}
-use Prim.Native.Nat.{◌+◌, ◌≤◌, ◌<◌}
+use Prim.Native.Nat.{ℕ, ◌+◌, ◌≤◌, ◌<◌}
 use native.Mathlib.Omega.{arith}
-use borrow.Author.Rules.{rules}
 use borrow.Author.Tests.{le-ltb, lt-ltb, le-leb, lt-leb}
-use Rattle.calendar.specs.Calendar.{month_length}
+use Rattle.calendar.specs.Calendar.{month_length, first_day}
 use Rattle.calendar.specs.Dates.{day_number, exists, month_number}
 use Rattle.calendar.proofs.Lengths.{first_day-add-one}
 use Rattle.calendar.proofs.day_number.Goals as goal
 
 -- the month's days, from its first day to the next month's
-days : (c : goal.After-first_day) → let a = c.args in c.first_day.result ≡ c.first_day-f.result + month_length (month_number a.y a.m)
-days c = c.first_day.ensures.is ∙ first_day-add-one _ ∙ rw c.first_day-f.ensures.is
+days : {f r : ℕ} (m : ℕ) → f ≡ first_day m → r ≡ first_day (m + 1) → r ≡ f + month_length m
+days m a b = b ∙ first_day-add-one m ∙ rw a
 
 -- a year beyond 9999
 pub returns-then-y-ge-YEARS_COUNTED : goal.returns-then-y-ge-YEARS_COUNTED
@@ -51,14 +50,17 @@ returns-then-k-lt1 c = record {
 }
 
 pub overflow_sub-first_day : goal.overflow_sub-first_day
-overflow_sub-first_day c = omega (arith, days c)
+overflow_sub-first_day c =
+    let a = c.args in
+    let month_days = days (month_number a.y a.m) c.first_day-f.ensures.is c.first_day.ensures.is in omega arith
 
 -- a day beyond the month's last
 pub returns-then-first_day-f : goal.returns-then-first_day-f
 unfolding day_number exists
 returns-then-first_day-f c =
     let a = c.args in
-    let beyond : month_length (month_number a.y a.m) < a.k = omega (arith, days c.before, c.if-first_day-f.true) in record {
+    let month_days = days (month_number a.y a.m) c.first_day-f.ensures.is c.first_day.ensures.is in
+    let beyond : month_length (month_number a.y a.m) < a.k = omega (arith, c.if-first_day-f.true) in record {
       is = simp (
         lt-ltb _ _ c.if-y-ge-YEARS_COUNTED.false,
         le-leb _ _ c.if-m-lt1.false,
@@ -74,7 +76,8 @@ pub returns : goal.returns
 unfolding day_number exists
 returns c =
     let a = c.args in
-    let within : a.k ≤ month_length (month_number a.y a.m) = omega (arith, days c.before, c.if-first_day-f.false) in record {
+    let month_days = days (month_number a.y a.m) c.first_day-f.ensures.is c.first_day.ensures.is in
+    let within : a.k ≤ month_length (month_number a.y a.m) = omega (arith, c.if-first_day-f.false) in record {
       is = simp (
         lt-ltb _ _ c.if-y-ge-YEARS_COUNTED.false,
         le-leb _ _ c.if-m-lt1.false,
@@ -83,5 +86,5 @@ returns c =
         le-leb _ _ within,
         c.first_day-f.ensures.is,
       );
-      range = omega (arith, days c.before, c.first_day.ensures.range);
+      range = omega (arith, c.first_day.ensures.range);
     }

@@ -1,7 +1,6 @@
 -- `calendar::day_of` meets its contract: a day of a month lies before the next month's first day, and so in range.
 use Prim.Native.Nat.{suc}
 use native.Mathlib.Omega.{arith}
-use borrow.Author.Rules.{rules}
 use Rattle.calendar.proofs.Lengths.{first_day-suc, month_length-le}
 use Rattle.calendar.proofs.Cycle.{first_day_in_range}
 use Rattle.calendar.proofs.day_of.Goals as goal

@@ -2,7 +2,6 @@
 use mathlib.Core.Path.{◌≡◌, ◌∙◌}
 use Prim.Native.Nat.{◌+◌}
 use native.Mathlib.Omega.{arith}
-use borrow.Author.Rules.{rules}
 use Rattle.calendar.specs.Calendar.{first_day, month_length}
 use Rattle.calendar.proofs.Lengths.{first_day-add-one, month_length-ge, month_length-le}
 use Rattle.calendar.proofs.month_length.Goals as goal

@@ -1,7 +1,6 @@
 -- `calendar::months_back` meets its contract: the date at hand is the day's one date, and its month and day are the definition's.
 use mathlib.Core.Path.{sym}
 use native.Mathlib.Omega.{arith}
-use borrow.Author.Rules.{rules}
 use Rattle.calendar.proofs.Dates.{IsDate_of_date_of}
 use Rattle.calendar.proofs.Back.{back_of_of_IsDate, back_of_of_lt, back-le}
 use Rattle.calendar.proofs.months_back.Goals as goal
