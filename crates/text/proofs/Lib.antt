@@ -1,5 +1,5 @@
 -- Laws. In order: lists at a place that a loop has reached; runs of bytes and places; the first place of a byte; taking words; a
--- walker's words, and what a walker owns; lines and fields; numbers; digits; trimming; plain decimal; bytes written in front of a
+-- walker's words; lines and fields; numbers; digits; trimming; plain decimal; bytes written in front of a
 -- place, and one part behind the other; texts whose bytes are known; ASCII texts and plain bytes; signed decimals; numbers as they were before any was called
 -- too large; letter case; examples of the rules.
 pub mod Lists
@@ -7,7 +7,6 @@ pub mod Runs
 pub mod FirstPlaces
 pub mod Taking
 pub mod Walking
-pub mod Held
 pub mod Lines
 pub mod Numbers
 pub mod Digits

@@ -2,7 +2,7 @@
 -- before it; parts of a list; texts of two lengths; places past the end.
 -- Assumes nothing.
 use mathlib.Core.Path.{◌≡◌, refl, sym, ap, ◌∙◌}
-use mathlib.Core.Bool.{Bool, true, false, ◌&&◌, false≢true, and_false}
+use mathlib.Core.Bool.{Bool, true, false, ◌&&◌, false≢true, and-false}
 use mathlib.Core.List.{List, [], ◌∷◌, ◌++◌}
 use Prim.Native.Nat.{ℕ, zero, suc, ◌+◌, ◌-◌, ◌≤◌, ◌<◌}
 use native.Mathlib.Numerals.{add-one}
@@ -62,14 +62,14 @@ unfolding same
 same_of_length [] [] h = absurd (h refl)
 same_of_length [] (y ∷ t) h = refl
 same_of_length (x ∷ s) [] h = refl
-same_of_length (x ∷ s) (y ∷ t) h = rw (same_of_length s t (λ e. h (ap suc e)), and_false)
+same_of_length (x ∷ s) (y ∷ t) h = rw (same_of_length s t (λ e. h (ap suc e)), and-false)
 
 pub same_letters_of_length : (s t : List ℕ) → (length s ≡ length t → ⊥) → same_letters s t ≡ false
 unfolding same_letters
 same_letters_of_length [] [] h = absurd (h refl)
 same_letters_of_length [] (y ∷ t) h = refl
 same_letters_of_length (x ∷ s) [] h = refl
-same_letters_of_length (x ∷ s) (y ∷ t) h = rw (same_letters_of_length s t (λ e. h (ap suc e)), and_false)
+same_letters_of_length (x ∷ s) (y ∷ t) h = rw (same_letters_of_length s t (λ e. h (ap suc e)), and-false)
 
 pub length_of_same : (s t : List ℕ) → same_letters s t ≡ true → length s ≡ length t
 length_of_same s t e =

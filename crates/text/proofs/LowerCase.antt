@@ -4,7 +4,7 @@
 use mathlib.Core.Path.{◌≡◌, refl, sym, ap, ◌∙◌}
 use mathlib.Core.Bool.{true, false≢true}
 use mathlib.Core.List.{List, [], ◌∷◌, ◌++◌, reverse, reverse-cons}
-use Prim.Native.Nat.{ℕ, zero, suc, ◌+◌, ◌≤◌, ◌<◌}
+use Prim.Native.Nat.{ℕ, zero, suc, ◌+◌, ◌-◌, ◌*◌, ◌≤◌, ◌<◌}
 use native.Mathlib.Omega.{arith}
 use borrow.Author.Tests.{leb-true, le-leb, lt-leb, lt-ltb, ne_eqb, eqb-true}
 use lib.Dec.{leb, ltb, eqb}
@@ -147,7 +147,7 @@ unfolding read_from
 read_from-lowers v [] = refl
 read_from-lowers v (b ∷ s) =
     by_test (is_digit b)
-    (λ e. rw (is_digit-lower_of b, e, lower_of-digit b e) (read_from-lowers _ s))
+    (λ e. rw (is_digit-lower_of b, e, lower_of-digit b e) (read_from-lowers (10 * v + (b - 48)) s))
     (λ e. rw (is_digit-lower_of b, e))
 
 pub digits_of-lowers : (w : List ℕ) → digits_of (lowers w) ≡ digits_of w

@@ -2,7 +2,7 @@
 -- ASCII; a byte that a text does not hold; in an ASCII text without `:`, the plain bytes are those that are not white space.
 -- Assumes nothing.
 use mathlib.Core.Path.{◌≡◌, refl, ap, ◌∙◌}
-use mathlib.Core.Bool.{true, false, not, ◌&&◌, and_false}
+use mathlib.Core.Bool.{true, false, not, ◌&&◌, and-false}
 use mathlib.Core.List.{List, [], ◌∷◌, ◌++◌}
 use Prim.Native.Nat.{ℕ, zero, suc, ◌+◌, ◌≤◌, ◌<◌}
 use native.Mathlib.Omega.{arith}
@@ -20,7 +20,7 @@ use Rattle.text.proofs.Texts.{not_has_of_cons}
 -- ---- which bytes are not white space
 pub is_space_of_lt : (b : ℕ) → 32 < b → is_space b ≡ false
 unfolding is_space
-is_space_of_lt b h = rw (lt-leb b 13 (omega arith), and_false (leb 9 b), ne_eqb b 32 (λ e. omega arith))
+is_space_of_lt b h = rw (lt-leb b 13 (omega arith), and-false (leb 9 b), ne_eqb b 32 (λ e. omega arith))
 
 sign_between : (b : ℕ) → is_sign b ≡ true → (33 ≤ b) × (b ≤ 57)
 unfolding is_sign

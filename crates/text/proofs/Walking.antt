@@ -54,17 +54,17 @@ module _ (p : ℕ → Bool) where
       (λ e. rw (e, words-take_word p s at Nothing (sym e)))
 
 -- ---- the word with n words before it
-get_d_drop : (ws : List (List ℕ)) (n : ℕ) → get_or (drop n ws) 0 [] ≡ get_or ws n []
-get_d_drop ws zero = refl
-get_d_drop [] (suc n) = refl
-get_d_drop (w ∷ ws) (suc n) = get_d_drop ws n
+get_or-drop : (ws : List (List ℕ)) (n : ℕ) → get_or (drop n ws) 0 [] ≡ get_or ws n []
+get_or-drop ws zero = refl
+get_or-drop [] (suc n) = refl
+get_or-drop (w ∷ ws) (suc n) = get_or-drop ws n
 
 -- the word with n words before it is the first word of what is left past n words
-pub get_d_words : (p : ℕ → Bool) (n : ℕ) (s left : List ℕ) (at : ℕ) (t : Taken) → left ≡ drop (passed p n s 0) s → at ≡ 0 → t ≡ take_word p left at → get_or (words p s) n [] ≡ get_or (listed p left t) 0 []
-get_d_words p n s left at t l a e =
+pub get_or-words : (p : ℕ → Bool) (n : ℕ) (s left : List ℕ) (at : ℕ) (t : Taken) → left ≡ drop (passed p n s 0) s → at ≡ 0 → t ≡ take_word p left at → get_or (words p s) n [] ≡ get_or (listed p left t) 0 []
+get_or-words p n s left at t l a e =
     let first : words p left ≡ listed p left t = words-take_word p left 0 t (rw a at e) in
     let rest : words p left ≡ drop n (words p s) = rw l (words-drop-passed p n s 0) in
-    sym (get_d_drop (words p s) n) ∙ ap (λ (ws : List (List ℕ)). get_or ws 0 []) (sym rest ∙ first)
+    sym (get_or-drop (words p s) n) ∙ ap (λ (ws : List (List ℕ)). get_or ws 0 []) (sym rest ∙ first)
 
 -- ---- the promise
 module _ (by : Separator) where

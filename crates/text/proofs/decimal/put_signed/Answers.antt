@@ -11,36 +11,33 @@ use Rattle.text.proofs.Signed.{length-decimal-le-signed, length-signed_of_lt, pu
 use borrow.Author.Rules.{rules}
 use Rattle.text.proofs.decimal.put_signed.Goals as goal
 
-magnitude-is : (c : goal.After-magnitude) → c.magnitude.result ≡ nat_abs c.args.z
-magnitude-is c = c.magnitude.ensures ∙ ap nat_abs (param w64 c.ranges.z).is
-
-digits : (c : goal.After-magnitude) → length (decimal c.magnitude.result) ≡ length (decimal (nat_abs c.args.z))
-digits c = ap (λ (m : ℕ). length (decimal m)) (magnitude-is c)
-
--- for a negative number a place is left for the minus
-left : (c : goal.Then-z-lt0) → 0 < c.put_decimal-at.result
-left c =
-    let e = length-signed_of_lt c.args.z (lt_yes (param w64 c.ranges.z) (lit (pos 0)) c.if-z-lt0.true) in
-    omega (arith, e, digits c.before.before.before.before.before, c.requires.0, c.put_decimal-at.ensures.value)
-
 pub put_decimal-at-requires : goal.put_decimal-at-requires
 put_decimal-at-requires c =
-    (omega (arith, digits c.before, c.requires.0, length-decimal-le-signed c.args.z), search rules)
+    let m = c.magnitude.ensures ∙ ap nat_abs (param w64 c.ranges.z).is in
+    (omega (arith, ap (λ (m : ℕ). length (decimal m)) m, c.requires.0, length-decimal-le-signed c.args.z), search rules)
 
+-- for a negative number a place is left for the minus
 pub put_byte-requires : goal.put_byte-requires
 put_byte-requires c =
+    let m = c.magnitude.ensures ∙ ap nat_abs (param w64 c.ranges.z).is in
+    let e = length-signed_of_lt c.args.z (lt_yes (param w64 c.ranges.z) (lit (pos 0)) c.if-z-lt0.true) in
     let h : c.put_decimal-at.result ≤ length c.args.room.now = omega (arith, c.requires.1, c.put_decimal-at.ensures.value) in
-    (left c.before, search rules)
+    (omega (arith, e, ap (λ (m : ℕ). length (decimal m)) m, c.requires.0, c.put_decimal-at.ensures.value), search rules)
+
+pub overflow_sub-result : goal.overflow_sub-result
+overflow_sub-result c =
+    let m = c.magnitude.ensures ∙ ap nat_abs (param w64 c.ranges.z).is in
+    let e = length-signed_of_lt c.args.z (lt_yes (param w64 c.ranges.z) (lit (pos 0)) c.if-z-lt0.true) in
+    omega (arith, e, ap (λ (m : ℕ). length (decimal m)) m, c.requires.0, c.put_decimal-at.ensures.value)
 
 pub returns-then-z-lt0 : goal.returns-then-z-lt0
 returns-then-z-lt0 c =
-    let all = put_signed_of_lt c.args.room.now c.args.z _ c.args.end _ _ (magnitude-is c.before.before.before.before.before.before.before.before.before) c.put_decimal-at.ensures.value c.put_decimal-at.ensures.room_after
+    let m = c.magnitude.ensures ∙ ap nat_abs (param w64 c.ranges.z).is in
+    let all = put_signed_of_lt c.args.room.now c.args.z _ c.args.end _ _ m c.put_decimal-at.ensures.value c.put_decimal-at.ensures.room_after
     _ (lt_yes (param w64 c.ranges.z) (lit (pos 0)) c.if-z-lt0.true) c.requires.0 c.requires.1 c.put_byte.ensures in record { value = all.0; room_after = all.1 }
 
 pub returns : goal.returns
 returns c =
-    let all = put_signed_of_le c.args.room.now c.args.z _ c.args.end _ _ (magnitude-is c.before.before.before.before.before) c.put_decimal-at.ensures.value c.put_decimal-at.ensures.room_after
+    let m = c.magnitude.ensures ∙ ap nat_abs (param w64 c.ranges.z).is in
+    let all = put_signed_of_le c.args.room.now c.args.z _ c.args.end _ _ m c.put_decimal-at.ensures.value c.put_decimal-at.ensures.room_after
     (lt_no (param w64 c.ranges.z) (lit (pos 0)) c.if-z-lt0.false) in record { value = all.0; room_after = all.1 }
-
-pub overflow_sub-result : goal.overflow_sub-result
-overflow_sub-result c = left c.before.before.before.before

@@ -11,16 +11,15 @@ use Rattle.text.proofs.Signed.{length-signed_of_lt, length-signed_of_le, length_
 use borrow.Author.Rules.{rules}
 use Rattle.text.proofs.decimal.signed_width.Goals as goal
 
-counted : (c : goal.After-count_digits-n) → c.count_digits-n.result ≡ length (decimal (nat_abs c.args.z))
-counted c = c.count_digits-n.ensures.0 ∙ ap (λ (m : ℕ). length (decimal m)) (c.magnitude.ensures ∙ ap nat_abs (param w64 c.ranges.z).is)
-
 pub returns-then-z-lt0 : goal.returns-then-z-lt0
 returns-then-z-lt0 c =
+    let n = c.count_digits-n.ensures.0 ∙ ap (λ (m : ℕ). length (decimal m)) (c.magnitude.ensures ∙ ap nat_abs (param w64 c.ranges.z).is) in
     let e = length-signed_of_lt c.args.z (lt_yes (param w64 c.ranges.z) (lit (pos 0)) c.if-z-lt0.true) in
     let most = length_signed_le c.args.z (nat_abs-le_of_SFits c.args.z c.ranges.z) in
-    (omega (arith, e, counted c.before), omega arith, omega (arith, e, most, counted c.before))
+    (omega (arith, e, n), omega arith, omega (arith, e, most, n))
 
 pub returns : goal.returns
 returns c =
+    let n = c.count_digits-n.ensures.0 ∙ ap (λ (m : ℕ). length (decimal m)) (c.magnitude.ensures ∙ ap nat_abs (param w64 c.ranges.z).is) in
     let e = length-signed_of_le c.args.z (lt_no (param w64 c.ranges.z) (lit (pos 0)) c.if-z-lt0.false) in
-    (omega (arith, e, counted c.before), c.count_digits-n.ensures.1, c.count_digits-n.ensures.2)
+    (omega (arith, e, n), c.count_digits-n.ensures.1, c.count_digits-n.ensures.2)

@@ -34,18 +34,6 @@ module _ (s : List ℕ) (from limit v i : ℕ) (on : On s from limit v i) where
   over : limit < v → fitted limit (digits_of (leading is_digit (drop from s))) ≡ TooLarge
   over h = fitted-digits_of_of_TooLarge _ limit (on ∙ fitted-read_from_of_lt _ limit v h)
 
--- at a digit
-more : (c : goal.After-as_u64-d)
-    → let a = c.args in
-    On a.s.now a.from a.limit (10 * c.loop-i.v + c.as_u64-d.result) (c.loop-i.i + 1)
-more c =
-    let a = c.args in
-    step a.s.now a.from _ _ _ c.loop-i.invariant.2 _ c.loop-i-test.true (sym c.is_digit.ensures ∙ c.if-is_digit.true) c.as_u64-d.ensures
-
-room : (c : goal.Then-has_room)
-    → 10 * c.loop-i.v + c.as_u64-d.result ≤ c.args.limit
-room c = leb-true _ _ (sym c.has_room.ensures ∙ c.if-has_room.true)
-
 pub overflow_sub-b : goal.overflow_sub-b
 overflow_sub-b c = omega (arith, digit_range _ (sym c.is_digit.ensures ∙ c.if-is_digit.true))
 
@@ -53,23 +41,26 @@ pub has_room-requires : goal.has_room-requires
 has_room-requires c = omega (arith, c.as_u64-d.ensures, digit_range _ (sym c.is_digit.ensures ∙ c.if-is_digit.true))
 
 pub overflow_mul-v : goal.overflow_mul-v
-overflow_mul-v c = omega (arith, room c)
+overflow_mul-v c = omega (arith, leb-true _ _ (sym c.has_room.ensures ∙ c.if-has_room.true))
 
 pub overflow_add-v : goal.overflow_add-v
-overflow_add-v c = omega (arith, room c)
+overflow_add-v c = omega (arith, leb-true _ _ (sym c.has_room.ensures ∙ c.if-has_room.true))
 
 pub loop-i-preserved : goal.loop-i-preserved
-loop-i-preserved c = (
-  room c,
-  c.loop-i.invariant.1 ∙ past_of-true _ _ _ c.loop-i-test.true (sym c.is_digit.ensures ∙ c.if-is_digit.true),
-  more c.before.before,
-)
+loop-i-preserved c =
+    let a = c.args in (
+      leb-true _ _ (sym c.has_room.ensures ∙ c.if-has_room.true),
+      c.loop-i.invariant.1 ∙ past_of-true _ _ _ c.loop-i-test.true (sym c.is_digit.ensures ∙ c.if-is_digit.true),
+      step a.s.now a.from _ _ _ c.loop-i.invariant.2 _ c.loop-i-test.true (sym c.is_digit.ensures ∙ c.if-is_digit.true) c.as_u64-d.ensures,
+    )
 
 -- a digit that has no room: no digit after it has
 pub returns-else-has_room : goal.returns-else-has_room
 returns-else-has_room c =
-    let a = c.args in record {
-      number_value = sym (over a.s.now a.from _ _ (c.loop-i.i + 1) (more c.before.before.before) (leb-false _ _ (sym c.has_room.ensures ∙ c.if-has_room.false)));
+    let a = c.args in
+    let more = step a.s.now a.from a.limit c.loop-i.v c.loop-i.i c.loop-i.invariant.2 c.as_u64-d.result c.loop-i-test.true
+        (sym c.is_digit.ensures ∙ c.if-is_digit.true) c.as_u64-d.ensures in record {
+      number_value = sym (over a.s.now a.from _ _ (c.loop-i.i + 1) more (leb-false _ _ (sym c.has_room.ensures ∙ c.if-has_room.false)));
       end_value = c.past-end.ensures ∙ sym c.loop-i.invariant.1;
     }
 

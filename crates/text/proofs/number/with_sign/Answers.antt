@@ -10,20 +10,19 @@ use Rattle.text.proofs.Numbers.{fitted_signed-plus, fitted_signed-minus}
 use borrow.Author.Rules.{rules, sfits_of}
 use Rattle.text.proofs.number.with_sign.Goals as goal
 
--- the value is at most half
-at_most : (c : goal.In-Value) → c.in-Value.v ≤ c.args.half
-at_most c = rw c.in-Value.is at c.requires.0
-
 pub minus_i64-requires : goal.minus_i64-requires
-minus_i64-requires c = omega (arith, at_most c.before, c.requires.2)
+minus_i64-requires c =
+    let at_most : c.in-Value.v ≤ c.args.half = rw c.in-Value.is at c.requires.0 in
+    omega (arith, at_most, c.requires.2)
 
 pub returns-then-negative : goal.returns-then-negative
 returns-then-negative c =
+    let at_most : c.in-Value.v ≤ c.args.half = rw c.in-Value.is at c.requires.0 in
     rw (
       c.in-Value.is,
       c.if-negative.true,
       fitted_signed-minus c.args.half c.in-Value.v c.requires.1,
-      le-leb _ _ (at_most c.before.before),
+      le-leb _ _ at_most,
       to_z-of_z {w = w64} {z = c.minus_i64.result} (sfits_of c.minus_i64.type_inv),
     ) (ap Is c.minus_i64.ensures)
 

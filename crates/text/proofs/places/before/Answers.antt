@@ -5,7 +5,7 @@ use borrow.Author.Rules.{rules}
 use Rattle.text.proofs.places.before.Goals as goal
 
 pub slice_bounds-result-end : goal.slice_bounds-result-end
-slice_bounds-result-end c = sym (length-take-le _ _ c.first-place.ensures.1)
+slice_bounds-result-end c = sym (length-take-le _ _ c.first_place-i.ensures.1)
 
 pub returns : goal.returns
-returns c = rw c.first-place.ensures.0
+returns c = rw c.first_place-i.ensures.0

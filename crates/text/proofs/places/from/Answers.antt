@@ -6,7 +6,7 @@ use Rattle.text.proofs.places.from.Goals as goal
 
 -- past the end: empty
 pub returns-then-s-at : goal.returns-then-s-at
-returns-then-s-at c = rw (drop_of_length-le _ c.if1.true)
+returns-then-s-at c = rw (drop_of_length-le _ c.if-s-at.true)
 
 pub returns : goal.returns
 returns c =

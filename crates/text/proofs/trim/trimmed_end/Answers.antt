@@ -20,15 +20,15 @@ loop-e-preserved c =
     (search rules, rw (take_snoc _ _ some c.loop-e.invariant.0, trim_end-snoc, ← c.is_space.ensures, c.if-is_space.true) at c.loop-e.invariant.1)
 
 pub slice_bounds-result-end : goal.slice_bounds-result-end
-slice_bounds-result-end c = sym (length-take-le _ _ c.loop.invariant.0)
+slice_bounds-result-end c = sym (length-take-le _ _ c.loop-e.invariant.0)
 
 pub returns-else-is_space : goal.returns-else-is_space
 returns-else-is_space c =
-    let some : 0 < c.loop.e = omega arith in
-    rw (c.loop.invariant.1, take_snoc _ _ some c.loop.invariant.0, trim_end-snoc, ← c.is-space.ensures, c.if1.false)
+    let some : 0 < c.loop-e.e = omega arith in
+    rw (c.loop-e.invariant.1, take_snoc _ _ some c.loop-e.invariant.0, trim_end-snoc, ← c.is_space.ensures, c.if-is_space.false)
 
 pub returns : goal.returns
 unfolding trim_end trim_start
 returns c =
-    let z : c.loop.e ≡ 0 = omega arith in
-    rw (c.loop.invariant.1, z)
+    let z : c.loop-e.e ≡ 0 = omega arith in
+    rw (c.loop-e.invariant.1, z)

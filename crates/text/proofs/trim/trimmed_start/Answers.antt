@@ -15,8 +15,11 @@ use Rattle.text.proofs.trim.trimmed_start.Goals as goal
 within : (s : List ℕ) {i : ℕ} → i ≡ past is_space s 0 → i ≤ length s
 within s e = rw e (past-le-length is_space s 0 (omega arith))
 
+pub slice_bounds-result-start : goal.slice_bounds-result-start
+slice_bounds-result-start c = within c.args.s.now c.past-i.ensures
+
 pub slice_bounds-result-count : goal.slice_bounds-result-count
-slice_bounds-result-count c = omega (arith, within c.args.s.now c.past-i.ensures)
+slice_bounds-result-count c = within c.args.s.now c.past-i.ensures
 
 pub returns : goal.returns
 returns c = rw (take-length-sub-drop _ _, c.past-i.ensures, trim_start-past)

@@ -1,14 +1,14 @@
 -- `text::walker::nth_word` meets its contract.
-use Rattle.text.proofs.Walking.{get_d_words}
+use Rattle.text.proofs.Walking.{get_or-words}
 use borrow.Author.Rules.{rules}
 use Rattle.text.proofs.walker.nth_word.Goals as goal
 
 -- no word is left past n words
 pub returns-in_default : goal.returns-in_default
 returns-in_default c =
-    rw (get_d_words _ _ _ _ _ _ c.after-words.ensures c.new.ensures c.take.ensures, c.in_default.is)
+    rw (get_or-words _ _ _ _ _ _ c.after_words-rest.ensures c.new.ensures c.take-t.ensures, c.in_default.is)
 
 -- the first word past them
 pub returns : goal.returns
 returns c =
-    rw (c.within.ensures, get_d_words _ _ _ _ _ _ c.after_words-rest.ensures c.new.ensures c.take-t.ensures, c.in-Word.is)
+    rw (c.within.ensures, get_or-words _ _ _ _ _ _ c.after_words-rest.ensures c.new.ensures c.take-t.ensures, c.in-Word.is)

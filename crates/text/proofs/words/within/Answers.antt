@@ -14,7 +14,7 @@ returns-then-e-a c =
     let z : p.end - p.start ≡ 0 = omega arith in rw z
 
 pub returns-then-s-a : goal.returns-then-s-a
-returns-then-s-a c = rw (drop_of_length-le _ c.if2.true, take-nil)
+returns-then-s-a c = rw (drop_of_length-le _ c.if-s-a.true, take-nil)
 
 pub returns-then-s-e : goal.returns-then-s-e
 returns-then-s-e c =
