@@ -26,9 +26,17 @@ overflow_sub-result-then-d-f c = omega (arith, (IsDate-estimate_pred c.args.d (o
 
 pub returns-then-d-f : goal.returns-then-d-f
 returns-then-d-f c =
-    let all = made c.first_day-p.ensures.is (IsDate-estimate_pred c.args.d (omega arith)) (omega arith) in record { is = all.0; months = all.1.0; days = all.1.1 }
+    let all = made c.first_day-p.ensures.is (IsDate-estimate_pred c.args.d (omega arith)) (omega arith) in record {
+      is = all.0;
+      months = all.1.0;
+      days = all.1.1;
+    }
 
 -- the month that was estimated has begun
 pub returns-else-d-f : goal.returns-else-d-f
 returns-else-d-f c =
-    let all = made c.first_day-f.ensures.is (IsDate-estimate c.args.d (omega arith)) (omega arith) in record { is = all.0; months = all.1.0; days = all.1.1 }
+    let all = made c.first_day-f.ensures.is (IsDate-estimate c.args.d (omega arith)) (omega arith) in record {
+      is = all.0;
+      months = all.1.0;
+      days = all.1.1;
+    }

@@ -10,4 +10,6 @@ overflow_add-result c = omega (arith, month_length-le c.args.x.month)
 
 pub returns : goal.returns
 returns c =
-    let m = c.args.x.month in record { is = omega (arith, c.first_day.ensures.is, first_day-suc m, first_day_in_range (suc m) c.requires.month); range = omega (arith, c.first_day.ensures.is, first_day-suc m, first_day_in_range (suc m) c.requires.month) }
+    let m = c.args.x.month in
+    let next = first_day-suc m in
+    let in_range = first_day_in_range (suc m) c.requires.month in record { is = omega arith; range = omega arith }

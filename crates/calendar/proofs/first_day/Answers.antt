@@ -5,7 +5,10 @@ use Rattle.calendar.proofs.first_day.Goals as goal
 
 pub returns : goal.returns
 returns c =
-    let m = c.args.m in record { is = omega (arith, c.first_day_in_cycle.ensures, first_day_by_cycle m, first_day_in_range m c.requires.month); range = omega (arith, c.first_day_in_cycle.ensures, first_day_by_cycle m, first_day_in_range m c.requires.month) }
+    let by_cycle = first_day_by_cycle c.args.m in
+    let in_range = first_day_in_range c.args.m c.requires.month in record { is = omega arith; range = omega arith }
 
 pub overflow_add-result : goal.overflow_add-result
-overflow_add-result c = omega (arith, (returns c).range)
+overflow_add-result c =
+    let by_cycle = first_day_by_cycle c.args.m in
+    let in_range = first_day_in_range c.args.m c.requires.month in omega arith

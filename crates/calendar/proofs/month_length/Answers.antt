@@ -6,13 +6,17 @@ use Rattle.calendar.specs.Calendar.{first_day, month_length}
 use Rattle.calendar.proofs.Lengths.{first_day-add-one, month_length-ge, month_length-le}
 use Rattle.calendar.proofs.month_length.Goals as goal
 
--- the first day of the next month
-next : (c : goal.After-first_day-2) → let m = c.args.m in c.first_day.result ≡ first_day m + month_length m
-next c = c.first_day.ensures.is ∙ first_day-add-one _
-
 pub overflow_sub-result : goal.overflow_sub-result
-overflow_sub-result c = omega (arith, next c)
+overflow_sub-result c =
+    let next = first_day-add-one c.args.m in omega arith
 
 pub returns : goal.returns
 returns c =
-    let m = c.args.m in record { is = omega (arith, next c, c.first_day-2.ensures.is, month_length-ge m, month_length-le m); least = omega (arith, next c, c.first_day-2.ensures.is, month_length-ge m, month_length-le m); most = omega (arith, next c, c.first_day-2.ensures.is, month_length-ge m, month_length-le m) }
+    let m = c.args.m in
+    let next = first_day-add-one m in
+    let least = month_length-ge m in
+    let most = month_length-le m in record {
+      is = omega arith;
+      least = omega arith;
+      most = omega arith;
+    }
