@@ -5,7 +5,7 @@
 -- line of the time that it shows is the same line.
 -- Assumes nothing.
 use mathlib.Core.Path.{◌≡◌, refl, sym, ap, ◌∙◌}
-use mathlib.Core.Bool.{true, false, and_false}
+use mathlib.Core.Bool.{true, false, and-false}
 use mathlib.Core.List.{List}
 use Prim.Native.Nat.{ℕ, ◌+◌, ◌-◌, ◌/◌, ◌%◌, ◌^◌, ◌≤◌, ◌<◌}
 use native.Mathlib.Omega.{arith}
@@ -97,7 +97,7 @@ minus-zero-written z = refl
 -- beside any other offset the mark is ignored
 pub mark_ignored : (t : Time) → eq_z t.offset (pos 0) ≡ false → header_bytes t ≡ header_bytes (unmarked t)
 unfolding header_bytes header_sign
-mark_ignored t e = rw (e, and_false t.mark)
+mark_ignored t e = rw (e, and-false t.mark)
 
 -- answer and length do not depend on it, nor does the ISO line
 pub mark_leaves_the_answer : (t : Time) (room : List ℕ) → header_written t room ≡ header_written (unmarked t) room

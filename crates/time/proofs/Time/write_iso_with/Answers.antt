@@ -1,50 +1,55 @@
 -- `time::Time::write_iso_with` meets its contract: it writes the line of the time that is shown.
 use mathlib.Core.Path.{◌≡◌, sym, ap, ◌∙◌}
 use native.Mathlib.Omega.{arith}
-use lib.IntN.{nat_abs}
+use lib.IntN.{ℤ, nat_abs}
 use mir.Syntax.{w32, w64}
-use mir.Val.{to_z, of_z}
-use Rattle.ints.proofs.Machine.{back}
+use mir.Val.{SFits, to_z, of_z}
+use mir.ValLaws.{to_z-of_z}
 use Rattle.time.specs.Answers.{time_at}
 use Rattle.time.specs.Header.{cut_to_minutes}
 use Rattle.time.specs.Iso.{line_instant, shown, iso_bytes, iso_written}
+use Rattle.time.specs.declared.Time.{Time}
+use Rattle.time.specs.declared.format.Line.{Line}
 use Rattle.time.proofs.Isos.{HasLine_of_At, wrote_line-not, wrote_line-At}
-use borrow.Author.Rules.{rules}
 use Rattle.time.proofs.Time.write_iso_with.Goals as goal
 
 -- the cut offset, read back
-cut-is : (c : goal.After-cut_to_minutes-shown) → to_z w32 (of_z w32 c.cut_to_minutes-shown.result) ≡ cut_to_minutes c.args.self.offset
-cut-is c =
-    back w32 c.cut_to_minutes-shown.result c.cut_to_minutes-shown.type_inv
-    ∙ c.cut_to_minutes-shown.ensures
-    ∙ ap cut_to_minutes (back w32 c.args.self.offset c.struct_told-1.given.1.1.0.1)
+cut-is : (o : ℤ) {z : ℤ} → SFits w32 o → SFits w32 z → z ≡ cut_to_minutes (to_z w32 (of_z w32 o)) → to_z w32 (of_z w32 z) ≡ cut_to_minutes o
+cut-is o {z} f g e = to_z-of_z w32 z g ∙ e ∙ ap cut_to_minutes (to_z-of_z w32 o f)
 
 -- the line of the time that is shown
-line_is : (c : goal.After-line_of-line) → c.Line-of.result ≡ line_instant (shown c.args.self)
+line_is : (t u : Time) {o : ℤ} {r : Line} → SFits w64 t.seconds → u ≡ time_at (to_z w64 (of_z w64 t.seconds)) o
+    → o ≡ cut_to_minutes t.offset → r ≡ line_instant u → r ≡ line_instant (shown t)
 unfolding shown
-line_is c =
-    let t = c.args.self in
-    let s = back w64 t.seconds c.struct_told-2-1.given.0.1 in
-    c.Line-of.ensures.0
-    ∙ ap line_instant (c.new.ensures ∙ (λ j. time_at (s j) (cut-is c.before.before.before j)))
+line_is t u f e p q = q ∙ ap line_instant (e ∙ (λ j. time_at (to_z-of_z w64 t.seconds f j) (p j)))
 
 pub write_instant-requires : goal.write_instant-requires
 unfolding shown
 write_instant-requires c =
-    let e = sym (line_is c.before.before.before.before) ∙ c.in-At.is in
-    let narrow = (HasLine_of_At (shown c.args.self) _ e).narrow in record {
+    let t = c.args.self in
+    let o = cut-is t.offset (record { sfits = omega arith }) (record { sfits = omega arith }) c.cut_to_minutes-shown.ensures in
+    let e = sym (line_is t c.new.result (record { sfits = omega arith }) c.new.ensures o c.line_of-line.ensures.is) ∙ c.in-At.is in
+    let narrow = (HasLine_of_At (shown t) _ e).narrow in record {
       table = c.requires;
-      range = rw c.in-At.is at c.Line-of.ensures.1;
-      offset = omega (arith, ap nat_abs (cut-is c.before.before.before.before.before.before.before), narrow);
+      range = rw c.in-At.is at c.line_of-line.ensures.range;
+      offset = omega (arith, ap nat_abs o, narrow);
     }
 
 pub returns-in-At : goal.returns-in-At
 unfolding shown iso_bytes iso_written
 returns-in-At c =
-    let e = sym (line_is c.before.before.before.before.before.before.before) ∙ c.in-At.is in
-    let all = wrote_line-At (shown c.args.self) _ _ c.args.room.now _ _ e (cut-is c.before.before.before.before.before.before.before.before.before.before) c.write_instant.ensures in record { value = all.0; room_after = all.1 }
+    let t = c.args.self in
+    let o = cut-is t.offset (record { sfits = omega arith }) (record { sfits = omega arith }) c.cut_to_minutes-shown.ensures in
+    let e = sym (line_is t c.new.result (record { sfits = omega arith }) c.new.ensures o c.line_of-line.ensures.is) ∙ c.in-At.is in
+    let w = c.write_instant.ensures in
+    let all = wrote_line-At (shown t) _ _ c.args.room.now _ _ e o (w.value, w.room_after) in
+    record { value = all.0; room_after = all.1 }
 
 pub returns-in-Refused : goal.returns-in-Refused
 unfolding iso_bytes iso_written
 returns-in-Refused c =
-    let all = wrote_line-not (shown c.args.self) _ c.args.room.now (sym (line_is c.before.before.before) ∙ c.in-Refused.is) in record { value = all.0; room_after = all.1 }
+    let t = c.args.self in
+    let o = cut-is t.offset (record { sfits = omega arith }) (record { sfits = omega arith }) c.cut_to_minutes-shown.ensures in
+    let e = sym (line_is t c.new.result (record { sfits = omega arith }) c.new.ensures o c.line_of-line.ensures.is) ∙ c.in-Refused.is in
+    let all = wrote_line-not (shown t) _ c.args.room.now e in
+    record { value = all.0; room_after = all.1 }

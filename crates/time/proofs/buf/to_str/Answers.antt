@@ -1,7 +1,6 @@
 -- `time::buf::to_str` meets its contract.
 use mathlib.Core.Path.{sym, ◌∙◌}
 use Rattle.time.proofs.Bufs.{stored_of_of_length, stored_of_of_refused}
-use borrow.Author.Rules.{rules}
 use Rattle.time.proofs.buf.to_str.Goals as goal
 
 pub returns-in-Length : goal.returns-in-Length

@@ -1,7 +1,6 @@
 -- `time::buf::widest` meets its contract.
 use mathlib.Core.Path.{◌∙◌}
 use Rattle.time.proofs.Theorems.{size_of_the_least}
-use borrow.Author.Rules.{rules}
 use Rattle.time.proofs.buf.widest.Goals as goal
 
 pub returns : goal.returns

@@ -6,10 +6,11 @@ use Rattle.time.proofs.format.local_clock.Goals as goal
 
 pub returns : goal.returns
 unfolding clock_of
-returns c = let i = c.args.i in
+returns c =
+    let i = c.args.i in
     let e = c.date_of.ensures in record {
-      is = (λ j. record { date = e.0 j; second = local_of i % 86400 });
-      months = e.1.0;
-      days = e.1.1;
+      is = λ j. record { date = e.is j; second = local_of i % 86400 };
+      months = e.months;
+      days = e.days;
       seconds = search rules;
     }

@@ -9,7 +9,6 @@ use Rattle.time.specs.Answers.{time_at}
 use Rattle.time.specs.Range.{time_in_range, time_of, InRange}
 use Rattle.time.specs.declared.Answer.TheVariants.{Time as At}
 use Rattle.time.proofs.Ranges.{time_in_range-time_of, answer_at_of_in, answer_at_of_out, InRange_of_time_of}
-use borrow.Author.Rules.{rules}
 use Rattle.time.proofs.range.time_of.Goals as goal
 
 -- the test was passed, so the time is in range

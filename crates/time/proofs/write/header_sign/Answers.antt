@@ -7,10 +7,9 @@ use lib.IntN.{pos}
 use mir.Syntax.{w32}
 use mir.Val.{SFits, of_z}
 use Rattle.ints.proofs.Equals.{eqb-of_z}
-use Rattle.ints.proofs.Machine.{back}
+use mir.ValLaws.{to_z-of_z}
 use Rattle.time.specs.Header.{sign_byte, header_sign, is_minus_zero}
 use Rattle.time.specs.declared.Time.{Time}
-use borrow.Author.Rules.{rules}
 use Rattle.time.proofs.write.header_sign.Goals as goal
 
 -- the test of the code
@@ -21,11 +20,11 @@ pub returns-then-mark-offset : goal.returns-then-mark-offset
 unfolding header_sign
 returns-then-mark-offset c =
     let t = c.args.t in
-    rw (sym (test-is t (record { sfits = c.struct_told-1.given.1.1.0.1 })) ∙ c.if-mark-offset.true)
+    rw (sym (test-is t (record { sfits = omega arith })) ∙ c.if-mark-offset.true)
 
 pub returns : goal.returns
 unfolding header_sign
 returns c =
     let t = c.args.t in
-    let f = c.struct_told-1.given.1.1.0.1 in
-    rw (sym (test-is t (record { sfits = f })) ∙ c.if-mark-offset.false) (c.sign_byte.ensures ∙ ap sign_byte (back w32 t.offset f))
+    let f : SFits w32 t.offset = record { sfits = omega arith } in
+    rw (sym (test-is t f) ∙ c.if-mark-offset.false) (c.sign_byte.ensures ∙ ap sign_byte (to_z-of_z w32 t.offset f))

@@ -3,7 +3,6 @@ use mathlib.Core.Path.{ap, ◌∙◌}
 use lib.IntN.{nat_abs}
 use mir.Syntax.{w32, w64}
 use Rattle.ints.proofs.Machine.{param, read, fits}
-use borrow.Author.Rules.{rules}
 use Rattle.time.proofs.write.offset_size.Goals as goal
 
 pub overflow_cast-offset : goal.overflow_cast-offset

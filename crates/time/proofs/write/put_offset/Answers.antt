@@ -1,7 +1,6 @@
 -- `time::write::put_offset` meets its contract.
 use Prim.Native.Nat.{◌/◌, ◌%◌}
 use Rattle.time.proofs.Headers.{offset_put}
-use borrow.Author.Rules.{rules}
 use Rattle.time.proofs.write.put_offset.Goals as goal
 
 pub returns : goal.returns
