@@ -5,7 +5,7 @@
 -- offset's word of digits; any header of such words; hours and minutes behind a sign; what the writer writes; the raw reader.
 -- Assumes nothing.
 use mathlib.Core.Path.{◌≡◌, refl, sym, ap, ◌∙◌}
-use mathlib.Core.Bool.{Bool, true, false, cond, and_false}
+use mathlib.Core.Bool.{Bool, true, false, cond, and-false}
 use mathlib.Core.List.{List, [], ◌∷◌}
 use Prim.Native.Char.{code}
 use Prim.Native.Nat.{ℕ, zero, suc, ◌+◌, ◌*◌, ◌/◌, ◌%◌, ◌≤◌, ◌<◌}
@@ -145,8 +145,8 @@ offset_of-written : (z o : ℤ) (m : Bool) → offset_of (fields_written (time_m
 unfolding header_sign sign_byte cut_to_minutes whole_minutes
 offset_of-written z (pos zero) true = offset_of-fields_are true 0 0 0 0 refl
 offset_of-written z (pos zero) false = offset_of-fields_are false 0 0 0 0 refl
-offset_of-written z (pos (suc n)) m = rw (eqb-suc-zero, and_false m) (offset_of-fields_are false (suc n / 60 / 60) (suc n / 60 % 60) 0 (suc n / 60 * 60) (omega arith))
-offset_of-written z (negsuc n) m = rw (and_false m) (offset_of-fields_are true (suc n / 60 / 60) (suc n / 60 % 60) 0 (suc n / 60 * 60) (omega arith))
+offset_of-written z (pos (suc n)) m = rw (eqb-suc-zero, and-false m) (offset_of-fields_are false (suc n / 60 / 60) (suc n / 60 % 60) 0 (suc n / 60 * 60) (omega arith))
+offset_of-written z (negsuc n) m = rw (and-false m) (offset_of-fields_are true (suc n / 60 / 60) (suc n / 60 % 60) 0 (suc n / 60 * 60) (omega arith))
 
 eq_z-neg : (n : ℕ) → eq_z (neg_ℤ (pos n)) (pos 0) ≡ eqb n 0
 eq_z-neg zero = refl
@@ -156,10 +156,10 @@ mark_written : (z o : ℤ) (m : Bool) → has_mark (fields_written (time_marked 
 unfolding header_sign sign_byte whole_minutes
 mark_written z (pos zero) true = rw (offset_of-fields_are true 0 0 0 0 refl)
 mark_written z (pos zero) false = refl
-mark_written z (pos (suc n)) m = rw (eqb-suc-zero, and_false m)
+mark_written z (pos (suc n)) m = rw (eqb-suc-zero, and-false m)
 mark_written z (negsuc n) m =
     let k : ℕ = suc n / 60 * 60 in
-    rw (and_false m, offset_of-fields_are true (suc n / 60 / 60) (suc n / 60 % 60) 0 k (omega arith), eq_z-neg k)
+    rw (and-false m, offset_of-fields_are true (suc n / 60 / 60) (suc n / 60 % 60) 0 k (omega arith), eq_z-neg k)
     (by_test (leb n 58)
     (λ e. rw (e, le-leb 0 n (omega arith), eq-eqb k 0 (omega (arith, leb-true n 58 e))))
     (λ e. rw (e, ne_eqb k 0 (λ q. omega (arith, leb-false n 58 e)))))

@@ -1,9 +1,9 @@
 -- `header::header_time` meets its contract.
 use mathlib.Core.Path.{ap}
+use native.Mathlib.Omega.{arith}
 use mir.Syntax.{w64}
 use Rattle.ints.proofs.Machine.{back}
 use Rattle.time.specs.declared.Answer.TheVariants.{Time}
-use borrow.Author.Rules.{rules}
 use Rattle.header.proofs.header_time.Goals as goal
 
 pub read_time-requires : goal.read_time-requires
@@ -11,12 +11,12 @@ read_time-requires c = rw c.in-Offset.is at c.requires
 
 pub returns-in-Offset : goal.returns-in-Offset
 returns-in-Offset c =
-    let z = back w64 c.in-Is.z c.known_told-1.given.0.1 in
+    let z = back w64 c.in-Is.z (omega arith) in
     rw (c.in-Is.is, c.in-Offset.is) (ap Time (rw z at c.read_time.ensures))
 
 pub returns-in-Nothing-p : goal.returns-in-Nothing-p
 returns-in-Nothing-p c =
-    let z = back w64 c.in-Is.z c.known_told-1.given.0.1 in
+    let z = back w64 c.in-Is.z (omega arith) in
     rw (c.in-Is.is, c.in-Nothing-p.is, c.without_offset.ensures) (ap Time (rw z at c.with_mark.ensures))
 
 -- no number, or one that is too large

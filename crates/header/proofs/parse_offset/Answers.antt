@@ -7,7 +7,6 @@ use lib.ListN.{length}
 use Rattle.text.specs.Bytes.{is_digit}
 use Rattle.header.specs.Header.{header_offset}
 use Rattle.header.specs.declared.offset.Parsed.TheVariants.{Nothing}
-use borrow.Author.Rules.{rules}
 use Rattle.header.proofs.parse_offset.Goals as goal
 
 headerOffset-of-length : (w : List ℕ) → length w < 2 → header_offset w ≡ Nothing

@@ -5,12 +5,7 @@ use Rattle.header.specs.Held.{WordsRead}
 use Rattle.header.specs.declared.walk.Walked.TheVariants.{Words}
 use Rattle.header.proofs.Offsets.{header_offset-all_small}
 use Rattle.header.proofs.Readers.{header_of_of_colon, header_of_of_words}
-use borrow.Author.Rules.{rules}
 use Rattle.header.proofs.parse_words.Goals as goal
-
--- otherwise the words were read
-read : (c : goal.In-Words) → WordsRead c.args.s.now (Words c.in-Words.first)
-read c = rw c.in-Words.is at c.requires
 
 -- a byte of 128 or more
 pub returns-in_default : goal.returns-in_default
@@ -19,11 +14,12 @@ returns-in_default c = rw (rw c.in_default.is at c.requires)
 
 -- a `:`
 pub returns-then-first : goal.returns-then-first
-returns-then-first c = sym (header_of_of_colon _ _ (read c.before) c.if-first.true)
+returns-then-first c = sym (header_of_of_colon _ _ (rw c.in-Words.is at c.requires) c.if-first.true)
 
 pub header_time-requires : goal.header_time-requires
 header_time-requires c = rw c.parse_offset.ensures (header_offset-all_small _)
 
 pub returns : goal.returns
 returns c =
-    rw (header_of_of_words _ _ (read c.before.before.before.before.before) c.if-first.false, ← c.within.ensures, ← c.parse_offset.ensures) c.header_time.ensures
+    let read : WordsRead c.args.s.now (Words c.in-Words.first) = rw c.in-Words.is at c.requires in
+    rw (header_of_of_words _ _ read c.if-first.false, ← c.within.ensures, ← c.parse_offset.ensures) c.header_time.ensures

@@ -5,7 +5,6 @@ use native.Mathlib.Omega.{arith}
 use mir.Syntax.{w64}
 use Rattle.ints.proofs.Machine.{cast}
 use Rattle.text.specs.declared.number.Integer.TheVariants.{Is}
-use borrow.Author.Rules.{rules}
 use Rattle.header.proofs.offset.as_integer.Goals as goal
 
 -- the value that the match bound

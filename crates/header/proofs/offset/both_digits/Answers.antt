@@ -1,5 +1,4 @@
 -- `header::offset::both_digits` meets its contract.
-use borrow.Author.Rules.{rules}
 use Rattle.header.proofs.offset.both_digits.Goals as goal
 
 pub returns : goal.returns

@@ -1,7 +1,6 @@
 -- `header::offset::last_field` meets its contract: its test is that of the definition.
 use borrow.Author.Tests.{eq-eqb, ne_eqb}
 use Rattle.header.specs.Offset.{last_field}
-use borrow.Author.Rules.{rules}
 use Rattle.header.proofs.offset.last_field.Goals as goal
 
 pub returns-then-w-eq7 : goal.returns-then-w-eq7

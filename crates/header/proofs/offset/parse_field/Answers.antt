@@ -15,19 +15,14 @@ use Rattle.text.proofs.Lists.{both}
 use Rattle.text.proofs.Numbers.{AtMost_of_fit, fit_signed-take}
 use Rattle.header.specs.Offset.{field_of}
 use Rattle.header.proofs.Offsets.{field_of_of_digits}
-use borrow.Author.Rules.{rules}
 use Rattle.header.proofs.offset.parse_field.Goals as goal
 
--- both are digits
-digits : (c : goal.Then-both_digits) → let a = c.args in (is_digit (get_or a.w.now a.at 0) ≡ true) × (is_digit (get_or a.w.now (a.at + 1) 0) ≡ true)
-digits c = both _ _ (sym c.both_digits.ensures ∙ c.if-both_digits.true)
-
 pub two_digits-requires : goal.two_digits-requires
-two_digits-requires c = digits c
+two_digits-requires c = both _ _ (sym c.both_digits.ensures ∙ c.if-both_digits.true)
 
 pub returns-then-both_digits : goal.returns-then-both_digits
 returns-then-both_digits c =
-    let d = digits c.before in
+    let d = both _ _ (sym c.both_digits.ensures ∙ c.if-both_digits.true) in
     ap Is (back w64 c.two_digits.result c.two_digits.type_inv ∙ c.two_digits.ensures) ∙ sym (field_of_of_digits _ _ c.requires d.0 d.1 c.args.by)
 
 pub as_integer-requires : goal.as_integer-requires

@@ -8,7 +8,6 @@ use Rattle.ints.specs.Equal.{eq_z}
 use Rattle.ints.proofs.Equals.{eqb-of_z}
 use Rattle.ints.proofs.Machine.{back}
 use Rattle.time.specs.Answers.{time_marked}
-use borrow.Author.Rules.{rules}
 use Rattle.header.proofs.offset.read_time.Goals as goal
 
 pub returns : goal.returns

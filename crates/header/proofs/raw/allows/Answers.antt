@@ -8,7 +8,6 @@ use Prim.Native.Nat.{◌^◌, ◌<◌}
 use native.Mathlib.Omega.{arith}
 use mir.Syntax.{w64}
 use mir.Val.{of_z, hbits}
-use borrow.Author.Rules.{rules}
 use Rattle.ints.proofs.Machine.{back}
 use Rattle.ints.proofs.Equals.{eqb-of_z}
 use Rattle.header.specs.Raw.{Limits, rule1, rule2, allows as allows_of}
@@ -26,15 +25,15 @@ returns-in-Two c =
     let f = c.args.f in
     rw c.in-Two.is
     (is-allowed rule2 f
-    (ap rule2.hours (back w64 f.hours c.struct_told-1.given.1.0.1))
-    (ap rule2.minutes (back w64 f.minutes c.struct_told-2-1.given.1.1.0.1))
-    c.struct_told-3-1.given.1.1.1.0.1)
+    (ap rule2.hours (back w64 f.hours (omega arith)))
+    (ap rule2.minutes (back w64 f.minutes (omega arith)))
+    (omega arith))
 
 pub returns-in-One : goal.returns-in-One
 returns-in-One c =
     let f = c.args.f in
     rw c.in-One.is
     (is-allowed rule1 f
-    (ap rule1.hours (back w64 f.hours c.struct_told-1.given.1.0.1))
-    (c.is_quarter.ensures ∙ ap rule1.minutes (back w64 f.minutes c.struct_told-2-1.given.1.1.0.1))
-    c.struct_told-3-1.given.1.1.1.0.1)
+    (ap rule1.hours (back w64 f.hours (omega arith)))
+    (c.is_quarter.ensures ∙ ap rule1.minutes (back w64 f.minutes (omega arith)))
+    (omega arith))

@@ -1,12 +1,11 @@
 -- `header::raw::parse_raw` meets its contract, by the laws that prove `parse_raw_by`, at rule 1.
 use mathlib.Core.Path.{sym, ◌∙◌}
 use Rattle.header.proofs.Shortcuts.{usual_small, raw_of_of_usual, raw_of_of_alone}
-use borrow.Author.Rules.{rules}
 use Rattle.header.proofs.raw.parse_raw.Goals as goal
 
 -- a number alone
 pub returns-then-end-s : goal.returns-then-end-s
-returns-then-end-s c = c.raw_time.ensures ∙ sym (raw_of_of_alone _ _ c.before.before.«open».ensures c.if-end-s.true _)
+returns-then-end-s c = c.raw_time.ensures ∙ sym (raw_of_of_alone _ _ c.open-opening.ensures c.if-end-s.true _)
 
 -- a text of any other form
 pub returns-in_default : goal.returns-in_default
@@ -15,8 +14,8 @@ returns-in_default c = c.parse_words.ensures
 -- the usual form
 pub raw_time-requires-2 : goal.raw_time-requires-2
 raw_time-requires-2 c =
-    usual_small _ _ c.before.before.before.before.before.«open».ensures _ (sym c.usual_tail-usual.ensures ∙ c.in-Offset.is)
+    usual_small _ _ c.open-opening.ensures _ (sym c.usual_tail-usual.ensures ∙ c.in-Offset.is)
 
 pub returns : goal.returns
 returns c =
-    c.raw_time-2.ensures ∙ sym (raw_of_of_usual _ _ c.before.before.before.before.before.before.«open».ensures _ (sym c.usual_tail-usual.ensures ∙ c.in-Offset.is) _)
+    c.raw_time-2.ensures ∙ sym (raw_of_of_usual _ _ c.open-opening.ensures _ (sym c.usual_tail-usual.ensures ∙ c.in-Offset.is) _)

@@ -1,9 +1,9 @@
 -- `header::raw::raw_time` meets its contract.
 use mathlib.Core.Path.{ap}
+use native.Mathlib.Omega.{arith}
 use mir.Syntax.{w64}
 use Rattle.ints.proofs.Machine.{back}
 use Rattle.time.specs.declared.Answer.TheVariants.{Time}
-use borrow.Author.Rules.{rules}
 use Rattle.header.proofs.raw.raw_time.Goals as goal
 
 -- no offset
@@ -16,7 +16,7 @@ read_time-requires c =
 
 pub returns-then-allows : goal.returns-then-allows
 returns-then-allows c =
-    let z = back w64 c.in-Is.z c.known_told-1.given.0.1 in
+    let z = back w64 c.in-Is.z (omega arith) in
     rw (c.in-Is.is, c.in-Offset.is, ← c.allows.ensures, c.if-allows.true) (ap Time (rw z at c.read_time.ensures))
 
 -- outside the limits

@@ -1,7 +1,6 @@
 -- `header::walk::ends_at` meets its contract.
 use mathlib.Core.Path.{sym, ◌∙◌}
 use Rattle.header.proofs.FirstWord.{ends_at_of_lt, ends_at_of_le}
-use borrow.Author.Rules.{rules}
 use Rattle.header.proofs.walk.ends_at.Goals as goal
 
 pub returns-then-at-s : goal.returns-then-at-s

@@ -5,7 +5,6 @@ use native.Mathlib.Omega.{arith}
 use Rattle.text.specs.Bytes.{is_space}
 use Rattle.text.proofs.Runs.{past_of-false, past_of-length-le}
 use Rattle.text.proofs.Plain.{is_space_of_lt}
-use borrow.Author.Rules.{rules}
 use Rattle.header.proofs.walk.first_word.Goals as goal
 
 pub returns-then-s-eq0 : goal.returns-then-s-eq0

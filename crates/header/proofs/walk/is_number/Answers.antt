@@ -1,5 +1,4 @@
 -- `header::walk::is_number` meets its contract: case by case.
-use borrow.Author.Rules.{rules}
 use Rattle.header.proofs.walk.is_number.Goals as goal
 
 pub returns-in-Is : goal.returns-in-Is

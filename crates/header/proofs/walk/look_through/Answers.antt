@@ -8,7 +8,6 @@ use Rattle.text.specs.Bytes.{ascii}
 use Rattle.text.specs.Places.{has}
 use Rattle.text.proofs.Plain.{ascii-drop-cons, ascii-drop-nil}
 use Rattle.text.proofs.Runs.{has_drop-cons, has_drop-nil}
-use borrow.Author.Rules.{rules}
 use Rattle.header.proofs.walk.look_through.Goals as goal
 
 pub loop-i-preserved : goal.loop-i-preserved

@@ -1,5 +1,4 @@
 -- `header::walk::open` meets its contract: what is read is at the front of the first word.
-use borrow.Author.Rules.{rules}
 use Rattle.header.proofs.walk.open.Goals as goal
 
 pub returns : goal.returns

@@ -1,34 +1,36 @@
 -- `header::walk::read_words` meets its contract: its places are those of the law. The bytes before the last of them are ASCII and
 -- hold no `:`, so the bytes from there on decide for the whole text.
 use mathlib.Core.Path.{◌≡◌, sym, ◌∙◌}
+use mathlib.Core.Bool.{Bool}
+use mathlib.Core.List.{List}
+use Prim.Native.Nat.{ℕ}
+use lib.ListN.{drop}
 use Rattle.text.specs.Bytes.{ascii}
 use Rattle.text.specs.Places.{has}
+use Rattle.text.specs.declared.number.LeadingInteger.{LeadingInteger}
+use Rattle.header.specs.Held.{LeadsWithNumber}
 use Rattle.header.proofs.Pass.{third, ascii_kept, has_kept, FirstWords_of_pass}
-use borrow.Author.Rules.{rules}
 use Rattle.header.proofs.walk.read_words.Goals as goal
 
--- so the rest decides for the whole text
-module _ (c : goal.After-look_through-rest) where
-  third_is : let a = c.args in c.past-third.result ≡ third a.s.now a.opening.end
-  third_is =
-      rw (c.past-third.ensures, c.past-second_end.ensures, c.past-second.ensures, c.past-first_end.ensures)
+-- what is found from the last place on decides for the whole text
+module _ (s : List ℕ) (r : LeadingInteger) (l : LeadsWithNumber s r) {at : ℕ} (at-is : at ≡ third s r.end) {found : Bool} where
+  ascii_is : found ≡ ascii (drop at s) → ascii s ≡ found
+  ascii_is e = ascii_kept s r l ∙ rw (← at-is) (sym e)
 
-  ascii_is : ascii c.args.s.now ≡ c.look_through-rest.result.ascii
-  ascii_is = ascii_kept _ _ c.requires ∙ rw (← third_is) (sym c.look_through-rest.ensures.ascii_value)
-
-  colon_is : c.look_through-rest.result.colon ≡ has 58 c.args.s.now
-  colon_is = c.look_through-rest.ensures.colon_value ∙ rw third_is (sym (has_kept _ _ c.requires))
+  colon_is : found ≡ has 58 (drop at s) → found ≡ has 58 s
+  colon_is e = e ∙ rw at-is (sym (has_kept s r l))
 
 pub returns-then-rest : goal.returns-then-rest
 returns-then-rest c =
-    let a = ascii_is c.before.before.before.before ∙ c.if-rest.true in (
+    let at-is : c.past-third.result ≡ third c.args.s.now c.args.opening.end = rw (c.past-third.ensures, c.past-second_end.ensures, c.past-second.ensures, c.past-first_end.ensures) in
+    let a = ascii_is c.args.s.now c.args.opening c.requires at-is c.look_through-rest.ensures.ascii_value ∙ c.if-rest.true in (
       a,
       rw (
         c.only_bounds-offset_word.ensures,
         c.number_in-number.ensures,
         c.ends_at-whole.ensures,
-        colon_is c.before.before.before.before,
-        third_is c.before.before.before.before,
+        colon_is c.args.s.now c.args.opening c.requires at-is c.look_through-rest.ensures.colon_value,
+        at-is,
         c.past-second_end.ensures,
         c.past-second.ensures,
         c.past-first_end.ensures,
@@ -37,4 +39,6 @@ returns-then-rest c =
 
 -- a byte of 128 or more
 pub returns : goal.returns
-returns c = ascii_is c.before ∙ c.if-rest.false
+returns c =
+    let at-is : c.past-third.result ≡ third c.args.s.now c.args.opening.end = rw (c.past-third.ensures, c.past-second_end.ensures, c.past-second.ensures, c.past-first_end.ensures) in
+    ascii_is c.args.s.now c.args.opening c.requires at-is c.look_through-rest.ensures.ascii_value ∙ c.if-rest.false

@@ -1,7 +1,6 @@
 -- `header::walk::usual_tail` meets its contract.
 use mathlib.Core.Path.{sym, ◌∙◌}
 use Rattle.header.proofs.Shortcuts.{end-le-length}
-use borrow.Author.Rules.{rules}
 use Rattle.header.proofs.walk.usual_tail.Goals as goal
 
 pub usual_fields-requires : goal.usual_fields-requires
