@@ -2,7 +2,7 @@
 -- not. The same for any test of a byte is in `text` (`last-here`, `none_before`).
 -- Assumes nothing.
 use mathlib.Core.Path.{◌≡◌, refl, sym}
-use mathlib.Core.Bool.{Bool, true, false, ◌&&◌, and_false}
+use mathlib.Core.Bool.{Bool, true, false, ◌&&◌, and-false}
 use mathlib.Core.List.{List, [], ◌∷◌}
 use Prim.Native.Nat.{ℕ, ◌-◌, ◌<◌}
 use lib.ListN.{get_or, drop}
@@ -13,7 +13,7 @@ use Rattle.iso.specs.Cut.{is_offset}
 
 is_offset-cons : (b : ℕ) (t : List ℕ) → is_offset (b ∷ t) ≡ (is_sign b && is_digit (get_or t 0 0))
 unfolding is_offset is_digit
-is_offset-cons b [] = sym (and_false (is_sign b))
+is_offset-cons b [] = sym (and-false (is_sign b))
 is_offset-cons b (d ∷ t) = refl
 
 -- d says whether there is a digit at e

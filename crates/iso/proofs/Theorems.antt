@@ -3,7 +3,7 @@
 -- `iso_of_flexible`); `dotted_is_flexible_with_dashes`. That a written line is read back: ReadBack.
 -- Assumes nothing.
 use mathlib.Core.Path.{◌≡◌, refl, sym, ap, ◌∙◌}
-use mathlib.Core.Bool.{Bool, true, false, cond, ◌&&◌, false≢true, and_false}
+use mathlib.Core.Bool.{Bool, true, false, cond, ◌&&◌, false≢true, and-false}
 use mathlib.Core.List.{List, [], ◌∷◌, ◌++◌}
 use Prim.Native.Nat.{ℕ, ◌+◌, ◌≤◌, ◌<◌}
 use native.Mathlib.Omega.{arith}
@@ -93,7 +93,7 @@ first-false : (x y : Bool) → x ≡ false → (x && y) ≡ false
 first-false x y e = rw e
 
 second-false : (x y : Bool) → y ≡ false → (x && y) ≡ false
-second-false x y e = rw e (and_false x)
+second-false x y e = rw e (and-false x)
 
 there_missing : {f : Fields} → f ≡ NoFields → is_there f ≡ false
 there_missing e = rw e

@@ -9,17 +9,18 @@ use Rattle.calendar.specs.Dates.{day_number}
 use Rattle.iso.proofs.Instants.{day_of-month, day_of-day, day_of-year, day_of-value}
 use borrow.Author.Rules.{rules}
 use Rattle.iso.proofs.date.Goals as goal
+use Rattle.iso.proofs.date.Goals.{Else-y-gt-MOST_YEAR}
 
 -- past the four tests
-y-in : (c : goal.Else-y-gt-MOST_YEAR) → In (negsuc 9998) (pos 9999) c.args.y
+y-in : (c : Else-y-gt-MOST_YEAR) → In (negsuc 9998) (pos 9999) c.args.y
 y-in c =
     inside w64 (negsuc 9998) (pos 9999) c.ranges.y c.if-y-lt-LEAST_YEAR.false c.if-y-gt-MOST_YEAR.false
 
-m-from : (c : goal.Else-y-gt-MOST_YEAR) → pos 0 ≤ℤ c.args.m
+m-from : (c : Else-y-gt-MOST_YEAR) → pos 0 ≤ℤ c.args.m
 m-from c =
     lt_no (param w64 c.ranges.m) (lit (pos 0)) c.if-m-lt0.false
 
-d-from : (c : goal.Else-y-gt-MOST_YEAR) → pos 0 ≤ℤ c.args.d
+d-from : (c : Else-y-gt-MOST_YEAR) → pos 0 ≤ℤ c.args.d
 d-from c =
     lt_no (param w64 c.ranges.d) (lit (pos 0)) c.if-d-lt0.false
 
@@ -69,9 +70,10 @@ overflow_cast-d c =
 -- the calendar says whether the date exists
 pub returns : goal.returns
 returns c =
-    let y = read w64 tt (add (known w64 tt (y-in c.before)) (lit (pos 10000))) in
+    let p = (goal.at.returns c).Else-y-gt-MOST_YEAR in
+    let y = read w64 tt (add (known w64 tt (y-in p)) (lit (pos 10000))) in
     let m = param w64 c.ranges.m in
     let d = param w64 c.ranges.d in record {
-      is = c.day_number.ensures.is ∙ (λ i. day_number (nat_abs (y.is i)) (nat_abs (m.is i)) (nat_abs (d.is i))) ∙ day_of-value _ _ _ (y-in c.before) (m-from c.before) (d-from c.before);
+      is = c.day_number.ensures.is ∙ (λ i. day_number (nat_abs (y.is i)) (nat_abs (m.is i)) (nat_abs (d.is i))) ∙ day_of-value _ _ _ (y-in p) (m-from p) (d-from p);
       range = c.day_number.ensures.range;
     }

@@ -13,25 +13,22 @@ use Rattle.time.specs.declared.Answer.TheVariants.{Time}
 use Rattle.iso.proofs.Instants.{moment_of_no_day, moment_of-out, moment_of_in}
 use borrow.Author.Rules.{rules}
 use Rattle.iso.proofs.moment.Goals as goal
+use Rattle.iso.proofs.moment.Goals.{In-At}
 
-second-le : (c : goal.In-At) → c.in-At.day * 86400 + c.args.second ≤ 631139039999
+second-le : (c : In-At) → c.in-At.day * 86400 + c.args.second ≤ 631139039999
 second-le c =
     let d : c.in-At.day < 7304850 = lt_of_Below c.in-At.is c.requires.day in
     let s = c.requires.second in
     omega arith
 
 -- since 1970, by the clock of UTC
-since_at : (c : goal.In-At) → At (negsuc 377736739199) (pos 253402300799) (since1970 (c.in-At.day * 86400 + c.args.second)) (to_z w64 (c.in-At.day * 86400 + c.args.second) -ℤ pos 377736739200)
+since_at : (c : In-At) → At (negsuc 377736739199) (pos 253402300799) (since1970 (c.in-At.day * 86400 + c.args.second)) (to_z w64 (c.in-At.day * 86400 + c.args.second) -ℤ pos 377736739200)
 since_at c = sub (cast w64 _ tt (second-le c)) (lit (pos 377736739200))
 
 -- and by that of the offset
-z-at : (c : goal.In-At) → At (negsuc 377737101539) (pos 253402663139) (since1970 (c.in-At.day * 86400 + c.args.second) -ℤ c.args.offset) (to_z w64 (of_z w64 (to_z w64 (c.in-At.day * 86400 + c.args.second) -ℤ pos 377736739200)) -ℤ to_z w64 (of_z w64 c.args.offset))
+z-at : (c : In-At) → At (negsuc 377737101539) (pos 253402663139) (since1970 (c.in-At.day * 86400 + c.args.second) -ℤ c.args.offset) (to_z w64 (of_z w64 (to_z w64 (c.in-At.day * 86400 + c.args.second) -ℤ pos 377736739200)) -ℤ to_z w64 (of_z w64 c.args.offset))
 z-at c =
     sub (read w64 tt (since_at c)) (known w64 tt c.requires.offset)
-
--- the answer about the range
-tested : (c : goal.After-seconds_in_range) → c.seconds_in_range.result ≡ seconds_in_range (since1970 (c.in-At.day * 86400 + c.args.second) -ℤ c.args.offset)
-tested c = c.seconds_in_range.ensures ∙ ap seconds_in_range (read w64 tt (z-at c.before)).is
 
 -- the date does not exist
 pub returns-in_default : goal.returns-in_default
@@ -59,10 +56,13 @@ overflow_cast-offset c =
 -- in range
 pub returns-then-seconds_in_range : goal.returns-then-seconds_in_range
 returns-then-seconds_in_range c =
-    let z = read w64 tt (z-at c.before.before.before) in
+    let z = read w64 tt (z-at (goal.at.returns-then-seconds_in_range c).In-At) in
     let o = read w32 tt (known w64 tt c.requires.offset) in
-    (λ i. Time (c.new.ensures i)) ∙ (λ i. Time (time_at (z.is i) (o.is i))) ∙ moment_of_in _ _ c.in-At.is (sym (tested c.before.before) ∙ c.if-seconds_in_range.true)
+    (λ i. Time (c.new.ensures i)) ∙ (λ i. Time (time_at (z.is i) (o.is i)))
+    ∙ moment_of_in _ _ c.in-At.is (sym (c.seconds_in_range.ensures ∙ ap seconds_in_range z.is) ∙ c.if-seconds_in_range.true)
 
 -- out of it
 pub returns : goal.returns
-returns c = moment_of-out _ _ c.in-At.is (sym (tested c.before) ∙ c.if-seconds_in_range.false)
+returns c =
+    let z = read w64 tt (z-at (goal.at.returns c).In-At) in
+    moment_of-out _ _ c.in-At.is (sym (c.seconds_in_range.ensures ∙ ap seconds_in_range z.is) ∙ c.if-seconds_in_range.false)

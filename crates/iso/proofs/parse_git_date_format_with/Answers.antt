@@ -4,6 +4,7 @@ use mir.Syntax.{w64}
 use Rattle.ints.proofs.Machine.{known, In_of_At, back}
 use Rattle.iso.proofs.FormFields.{FieldsIn_of_Are}
 use Rattle.iso.proofs.Instants.{zoned_parts, iso_of-not-ascii, iso_of-missing, iso_of_are}
+use native.Mathlib.Omega.{arith}
 use borrow.Author.Rules.{rules}
 use Rattle.iso.proofs.parse_git_date_format_with.Goals as goal
 
@@ -23,9 +24,8 @@ moment-requires c =
 -- a form
 pub returns-then-is_ascii : goal.returns-then-is_ascii
 returns-then-is_ascii c =
-    let told = c.struct_told-1.given in
     c.moment.ensures
-    ∙ zoned_parts c.in-Are.f (back w64 _ told.0.1) (back w64 _ told.1.0.1) (back w64 _ told.1.1.0.1) (back w64 _ c.struct_told-then-is_ascii-3-1.given.1.1.1.1.0.1) c.date.ensures.is
+    ∙ zoned_parts c.in-Are.f (back w64 _ (omega arith)) (back w64 _ (omega arith)) (back w64 _ (omega arith)) (back w64 _ (omega arith)) c.date.ensures.is
     ∙ iso_of_are _ _ (sym c.is_ascii.ensures ∙ c.if-is_ascii.true) c.trimmed.ensures (sym c.parse.ensures.is ∙ c.in-Are.is)
 
 -- a byte of 128 or more

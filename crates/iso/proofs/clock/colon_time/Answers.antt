@@ -7,12 +7,12 @@ use borrow.Author.Rules.{rules}
 use Rattle.iso.proofs.clock.colon_time.Goals as goal
 
 pub slice_bounds-clock-end : goal.slice_bounds-clock-end
-slice_bounds-clock-end c = sym (length-take-le _ _ c.first-place.ensures.1)
+slice_bounds-clock-end c = sym (length-take-le _ _ c.first_place-i.ensures.1)
 
 -- a colon more: the third part ends at the next
 pub returns-then-i-s : goal.returns-then-i-s
 returns-then-i-s c = record {
-  is = c.clock.ensures.is ∙ colon_time-third _ _ _ c.first-place.ensures.0 _ c.if1.true c.before-then-i-s.ensures;
+  is = c.clock.ensures.is ∙ colon_time-third _ _ _ c.first_place-i.ensures.0 _ c.if-i-s.true c.before-then-i-s.ensures;
   range = c.clock.ensures.range;
 }
 

@@ -6,12 +6,12 @@ use borrow.Author.Rules.{rules}
 use Rattle.iso.proofs.clock.parse_time_component.Goals as goal
 
 pub slice_bounds-colon_time-end : goal.slice_bounds-colon_time-end
-slice_bounds-colon_time-end c = sym (length-take-le _ _ c.first-place.ensures.1)
+slice_bounds-colon_time-end c = sym (length-take-le _ _ c.first_place-i.ensures.1)
 
 -- with colons
 pub returns-then-i-t : goal.returns-then-i-t
 returns-then-i-t c = record {
-  is = iso_time-colon _ _ c.first-place.ensures.0 _ c.if1.true c.colon_time.ensures.is;
+  is = iso_time-colon _ _ c.first_place-i.ensures.0 _ c.if-i-t.true c.colon_time.ensures.is;
   range = c.colon_time.ensures.range;
 }
 

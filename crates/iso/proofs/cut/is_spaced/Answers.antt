@@ -8,9 +8,10 @@ use Rattle.iso.specs.Cut.{is_signed, splits_at_space}
 use Rattle.iso.proofs.Cuts.{splits_at_space_of_le, splits_at_space_of_lt, is_signed_of_lt, is_signed_of_length}
 use borrow.Author.Rules.{rules}
 use Rattle.iso.proofs.cut.is_spaced.Goals as goal
+use Rattle.iso.proofs.cut.is_spaced.Goals.{After-trimmed-rest}
 
 -- what follows, trimmed
-told : (c : goal.After-trimmed-rest) → splits_at_space c.args.s.now ≡ is_signed c.trimmed-rest.result.now
+told : (c : After-trimmed-rest) → splits_at_space c.args.s.now ≡ is_signed c.trimmed-rest.result.now
 told c =
     splits_at_space_of_lt _ _ c.requires c.if-at-le5.false ∙ ap is_signed (sym (rw take-length-sub-drop at c.trimmed-rest.ensures))
 
@@ -21,9 +22,13 @@ pub slice_bounds-trimmed-count : goal.slice_bounds-trimmed-count
 unfolding last_place
 slice_bounds-trimmed-count c = rw c.requires (last_where-le-length (opens_with 32) c.args.s.now)
 
+pub slice_bounds-trimmed-start : goal.slice_bounds-trimmed-start
+unfolding last_place
+slice_bounds-trimmed-start c = rw c.requires (last_where-le-length (opens_with 32) c.args.s.now)
+
 pub returns-then-rest-eq0 : goal.returns-then-rest-eq0
-returns-then-rest-eq0 c = sym (told c.before ∙ is_signed_of_length _ c.if-rest-eq0.true)
+returns-then-rest-eq0 c = sym (told (goal.at.returns-then-rest-eq0 c).After-trimmed-rest ∙ is_signed_of_length _ c.if-rest-eq0.true)
 
 pub returns : goal.returns
 returns c =
-    c.is_sign.ensures ∙ sym (told c.before.before.before ∙ is_signed_of_lt _ (omega (arith, c.if-rest-eq0.false)))
+    c.is_sign.ensures ∙ sym (told (goal.at.returns c).After-trimmed-rest ∙ is_signed_of_lt _ (omega (arith, c.if-rest-eq0.false)))

@@ -21,7 +21,7 @@ pub returns-then-is_spaced : goal.returns-then-is_spaced
 unfolding last_place
 returns-then-is_spaced c =
     let m = c.find_marks-m.ensures in
-    (cut_space _ (ne_eqb _ _ c.if-s-end-eq90.false) _ m.0 (sym c.is_spaced.ensures ∙ c.if-is_spaced.true), rw m.0 (last_where-le-length (opens_with 32) _))
+    (cut_space _ (ne_eqb _ _ c.if-s-end-eq90.false) _ m.space (sym c.is_spaced.ensures ∙ c.if-is_spaced.true), rw m.space (last_where-le-length (opens_with 32) _))
 
 -- a sign at place 0 or 1 opens no offset
 pub returns-then-m-lt2 : goal.returns-then-m-lt2
@@ -32,4 +32,4 @@ returns-then-m-lt2 c =
 pub returns : goal.returns
 returns c =
     let m = c.find_marks-m.ensures in
-    (sign_place_of_le _ _ m.1 c.if-m-lt2.false ∙ cut_sign _ (ne_eqb _ _ c.if-s-end-eq90.false) (sym c.is_spaced.ensures ∙ c.if-is_spaced.false), rw m.1 (last_where-le-length is_offset _))
+    (sign_place_of_le _ _ m.sign c.if-m-lt2.false ∙ cut_sign _ (ne_eqb _ _ c.if-s-end-eq90.false) (sym c.is_spaced.ensures ∙ c.if-is_spaced.false), rw m.sign (last_where-le-length is_offset _))

@@ -6,6 +6,7 @@ use Rattle.text.specs.Number.{AtMost}
 use Rattle.iso.specs.declared.forms.Fields.TheVariants.{Are}
 use Rattle.iso.proofs.Offsets.{In_of_Within}
 use Rattle.iso.proofs.FormFields.{all_fields-not-year, all_fields-not-month, all_fields-not-day, all_fields-not-time, all_fields-not-offset, all_fields-value}
+use native.Mathlib.Omega.{arith}
 use borrow.Author.Rules.{rules}
 use Rattle.iso.proofs.forms.all_fields.Goals as goal
 
@@ -47,9 +48,9 @@ returns-in_default-o c = record {
 -- all five
 pub returns : goal.returns
 returns c =
-    let y = back w64 _ c.known_told-1.given.0.1 in
-    let m = back w64 _ c.known_told-in-Is-m-1.given.0.1 in
-    let d = back w64 _ c.known_told-in-Is-d-1.given.0.1 in
+    let y = back w64 _ (omega arith) in
+    let m = back w64 _ (search rules) in
+    let d = back w64 _ (omega arith) in
     let o = known w64 tt (In_of_Within {k = 362340} c.in-Is-o.is c.requires.1) in record {
       is = (λ i. Are (record { year = y i; month = m i; day = d i; second = c.in-Value.second; offset = o.is i })) ∙ all_fields-value _ _ _ _ _ c.in-Is.is c.in-Is-m.is c.in-Is-d.is c.in-Value.is c.in-Is-o.is;
       range = (subst (AtMost 86399) c.in-Value.is c.requires.0, In_of_At o);

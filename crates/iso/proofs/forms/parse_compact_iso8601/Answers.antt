@@ -17,8 +17,7 @@ returns-then-s-lt9 c = record {
 
 pub slice_bounds-first_place-end : goal.slice_bounds-first_place-end
 slice_bounds-first_place-end c =
-    let at-start = c.before in
-    sym (length-take-le 9 at-start.args.s.now c.if1.false)
+    sym (length-take-le 9 c.args.s.now c.if-s-lt9.false)
 
 -- the first `T` elsewhere
 pub returns-then-first_place-ne8 : goal.returns-then-first_place-ne8
@@ -28,11 +27,11 @@ returns-then-first_place-ne8 c = record {
 }
 
 pub slice_bounds-read_fields-end : goal.slice_bounds-read_fields-end
-slice_bounds-read_fields-end c = let s = c.before.before.args.s.now in let h : 4 ≤ length s = omega arith in sym (length-take-le 4 s h)
+slice_bounds-read_fields-end c = let s = c.args.s.now in let h : 4 ≤ length s = omega arith in sym (length-take-le 4 s h)
 
 -- the first `T` at place 8
 pub returns : goal.returns
 returns c = record {
-  is = c.read_fields.ensures.is ∙ compact_yes _ _ _ _ c.first-place.ensures.0 c.if2.false c.if1.false c.two.ensures c.two-2.ensures;
+  is = c.read_fields.ensures.is ∙ compact_yes _ _ _ _ c.first_place.ensures.0 c.if-first_place-ne8.false c.if-s-lt9.false c.two.ensures c.two-2.ensures;
   range = c.read_fields.ensures.range;
 }

@@ -30,12 +30,12 @@ returns-then-s-ne45-2 c = record {
 }
 
 pub slice_bounds-read_fields-end : goal.slice_bounds-read_fields-end
-slice_bounds-read_fields-end c = let s = c.before.args.s.now in let h : 4 ≤ length s = omega arith in sym (length-take-le 4 s h)
+slice_bounds-read_fields-end c = let s = c.args.s.now in let h : 4 ≤ length s = omega arith in sym (length-take-le 4 s h)
 
 -- `T` or space at place 10
 pub returns-then-is_separator : goal.returns-then-is_separator
 returns-then-is_separator c = record {
-  is = c.read_fields.ensures.is ∙ flexible_yes _ c.if2.false c.if3.false _ _ (sym c.is-separator.ensures ∙ c.if4.true) c.two.ensures c.two-then-is_separator.ensures;
+  is = c.read_fields.ensures.is ∙ flexible_yes _ c.if-s-ne45.false c.if-s-ne45-2.false _ _ (sym c.is_separator.ensures ∙ c.if-is_separator.true) c.two.ensures c.two-then-is_separator.ensures;
   range = c.read_fields.ensures.range;
 }
 

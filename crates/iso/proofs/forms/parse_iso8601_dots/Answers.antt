@@ -14,8 +14,7 @@ returns-then-s-lt11 c = record {
 
 pub slice_bounds-first_place-end : goal.slice_bounds-first_place-end
 slice_bounds-first_place-end c =
-    let at-start = c.before in
-    sym (length-take-le 11 at-start.args.s.now c.if1.false)
+    sym (length-take-le 11 c.args.s.now c.if-s-lt11.false)
 
 -- the first space elsewhere
 pub returns-then-first_place-ne10 : goal.returns-then-first_place-ne10
@@ -40,6 +39,6 @@ returns-then-s-ne46-2 c = record {
 
 pub dashed-requires : goal.dashed-requires
 dashed-requires c = record {
-  bytes = c.if1.false;
-  form = is_dotted-yes _ _ c.if1.false c.first_place.ensures.0 c.if-first_place-ne10.false c.if-s-ne46.false c.if-s-ne46-2.false;
+  bytes = c.if-s-lt11.false;
+  form = is_dotted-yes _ _ c.if-s-lt11.false c.first_place.ensures.0 c.if-first_place-ne10.false c.if-s-ne46.false c.if-s-ne46-2.false;
 }

@@ -9,8 +9,9 @@ use Rattle.iso.specs.Parts.{int32}
 use Rattle.iso.proofs.Offsets.{int32-two-within, In_of_Within, up_to-not, up_to-value, up_to-over}
 use borrow.Author.Rules.{rules}
 use Rattle.iso.proofs.offset.field.Goals as goal
+use Rattle.iso.proofs.offset.field.Goals.{In-Is}
 
-z-in : (c : goal.In-Is) → In (negsuc 98) (pos 99) c.in-Is.z
+z-in : (c : In-Is) → In (negsuc 98) (pos 99) c.in-Is.z
 unfolding int32
 z-in c =
     In_of_Within {k = 99} (sym c.signed_number.ensures ∙ c.in-Is.is) (int32-two-within _ _)
@@ -25,7 +26,7 @@ returns-in_default c = record {
 -- up to the limit
 pub returns-then-z-limit : goal.returns-then-z-limit
 returns-then-z-limit c =
-    let z = known w64 tt (z-in c.before) in record {
+    let z = known w64 tt (z-in (goal.at.returns-then-z-limit c).In-Is) in record {
       is = ap Is z.is ∙ up_to-value _ _ (sym c.signed_number.ensures ∙ c.in-Is.is) (le_yes z (param w64 c.ranges.limit) c.if-z-limit.true);
       range = In_of_At z;
     }
@@ -33,6 +34,6 @@ returns-then-z-limit c =
 -- beyond it
 pub returns : goal.returns
 returns c = record {
-  is = up_to-over _ _ (sym c.signed_number.ensures ∙ c.in-Is.is) (le_no (known w64 tt (z-in c.before)) (param w64 c.ranges.limit) c.if-z-limit.false);
+  is = up_to-over _ _ (sym c.signed_number.ensures ∙ c.in-Is.is) (le_no (known w64 tt (z-in (goal.at.returns c).In-Is)) (param w64 c.ranges.limit) c.if-z-limit.false);
   range = tt;
 }

@@ -12,13 +12,10 @@ use Rattle.iso.specs.Parts.{without}
 use Rattle.iso.proofs.Places.{kept_skip, kept_on, kept_over, kept_end}
 use Rattle.iso.proofs.Offsets.{hours_minutes-two, hours_minutes-four, hours_minutes-not}
 use Rattle.iso.proofs.offset.hours_minutes.Goals as goal
-
--- any other byte is held: there is room
-room : (c : goal.After-shared_slice_known-in-loop-i-2-1) → c.loop-i.n < 4
-room c = omega (arith, c.loop-i.invariant.1, c.if-n-eq4.false)
+use Rattle.iso.proofs.offset.hours_minutes.Goals.{After-loop-i}
 
 -- ---- the end
-held : (c : goal.After-loop-i) → without 58 c.args.s.now ≡ take c.loop-i.n c.loop-i.f
+held : (c : After-loop-i) → without 58 c.args.s.now ≡ take c.loop-i.n c.loop-i.f
 held c = kept_end 58 c.args.s.now c.loop-i.i c.loop-i.f c.loop-i.n c.loop-i.invariant.2 c.loop-i-test.false
 
 pub loop-i-init : goal.loop-i-init
@@ -47,20 +44,21 @@ pub loop-i-preserved : goal.loop-i-preserved
 loop-i-preserved c =
     let s = c.args.s.now in
     let m = c.loop-i.invariant in
-    let k : c.loop-i.n < length c.loop-i.f = omega (arith, m.0, room c) in
-    (length-set c.loop-i.f _ _ ∙ m.0, omega (arith, room c), kept_on 58 s _ c.loop-i-test.true c.loop-i.f c.loop-i.n m.2 (ne_eqb _ _ c.if-s-i-eq58.false) k)
+    let room : c.loop-i.n < 4 = omega (arith, m.1, c.if-n-eq4.false) in
+    let k : c.loop-i.n < length c.loop-i.f = omega (arith, m.0) in
+    (length-set c.loop-i.f _ _ ∙ m.0, omega arith, kept_on 58 s _ c.loop-i-test.true c.loop-i.f c.loop-i.n m.2 (ne_eqb _ _ c.if-s-i-eq58.false) k)
 
 -- HH
 pub returns-then-n-eq2 : goal.returns-then-n-eq2
 returns-then-n-eq2 c = record {
-  is = rw (c.seconds.ensures.is, c.field.ensures.is, held c.before.before.before, c.if-n-eq2.true) (hours_minutes-two c.loop-i.f c.loop-i.invariant.0);
+  is = rw (c.seconds.ensures.is, c.field.ensures.is, held (goal.at.returns-then-n-eq2 c).After-loop-i, c.if-n-eq2.true) (hours_minutes-two c.loop-i.f c.loop-i.invariant.0);
   range = c.seconds.ensures.range;
 }
 
 -- HHMM
 pub returns-then-n-eq4-2 : goal.returns-then-n-eq4-2
 returns-then-n-eq4-2 c = record {
-  is = rw (c.seconds-then-n-eq4-2.ensures.is, c.field-then-n-eq4-2-2.ensures.is, c.field-then-n-eq4-2.ensures.is, held c.before.before.before.before.before, c.if-n-eq4-2.true) (hours_minutes-four c.loop-i.f c.loop-i.invariant.0);
+  is = rw (c.seconds-then-n-eq4-2.ensures.is, c.field-then-n-eq4-2-2.ensures.is, c.field-then-n-eq4-2.ensures.is, held (goal.at.returns-then-n-eq4-2 c).After-loop-i, c.if-n-eq4-2.true) (hours_minutes-four c.loop-i.f c.loop-i.invariant.0);
   range = c.seconds-then-n-eq4-2.ensures.range;
 }
 
@@ -68,10 +66,10 @@ returns-then-n-eq4-2 c = record {
 pub returns : goal.returns
 returns c =
     let k : c.loop-i.n ≤ length c.loop-i.f = omega (arith, c.loop-i.invariant.0, c.loop-i.invariant.1) in
-    let w = ap length (held c.before.before) ∙ length-take-le c.loop-i.n c.loop-i.f k in record {
+    let w = ap length (held (goal.at.returns c).After-loop-i) ∙ length-take-le c.loop-i.n c.loop-i.f k in record {
       is = hours_minutes-not _ (λ e. c.if-n-eq2.false (sym w ∙ e)) (λ e. c.if-n-eq4-2.false (sym w ∙ e));
       range = tt;
     }
 
 pub overflow_add-n : goal.overflow_add-n
-overflow_add-n c = omega (arith, room c)
+overflow_add-n c = omega (arith, c.loop-i.invariant.1)
