@@ -1,4 +1,8 @@
--- RULES 12.11
+-- RULES 12.11: one count of months or years, read at two current times. The second answer is before the first by less than the days
+-- that run on (`back_within_surplus`): for months by 259,199 seconds at most (`back_at_most_259199`), for years by 86,399
+-- (`years_back_at_most_86399`). It is not before the first if no day runs on (`not-back_without_surplus`), so not from the days 1 to
+-- 28 (`not-back_from_day_28`), and not within a local month (`not-back_in_one-month`). Last, how such a text is typed
+-- (`OnePair_of_TypedCount`).
 -- Assumes nothing.
 use mathlib.Core.Path.{◌≡◌, refl, sym, ap, ◌∙◌}
 use mathlib.Core.Bool.{true, false, false≢true}
@@ -31,7 +35,6 @@ use Rattle.relative.proofs.Dates.{month_start-add-one, month_at-day_of_month, po
 use Rattle.relative.proofs.Texts.{in_range_of_answered}
 use Rattle.relative.proofs.Earlier.{landed_answered, one-pair_lands_exactly}
 use Rattle.relative.proofs.LetterCase.{ago_is_no_count}
-use Rattle.relative.proofs.parse.Reads as parse
 
 -- ---- months, one after the other
 -- a later month begins at the end of an earlier one, or after it
@@ -204,6 +207,3 @@ OnePair_of_TypedCount {s} {n} {k} t =
     no_more [] h = refl
     no_more (w ∷ []) h = refl
     no_more (w ∷ v ∷ ws) h = absurd (false≢true h)
-
-test : (κ : _) (p : _) (r : _) (e : _) → parse.Post κ p r e → ?
-test κ p r e h = ?

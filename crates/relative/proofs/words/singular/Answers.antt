@@ -4,7 +4,6 @@ use borrow.Author.Tests.{eq-eqb, ne_eqb}
 use lib.ListN.{length-take, drop_of_length-le}
 use Rattle.text.specs.Bytes.{lower_of}
 use Rattle.relative.specs.Words.{singular}
-use borrow.Author.Rules.{rules}
 use Rattle.relative.proofs.words.singular.Goals as goal
 
 -- the empty word has no last byte
@@ -17,7 +16,7 @@ slice_bounds-result-end c = simp length-take (omega arith)
 
 pub returns-then-lower-eq115 : goal.returns-then-lower-eq115
 unfolding singular
-returns-then-lower-eq115 c = rw (← c.lower.ensures, eq-eqb _ _ c.if2.true)
+returns-then-lower-eq115 c = rw (← c.lower.ensures, eq-eqb _ _ c.if-lower-eq115.true)
 
 pub returns : goal.returns
 unfolding singular
