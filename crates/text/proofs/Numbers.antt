@@ -1,6 +1,6 @@
 -- Digits and their value. In order: which bytes are digits; one digit more; a byte that is no digit; values that fit; the sign
 -- added before or after the test of the width; how large the number of a short text can be; the sign and the digits at the front
--- of a text.
+-- of a text; an unsigned number by its first byte.
 -- Assumes nothing.
 use mathlib.Core.Path.{◌≡◌, refl, sym, ap, ◌∙◌}
 use mathlib.Core.Bool.{Bool, true, false, cond, ◌&&◌, false≢true}
@@ -8,10 +8,10 @@ use mathlib.Core.List.{List, [], ◌∷◌}
 use Prim.Native.Nat.{ℕ, zero, suc, ◌+◌, ◌-◌, ◌*◌, ◌^◌, ◌≤◌, ◌<◌}
 use native.Mathlib.Omega.{arith}
 use native.Mathlib.Nat.{pow-le-pow_right, mul-one, mul_assoc, mul-le-mul_right, not-suc-le-zero, pow-succ'}
-use borrow.Author.Tests.{lt-leb, le-leb, leb-true, lt-ltb, le-ltb, leb-false, ne_eqb, eqb-true}
+use borrow.Author.Tests.{lt-leb, le-leb, leb-true, lt-ltb, le-ltb, leb-false, eq-eqb, ne_eqb, eqb-true}
 use lib.Dec.{leb, ltb, eqb, leb-suc-suc}
 use lib.IntN.{ℤ, pos, negsuc, neg_ℤ, nat_abs}
-use lib.ListN.{length, get_or, take, length-take}
+use lib.ListN.{length, get_or, take, drop, length-take}
 use lib.Signed.{le_z, lt_z}
 use Rattle.text.specs.Bytes.{is_digit, is_sign}
 use Rattle.text.specs.Places.{run, leading}
@@ -287,3 +287,15 @@ module _ (q : ℕ → Bool) (signs : (b : ℕ) → is_sign b ≡ true → q b �
   numeral_leading (b ∷ s) =
       by_test (is_sign b) (λ e. rw (signs b e, e) (ap suc (run_leading is_digit q digits s)))
       (λ e. numeral_of_digits (leading q (b ∷ s)) (is_sign-leading (b ∷ s) ∙ e) ∙ run_leading is_digit q digits (b ∷ s) ∙ sym (numeral_of_digits (b ∷ s) e))
+
+-- an unsigned number whose first byte is `+`: the digits after it
+pub unsigned_of_plus : (s : List ℕ) → 0 < length s → get_or s 0 0 ≡ 43 → unsigned_of s ≡ digits_of (drop 1 s)
+unfolding unsigned_of
+unsigned_of_plus [] h e = absurd (not-suc-le-zero h)
+unsigned_of_plus (b ∷ s) h e = rw (eq-eqb b 43 e)
+
+-- its first byte is another: digits from there on
+pub unsigned_of_other : (s : List ℕ) → 0 < length s → (get_or s 0 0 ≡ 43 → ⊥) → unsigned_of s ≡ digits_of (drop 0 s)
+unfolding unsigned_of
+unsigned_of_other [] h n = absurd (not-suc-le-zero h)
+unsigned_of_other (b ∷ s) h n = rw (ne_eqb b 43 n)

@@ -88,6 +88,7 @@ pub fn plain(n: FittedInteger) -> Integer
 }
 
 // The whole text as an unsigned number: an optional `+`, then digits.
+#[tactic(auto, using(crate::proofs::Numbers::unsigned_of_plus, crate::proofs::Numbers::unsigned_of_other))]
 pub fn unsigned_number(s: &[u8], limit: u64) -> Number
     ensures { result ≡ fit limit (unsigned_of s.now) }
 {

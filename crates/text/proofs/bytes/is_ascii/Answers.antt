@@ -2,11 +2,9 @@
 -- whole is.
 use Rattle.text.proofs.Lists.{drop-cons-add-one}
 use Rattle.text.specs.Bytes.{ascii}
-use mathlib.Core.Path.{◌≡◌, refl, sym}
-use mathlib.Core.Bool.{◌&&◌, and_assoc, and-true}
-use Prim.Native.Nat.{◌-◌}
-use borrow.Author.Rules.{rules}
-use lib.ListN.{length, drop, drop_of_length-le}
+use mathlib.Core.Path.{refl, sym}
+use mathlib.Core.Bool.{and_assoc, and-true}
+use lib.ListN.{drop_of_length-le}
 use Rattle.text.proofs.bytes.is_ascii.Goals as goal
 
 pub loop-i-preserved : goal.loop-i-preserved

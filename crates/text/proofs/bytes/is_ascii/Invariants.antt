@@ -1,10 +1,8 @@
-use Rattle.text.proofs.Lists.{drop-cons-add-one}
 use Rattle.text.specs.Bytes.{ascii}
-use mathlib.Core.Path.{◌≡◌, refl, sym}
-use mathlib.Core.Bool.{◌&&◌, and_assoc, and-true}
+use mathlib.Core.Path.{◌≡◌}
+use mathlib.Core.Bool.{◌&&◌}
 use Prim.Native.Nat.{◌-◌}
-use borrow.Author.Rules.{rules}
-use lib.ListN.{length, drop, drop_of_length-le}
+use lib.ListN.{length, drop}
 use Rattle.text.proofs.bytes.is_ascii.Given as goal
 
 abbrev pub invariant-loop-i : goal.invariant-loop-i

@@ -4,7 +4,6 @@ use native.Mathlib.Omega.{arith}
 use borrow.Author.Tests.{lt-ltb, ne_eqb}
 use Rattle.text.specs.Bytes.{is_plain}
 use Rattle.text.proofs.Plain.{is_space_of_lt}
-use borrow.Author.Rules.{rules}
 use Rattle.text.proofs.bytes.is_plain.Goals as goal
 
 pub returns-then-b-gt32 : goal.returns-then-b-gt32

@@ -1,7 +1,6 @@
 -- `text::bytes::lower` meets its contract.
 use borrow.Author.Tests.{le-leb, lt-leb}
 use Rattle.text.specs.Bytes.{lower_of}
-use borrow.Author.Rules.{rules}
 use Rattle.text.proofs.bytes.lower.Goals as goal
 
 pub returns-then-b-lt65 : goal.returns-then-b-lt65

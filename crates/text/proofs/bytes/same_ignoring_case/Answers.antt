@@ -1,10 +1,10 @@
 -- `text::bytes::same_ignoring_case` meets its contract. The invariant: the answer for what is left of both texts is the answer for
 -- the whole.
-use mathlib.Core.Path.{◌≡◌, refl, sym}
-use Prim.Native.Nat.{◌-◌, ◌<◌, ◌≤◌}
+use mathlib.Core.Path.{refl, sym}
+use Prim.Native.Nat.{◌<◌, ◌≤◌}
 use borrow.Author.Rules.{rules}
 use borrow.Author.Tests.{eq-eqb, ne_eqb}
-use lib.ListN.{length, drop, drop_of_length-le}
+use lib.ListN.{length, drop_of_length-le}
 use Rattle.text.specs.Bytes.{same_letters}
 use Rattle.text.proofs.Lists.{drop-cons-add-one, same_letters_of_length}
 use Rattle.text.proofs.bytes.same_ignoring_case.Goals as goal

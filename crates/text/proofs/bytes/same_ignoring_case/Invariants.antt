@@ -1,10 +1,7 @@
-use mathlib.Core.Path.{◌≡◌, refl, sym}
-use Prim.Native.Nat.{◌-◌, ◌<◌, ◌≤◌}
-use borrow.Author.Rules.{rules}
-use borrow.Author.Tests.{eq-eqb, ne_eqb}
-use lib.ListN.{length, drop, drop_of_length-le}
+use mathlib.Core.Path.{◌≡◌}
+use Prim.Native.Nat.{◌-◌}
+use lib.ListN.{length, drop}
 use Rattle.text.specs.Bytes.{same_letters}
-use Rattle.text.proofs.Lists.{drop-cons-add-one, same_letters_of_length}
 use Rattle.text.proofs.bytes.same_ignoring_case.Given as goal
 
 abbrev pub invariant-loop-i : goal.invariant-loop-i

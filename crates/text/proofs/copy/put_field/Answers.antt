@@ -3,7 +3,6 @@ use native.Mathlib.Omega.{arith}
 use mathlib.Core.List.{[], ◌∷◌}
 use Rattle.text.specs.Lines.{tab}
 use Rattle.text.proofs.Behind.{put_at-behind}
-use borrow.Author.Rules.{rules}
 use Rattle.text.proofs.copy.put_field.Goals as goal
 
 pub returns : goal.returns

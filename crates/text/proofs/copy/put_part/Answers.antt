@@ -2,12 +2,11 @@
 -- as they were. The measure is what is left of the part.
 use mathlib.Core.Path.{◌≡◌, ap, ◌∙◌}
 use mathlib.Core.List.{List, ◌++◌}
-use Prim.Native.Nat.{ℕ, ◌+◌, ◌-◌, ◌≤◌, ◌<◌}
+use Prim.Native.Nat.{ℕ, ◌+◌, ◌<◌}
 use native.Mathlib.Omega.{arith}
 use native.Mathlib.Numerals.{add-one}
 use lib.ListN.{length, take, drop, set, get_or}
 use lib.Seq.{paste, paste-zero, paste-suc, length-paste, take-length}
-use borrow.Author.Rules.{rules}
 use Rattle.text.proofs.copy.put_part.Goals as goal
 
 pub loop-i-init : goal.loop-i-init

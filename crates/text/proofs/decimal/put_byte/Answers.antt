@@ -1,5 +1,4 @@
 -- `text::decimal::put_byte` meets its contract.
-use borrow.Author.Rules.{rules}
 use Rattle.text.proofs.Putting.{set-put}
 use Rattle.text.proofs.decimal.put_byte.Goals as goal
 

@@ -1,12 +1,8 @@
-use mathlib.Core.Path.{◌≡◌, refl, sym, ap, ◌∙◌}
-use mathlib.Core.List.{◌∷◌, ◌++◌}
-use Prim.Native.Nat.{ℕ, ◌-◌, ◌/◌, ◌≤◌, ◌<◌}
-use borrow.Author.Rules.{rules}
-use native.Mathlib.Omega.{arith}
-use lib.ListN.{length, take, drop}
+use mathlib.Core.Path.{◌≡◌}
+use Prim.Native.Nat.{◌-◌, ◌≤◌}
+use lib.ListN.{length}
 use Rattle.text.specs.Decimal.{decimal}
-use Rattle.text.proofs.Decimals.{length-decimal_of_le, length-decimal_of_lt, length-decimal_between, length-decimal-div, length-decimal-pos}
-use Rattle.text.proofs.Putting.{put, put_of_lt, put-two_of_le, put-two_of_lt, length-two-put}
+use Rattle.text.proofs.Putting.{put}
 use Rattle.text.proofs.decimal.put_decimal.Given as goal
 
 abbrev pub invariant-loop-v : goal.invariant-loop-v

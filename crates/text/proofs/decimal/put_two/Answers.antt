@@ -4,7 +4,6 @@ use mathlib.Core.List.{List, ◌∷◌, ◌++◌}
 use Prim.Native.Nat.{ℕ, ◌-◌}
 use lib.ListN.{take, drop}
 use Rattle.text.proofs.Putting.{two-put}
-use borrow.Author.Rules.{rules}
 use Rattle.text.proofs.decimal.put_two.Goals as goal
 
 pub returns : goal.returns

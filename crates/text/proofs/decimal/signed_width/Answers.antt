@@ -1,5 +1,5 @@
 -- `text::decimal::signed_width` meets its contract.
-use mathlib.Core.Path.{◌≡◌, ap, ◌∙◌}
+use mathlib.Core.Path.{ap, ◌∙◌}
 use Prim.Native.Nat.{ℕ}
 use native.Mathlib.Omega.{arith}
 use lib.IntN.{pos, nat_abs}
@@ -8,7 +8,6 @@ use mir.Syntax.{w64}
 use Rattle.ints.proofs.Machine.{lit, param, lt_yes, lt_no, nat_abs-le_of_SFits}
 use Rattle.text.specs.Decimal.{decimal}
 use Rattle.text.proofs.Signed.{length-signed_of_lt, length-signed_of_le, length_signed_le}
-use borrow.Author.Rules.{rules}
 use Rattle.text.proofs.decimal.signed_width.Goals as goal
 
 pub returns-then-z-lt0 : goal.returns-then-z-lt0

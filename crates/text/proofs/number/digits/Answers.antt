@@ -11,7 +11,6 @@ use Rattle.text.specs.Places.{run, leading, past}
 use Rattle.text.specs.Number.{digits_of, fit, plain_number}
 use Rattle.text.specs.declared.number.Number.TheVariants.{Nothing}
 use Rattle.text.proofs.Numbers.{digits_of_of_run-lt}
-use borrow.Author.Rules.{rules}
 use Rattle.text.proofs.number.digits.Goals as goal
 
 module _ (s : List ℕ) (from : ℕ) where

@@ -5,7 +5,6 @@ use native.Mathlib.Omega.{arith}
 use borrow.Author.Tests.{le-leb, lt-leb, leb-true, leb-false}
 use lib.Dec.{leb}
 use Rattle.text.proofs.Lists.{by_test}
-use borrow.Author.Rules.{rules}
 use Rattle.text.proofs.number.has_room.Goals as goal
 
 pub returns-then-v-tenth : goal.returns-then-v-tenth

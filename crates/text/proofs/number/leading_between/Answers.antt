@@ -15,7 +15,6 @@ use Rattle.text.specs.declared.number.Fitted.{Fitted}
 use Rattle.text.specs.declared.number.FittedInteger.TheVariants.{Nothing}
 use Rattle.text.proofs.Lists.{by_test, drop-cons-add-one}
 use Rattle.text.proofs.Numbers.{AtMost_of_fitted, signed_by-numeral}
-use borrow.Author.Rules.{rules}
 use Rattle.text.proofs.number.leading_between.Goals as goal
 
 -- nothing is left

@@ -1,5 +1,4 @@
 -- `text::number::leading_integer` meets its contract: it reads up to half of the width.
-use borrow.Author.Rules.{rules}
 use Rattle.text.proofs.number.leading_integer.Goals as goal
 
 pub returns : goal.returns

@@ -59,7 +59,7 @@ pub returns-else-has_room : goal.returns-else-has_room
 returns-else-has_room c =
     let a = c.args in
     let more = step a.s.now a.from a.limit c.loop-i.v c.loop-i.i c.loop-i.invariant.2 c.as_u64-d.result c.loop-i-test.true
-        (sym c.is_digit.ensures ∙ c.if-is_digit.true) c.as_u64-d.ensures in record {
+    (sym c.is_digit.ensures ∙ c.if-is_digit.true) c.as_u64-d.ensures in record {
       number_value = sym (over a.s.now a.from _ _ (c.loop-i.i + 1) more (leb-false _ _ (sym c.has_room.ensures ∙ c.if-has_room.false)));
       end_value = c.past-end.ensures ∙ sym c.loop-i.invariant.1;
     }

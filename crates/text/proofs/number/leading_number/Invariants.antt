@@ -1,18 +1,10 @@
-use mathlib.Core.Path.{◌≡◌, refl, sym, ap, ◌∙◌}
-use mathlib.Core.Bool.{true, cond}
+use mathlib.Core.Path.{◌≡◌}
 use mathlib.Core.List.{List}
-use Prim.Native.Nat.{ℕ, ◌≤◌, ◌<◌, ◌-◌, ◌+◌, ◌*◌}
-use native.Mathlib.Omega.{arith}
-use borrow.Author.Rules.{rules}
-use borrow.Author.Tests.{leb-true, leb-false}
-use lib.Dec.{ltb}
-use lib.ListN.{length, get_or, drop}
+use Prim.Native.Nat.{ℕ, ◌≤◌, ◌-◌}
+use lib.ListN.{length, drop}
 use Rattle.text.specs.Bytes.{is_digit}
 use Rattle.text.specs.Places.{leading, past}
-use Rattle.text.specs.Number.{digits_of, read_from, fitted}
-use Rattle.text.specs.declared.number.Fitted.TheVariants.{Value, TooLarge, Nothing}
-use Rattle.text.proofs.Runs.{past_of-true, past_of-false, past_of-length-le, length-leading, leading_of_past, leading_of_true}
-use Rattle.text.proofs.Numbers.{digit_range, read_from-cons, fitted-read_from_of_lt, fitted-digits_of_of_TooLarge, fitted-digits_of_of_length}
+use Rattle.text.specs.Number.{read_from, fitted}
 use Rattle.text.proofs.number.leading_number.Given as goal
 
 -- the answer, read on from v at i

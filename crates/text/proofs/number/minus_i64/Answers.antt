@@ -4,7 +4,6 @@ use native.Mathlib.Omega.{arith}
 use mir.Syntax.{w64}
 use mir.Facts.{to_z_pos, to_z-of_z}
 use Rattle.ints.proofs.Parts.{minus-one-sub, negℤ-pos}
-use borrow.Author.Rules.{rules}
 use Rattle.text.proofs.number.minus_i64.Goals as goal
 
 pub returns-then-v-eq0 : goal.returns-then-v-eq0

@@ -1,5 +1,4 @@
 -- `text::number::past_sign` meets its contract.
-use borrow.Author.Rules.{rules}
 use Rattle.text.proofs.number.past_sign.Goals as goal
 
 pub returns-then-signed : goal.returns-then-signed

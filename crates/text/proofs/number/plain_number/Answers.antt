@@ -1,5 +1,4 @@
 -- `text::number::plain_number` meets its contract: case by case.
-use borrow.Author.Rules.{rules}
 use Rattle.text.proofs.number.plain_number.Goals as goal
 
 pub returns-in-Value : goal.returns-in-Value

@@ -8,7 +8,6 @@ use lib.ListN.{length}
 use lib.Seq.{take_all}
 use Rattle.text.specs.Number.{signed_of, fit_signed, plain, half_of, numeral}
 use Rattle.text.proofs.Numbers.{signed_of_of_numeral-lt}
-use borrow.Author.Rules.{rules}
 use Rattle.text.proofs.number.signed_number.Goals as goal
 
 pub returns-then-read-s : goal.returns-then-read-s

@@ -7,7 +7,7 @@ use mir.Syntax.{w64}
 use mir.Facts.{to_z_pos, to_z-of_z}
 use Rattle.text.specs.declared.number.FittedInteger.TheVariants.{Is}
 use Rattle.text.proofs.Numbers.{fitted_signed-plus, fitted_signed-minus}
-use borrow.Author.Rules.{rules, sfits_of}
+use borrow.Author.Rules.{sfits_of}
 use Rattle.text.proofs.number.with_sign.Goals as goal
 
 pub minus_i64-requires : goal.minus_i64-requires

@@ -1,7 +1,6 @@
 -- `text::places::before` meets its contract: the first place of a byte is no later than the end of the text.
 use mathlib.Core.Path.{sym}
 use lib.Seq.{length-take-le}
-use borrow.Author.Rules.{rules}
 use Rattle.text.proofs.places.before.Goals as goal
 
 pub slice_bounds-result-end : goal.slice_bounds-result-end

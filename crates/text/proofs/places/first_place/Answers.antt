@@ -1,11 +1,8 @@
 -- `text::places::first_place` meets its contract. The invariant: i and the first place in what is left make the first place in the
 -- whole.
-use mathlib.Core.Path.{◌≡◌}
-use Prim.Native.Nat.{◌+◌, ◌-◌, ◌≤◌}
 use native.Mathlib.Omega.{arith}
-use borrow.Author.Rules.{rules}
 use borrow.Author.Tests.{eq-eqb, ne_eqb}
-use lib.ListN.{length, drop, drop_of_length-le}
+use lib.ListN.{drop_of_length-le}
 use Rattle.text.specs.Places.{first_place, run}
 use Rattle.text.proofs.Lists.{drop-cons-add-one}
 use Rattle.text.proofs.places.first_place.Goals as goal

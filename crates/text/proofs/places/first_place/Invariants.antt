@@ -1,11 +1,7 @@
 use mathlib.Core.Path.{◌≡◌}
 use Prim.Native.Nat.{◌+◌, ◌-◌, ◌≤◌}
-use native.Mathlib.Omega.{arith}
-use borrow.Author.Rules.{rules}
-use borrow.Author.Tests.{eq-eqb, ne_eqb}
-use lib.ListN.{length, drop, drop_of_length-le}
-use Rattle.text.specs.Places.{first_place, run}
-use Rattle.text.proofs.Lists.{drop-cons-add-one}
+use lib.ListN.{length, drop}
+use Rattle.text.specs.Places.{first_place}
 use Rattle.text.proofs.places.first_place.Given as goal
 
 abbrev pub invariant-loop-i : goal.invariant-loop-i

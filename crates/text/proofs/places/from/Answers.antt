@@ -1,7 +1,6 @@
 -- `text::places::from` meets its contract.
 use lib.ListN.{drop_of_length-le}
 use Rattle.text.proofs.Lists.{take-length-sub-drop}
-use borrow.Author.Rules.{rules}
 use Rattle.text.proofs.places.from.Goals as goal
 
 -- past the end: empty

@@ -1,12 +1,8 @@
 -- `text::places::has` meets its contract. The invariant: the bytes seen hold b or those that are left do, exactly if the whole
 -- does.
-use mathlib.Core.Path.{◌≡◌, refl, sym, ap, ◌∙◌}
+use mathlib.Core.Path.{refl, sym, ap, ◌∙◌}
 use mathlib.Core.Bool.{Bool, ◌||◌, or_assoc, or-false}
-use Prim.Native.Nat.{◌-◌}
-use lib.ListN.{length, drop}
-use Rattle.text.specs.Places.{has}
 use Rattle.text.proofs.Runs.{has_drop-cons, has_drop-nil}
-use borrow.Author.Rules.{rules}
 use Rattle.text.proofs.places.has.Goals as goal
 
 pub loop-i-preserved : goal.loop-i-preserved

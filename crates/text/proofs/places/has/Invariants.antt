@@ -1,10 +1,8 @@
-use mathlib.Core.Path.{◌≡◌, refl, sym, ap, ◌∙◌}
-use mathlib.Core.Bool.{Bool, ◌||◌, or_assoc, or-false}
+use mathlib.Core.Path.{◌≡◌}
+use mathlib.Core.Bool.{◌||◌}
 use Prim.Native.Nat.{◌-◌}
 use lib.ListN.{length, drop}
 use Rattle.text.specs.Places.{has}
-use Rattle.text.proofs.Runs.{has_drop-cons, has_drop-nil}
-use borrow.Author.Rules.{rules}
 use Rattle.text.proofs.places.has.Given as goal
 
 abbrev pub invariant-loop-i : goal.invariant-loop-i

@@ -1,7 +1,6 @@
 -- `text::scan::is_of` meets its contract.
 use mathlib.Core.Path.{ap}
 use mathlib.Core.Bool.{not}
-use borrow.Author.Rules.{rules}
 use Rattle.text.proofs.scan.is_of.Goals as goal
 
 pub returns-in-Space : goal.returns-in-Space

@@ -1,6 +1,5 @@
 -- `text::trim::trimmed` meets its contract.
 use Rattle.text.specs.Trim.{trim}
-use borrow.Author.Rules.{rules}
 use Rattle.text.proofs.trim.trimmed.Goals as goal
 
 pub returns : goal.returns

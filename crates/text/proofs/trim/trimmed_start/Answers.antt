@@ -9,7 +9,6 @@ use Rattle.text.specs.Places.{past}
 use Rattle.text.proofs.Lists.{take-length-sub-drop}
 use Rattle.text.proofs.Runs.{past-le-length}
 use Rattle.text.proofs.Trimming.{trim_start-past}
-use borrow.Author.Rules.{rules}
 use Rattle.text.proofs.trim.trimmed_start.Goals as goal
 
 within : (s : List ℕ) {i : ℕ} → i ≡ past is_space s 0 → i ≤ length s

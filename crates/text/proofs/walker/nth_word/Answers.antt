@@ -1,6 +1,5 @@
 -- `text::walker::nth_word` meets its contract.
 use Rattle.text.proofs.Walking.{get_or-words}
-use borrow.Author.Rules.{rules}
 use Rattle.text.proofs.walker.nth_word.Goals as goal
 
 -- no word is left past n words

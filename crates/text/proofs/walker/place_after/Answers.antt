@@ -1,11 +1,8 @@
 -- `text::walker::place_after` meets its contract. The invariant: the place past n words from `at` is the place past k words from
 -- i. The measure: k.
-use mathlib.Core.Path.{◌≡◌, refl, sym, ◌∙◌}
+use mathlib.Core.Path.{refl, sym, ◌∙◌}
 use native.Mathlib.Omega.{arith}
-use Rattle.text.specs.Words.{separator}
-use Rattle.text.specs.Walk.{passed}
 use Rattle.text.proofs.Walking.{passed_of_le-zero, passed_of_Nothing, passed_of_Word}
-use borrow.Author.Rules.{rules}
 use Rattle.text.proofs.walker.place_after.Goals as goal
 
 -- no word is left: the place stays the same

@@ -1,9 +1,6 @@
-use mathlib.Core.Path.{◌≡◌, refl, sym, ◌∙◌}
-use native.Mathlib.Omega.{arith}
+use mathlib.Core.Path.{◌≡◌}
 use Rattle.text.specs.Words.{separator}
 use Rattle.text.specs.Walk.{passed}
-use Rattle.text.proofs.Walking.{passed_of_le-zero, passed_of_Nothing, passed_of_Word}
-use borrow.Author.Rules.{rules}
 use Rattle.text.proofs.walker.place_after.Given as goal
 
 abbrev pub invariant-loop-k : goal.invariant-loop-k

@@ -5,7 +5,6 @@ use Prim.Native.Nat.{◌≤◌, ◌-◌}
 use native.Mathlib.Omega.{arith}
 use lib.ListN.{length, drop, length-drop, drop_of_length-le}
 use lib.Seq.{take-nil, take_all}
-use borrow.Author.Rules.{rules}
 use Rattle.text.proofs.words.within.Goals as goal
 
 pub returns-then-e-a : goal.returns-then-e-a

@@ -2,7 +2,6 @@
 use mathlib.Core.Path.{◌∙◌}
 use Rattle.text.specs.Bytes.{is_alphanumeric}
 use Rattle.text.proofs.Runs.{past_no_no}
-use borrow.Author.Rules.{rules}
 use Rattle.text.proofs.words.word_end.Goals as goal
 
 pub returns-in-Space : goal.returns-in-Space

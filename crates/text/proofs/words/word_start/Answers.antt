@@ -1,5 +1,4 @@
 -- `text::words::word_start` meets its contract.
-use borrow.Author.Rules.{rules}
 use Rattle.text.proofs.words.word_start.Goals as goal
 
 pub returns-in-Space : goal.returns-in-Space

@@ -8,7 +8,6 @@ use lib.ListN.{length}
 use Rattle.text.specs.Places.{no, past}
 use Rattle.text.specs.Words.{take_word}
 use Rattle.text.specs.declared.words.Taken.TheVariants.{Word, Nothing}
-use borrow.Author.Rules.{rules}
 use Rattle.text.proofs.words.Words.take.Goals as goal
 
 module _ (p : ℕ → Bool) (s : List ℕ) (at start : ℕ) (e : start ≡ past p s at) where
