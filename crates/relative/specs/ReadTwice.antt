@@ -1,7 +1,7 @@
 -- RULES 12.11: one count of months or years, read at two current times: how it is typed, and what is asked of the two times. No
 -- contract cites these.
 -- Assumes nothing.
-use Rattle.std.specs.Prelude.{ℕ, ◌-◌, ◌≡◌, Bool, true, false, List, [], ◌∷◌, ℤ, pos, ◌-ℤ◌, ◌≤ℤ◌}
+use Rattle.std.specs.Prelude.{ℕ, ◌-◌, ◌≡◌, Bool, true, false, List, [], ◌∷◌, pos, ◌-ℤ◌, ◌≤ℤ◌}
 use Rattle.text.specs.Bytes.{ascii}
 use Rattle.text.specs.declared.number.Number.TheVariants.{Value}
 use Rattle.time.specs.declared.Time.{Time}

@@ -1,7 +1,7 @@
 -- `relative::parse_pairs` meets its contract. The verdict is on the text's pairs, so the cases of `by_pairs` are those of the code.
 use mathlib.Core.Path.{◌≡◌, sym, ap, ◌∙◌}
 use mathlib.Core.Bool.{◌||◌}
-use Prim.Native.Nat.{ℕ, ◌≤◌}
+use Prim.Native.Nat.{◌≤◌}
 use native.Mathlib.Omega.{arith}
 use lib.ListN.{length}
 use Rattle.time.specs.declared.range.Moved.{Moved}

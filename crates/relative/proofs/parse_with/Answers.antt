@@ -1,6 +1,5 @@
 -- `relative::parse_with` meets its contract.
 use Rattle.relative.specs.Relative.{relative_of}
-use borrow.Author.Rules.{rules}
 use Rattle.relative.proofs.parse_with.Goals as goal
 
 pub returns-in_default : goal.returns-in_default

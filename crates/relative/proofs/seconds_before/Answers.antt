@@ -2,7 +2,6 @@
 use mathlib.Core.Path.{sym, ◌∙◌}
 use Rattle.relative.specs.Steps.{steps, step, landing}
 use Rattle.relative.proofs.Cases.{from_of_start}
-use borrow.Author.Rules.{rules}
 use Rattle.relative.proofs.seconds_before.Goals as goal
 
 pub seconds_back-requires : goal.seconds_back-requires

@@ -1,6 +1,5 @@
 -- `relative::steps::answer` meets its contract: a landing is in range, so that its time is the answer.
 use mathlib.Core.Path.{◌∙◌}
-use borrow.Author.Rules.{rules}
 use Rattle.time.proofs.Ranges.{answer_at_of_InRange}
 use Rattle.relative.proofs.steps.answer.Goals as goal
 

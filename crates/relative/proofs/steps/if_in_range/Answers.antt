@@ -2,7 +2,6 @@
 use mathlib.Core.Path.{sym, ◌∙◌}
 use Rattle.relative.specs.Steps.{landed}
 use Rattle.time.proofs.Ranges.{range_of_seconds_in_range}
-use borrow.Author.Rules.{rules}
 use Rattle.relative.proofs.steps.if_in_range.Goals as goal
 
 pub returns-then-in_range : goal.returns-then-in_range

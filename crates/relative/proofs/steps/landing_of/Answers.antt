@@ -1,5 +1,4 @@
 -- `relative::steps::landing_of` meets its contract.
-use borrow.Author.Rules.{rules}
 use Rattle.relative.proofs.steps.landing_of.Goals as goal
 
 pub returns-in-From : goal.returns-in-From

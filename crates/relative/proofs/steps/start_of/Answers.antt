@@ -2,7 +2,6 @@
 use mathlib.Core.Path.{sym}
 use Rattle.relative.specs.Held.{start_of}
 use Rattle.relative.proofs.Cases.{start_of-moved_of}
-use borrow.Author.Rules.{rules}
 use Rattle.relative.proofs.steps.start_of.Goals as goal
 
 pub returns-in_default : goal.returns-in_default

@@ -2,7 +2,6 @@
 use mathlib.Core.Path.{sym, ◌∙◌}
 use Rattle.relative.specs.Words.{count_of}
 use Rattle.relative.proofs.Counts.{spelled_of_digits}
-use borrow.Author.Rules.{rules}
 use Rattle.relative.proofs.words.count.Goals as goal
 
 -- no digits: a name, or no count

@@ -1,5 +1,4 @@
 -- `relative::words::named` meets its contract.
-use borrow.Author.Rules.{rules}
 use Rattle.relative.proofs.words.named.Goals as goal
 
 pub returns-then-same_ignoring_case : goal.returns-then-same_ignoring_case

@@ -1,6 +1,5 @@
 -- `relative::words::spelled` meets its contract: the names are tried from the last to the first, and the first decides.
 use Rattle.relative.specs.Words.{spelled}
-use borrow.Author.Rules.{rules}
 use Rattle.relative.proofs.words.spelled.Goals as goal
 
 pub returns : goal.returns

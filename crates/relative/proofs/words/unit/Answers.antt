@@ -1,6 +1,5 @@
 -- `relative::words::unit` meets its contract.
 use Rattle.relative.specs.Words.{unit_of}
-use borrow.Author.Rules.{rules}
 use Rattle.relative.proofs.words.unit.Goals as goal
 
 pub returns : goal.returns
