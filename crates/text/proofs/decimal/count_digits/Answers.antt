@@ -26,28 +26,28 @@ right : ℕ → Bool
 right m = leb (10 ^ estimate m) (5 * 2 ^ m) && leb (2 ^ m) (10 ^ suc (estimate m))
 
 -- a test at every number below n
-everyBelow : (ℕ → Bool) → ℕ → Bool
-everyBelow f zero = true
-everyBelow f (suc n) = f n && everyBelow f n
+every_below : (ℕ → Bool) → ℕ → Bool
+every_below f zero = true
+every_below f (suc n) = f n && every_below f n
 
-everyBelow-at : (f : ℕ → Bool) (n : ℕ) → T (everyBelow f n) → (m : ℕ) → m < n → T (f m)
-unfolding everyBelow
-everyBelow-at f zero t m h = absurd (not-suc-le-zero h)
-everyBelow-at f (suc n) t m h =
-    let p = and_yes (f n) (everyBelow f n) t in
-    by_test (ltb m n) (λ e. everyBelow-at f n p.1 m (ltb-true m n e))
+every_below-at : (f : ℕ → Bool) (n : ℕ) → T (every_below f n) → (m : ℕ) → m < n → T (f m)
+unfolding every_below
+every_below-at f zero t m h = absurd (not-suc-le-zero h)
+every_below-at f (suc n) t m h =
+    let p = and_yes (f n) (every_below f n) t in
+    by_test (ltb m n) (λ e. every_below-at f n p.1 m (ltb-true m n e))
     (λ e.
     let q : m ≡ n = omega (arith, ltb-false m n e) in
     rw q p.0)
 
-right-up-to-64 : T (everyBelow right 65)
-unfolding everyBelow right
+right-up-to-64 : T (every_below right 65)
+unfolding every_below right
 right-up-to-64 = tt
 
 right-at : (m : ℕ) → m ≤ 64 → (10 ^ estimate m ≤ 5 * 2 ^ m) × (2 ^ m ≤ 10 ^ suc (estimate m))
 unfolding right
 right-at m h =
-    let t = and_yes (leb (10 ^ estimate m) (5 * 2 ^ m)) (leb (2 ^ m) (10 ^ suc (estimate m))) (everyBelow-at right 65 right-up-to-64 m (omega arith)) in
+    let t = and_yes (leb (10 ^ estimate m) (5 * 2 ^ m)) (leb (2 ^ m) (10 ^ suc (estimate m))) (every_below-at right 65 right-up-to-64 m (omega arith)) in
     (leb→le (10 ^ estimate m) (5 * 2 ^ m) t.0, leb→le (2 ^ m) (10 ^ suc (estimate m)) t.1)
 
 -- ---- the comparison settles it, for a number v of m bits

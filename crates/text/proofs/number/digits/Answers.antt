@@ -14,9 +14,9 @@ use Rattle.text.proofs.Numbers.{digits_of_of_run-lt}
 use Rattle.text.proofs.number.digits.Goals as goal
 
 module _ (s : List ℕ) (from : ℕ) where
-  digitsOf-of-past-lt : past is_digit s from < length s → digits_of (drop from s) ≡ Nothing
+  digits_of_of_past-lt : past is_digit s from < length s → digits_of (drop from s) ≡ Nothing
   unfolding past
-  digitsOf-of-past-lt h = digits_of_of_run-lt (drop from s) (omega (arith, length-drop from s))
+  digits_of_of_past-lt h = digits_of_of_run-lt (drop from s) (omega (arith, length-drop from s))
 
   leading-of-past-le : length s ≤ past is_digit s from → leading is_digit (drop from s) ≡ drop from s
   unfolding past
@@ -26,7 +26,7 @@ module _ (s : List ℕ) (from : ℕ) where
 
 pub returns-then-read-s : goal.returns-then-read-s
 unfolding fit
-returns-then-read-s c = rw (digitsOf-of-past-lt _ _ (rw c.leading_number-read.ensures.end_value at c.if-read-s.true))
+returns-then-read-s c = rw (digits_of_of_past-lt _ _ (rw c.leading_number-read.ensures.end_value at c.if-read-s.true))
 
 pub returns : goal.returns
 unfolding fit

@@ -11,16 +11,16 @@ use Rattle.text.specs.declared.words.Taken.TheVariants.{Word, Nothing}
 use Rattle.text.proofs.words.Words.take.Goals as goal
 
 module _ (p : ℕ → Bool) (s : List ℕ) (at start : ℕ) (e : start ≡ past p s at) where
-  takeWord-of-lt : (end : ℕ) → start < length s → end ≡ past (no p) s start → Word (record { start = start; end = end }) (record { at = end }) ≡ take_word p s at
+  take_word_of_lt : (end : ℕ) → start < length s → end ≡ past (no p) s start → Word (record { start = start; end = end }) (record { at = end }) ≡ take_word p s at
   unfolding take_word
-  takeWord-of-lt end h f = rw (← e, lt-ltb _ _ h, ← f)
+  take_word_of_lt end h f = rw (← e, lt-ltb _ _ h, ← f)
 
-  takeWord-of-le : length s ≤ start → Nothing ≡ take_word p s at
+  take_word_of_le : length s ≤ start → Nothing ≡ take_word p s at
   unfolding take_word
-  takeWord-of-le h = rw (← e, le-ltb _ _ h)
+  take_word_of_le h = rw (← e, le-ltb _ _ h)
 
 pub returns-then-start-s : goal.returns-then-start-s
-returns-then-start-s c = takeWord-of-lt _ _ _ _ c.word_start-start.ensures _ c.if-start-s.true c.word_end-end.ensures
+returns-then-start-s c = take_word_of_lt _ _ _ _ c.word_start-start.ensures _ c.if-start-s.true c.word_end-end.ensures
 
 pub returns : goal.returns
-returns c = takeWord-of-le _ _ _ _ c.word_start-start.ensures c.if-start-s.false
+returns c = take_word_of_le _ _ _ _ c.word_start-start.ensures c.if-start-s.false
