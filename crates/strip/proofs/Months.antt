@@ -4,7 +4,7 @@
 use mathlib.Core.Path.{◌≡◌, sym, ap, subst, ◌∙◌}
 use Prim.Native.Nat.{ℕ, ◌≤◌, ◌<◌}
 use native.Mathlib.Omega.{arith}
-use mathlib.Core.Bool.{false, and_false}
+use mathlib.Core.Bool.{false, and-false}
 use lib.IntN.{ℤ, pos, negsuc, nat_abs, ◌+ℤ◌}
 use lib.Signed.{◌≤ℤ◌, pos-nat_abs, yes_non_neg}
 use Rattle.ints.specs.Range.{In, is_in}
@@ -23,7 +23,7 @@ month_in_of_year y m e = rw e
 
 pub month_in_of_month : (y m : ℤ) → is_in (pos 1) (pos 12) m ≡ false → month_in y m ≡ Nothing
 unfolding month_in
-month_in_of_month y m e = rw (e, and_false)
+month_in_of_month y m e = rw (e, and-false)
 
 pub month_in_of_In : (y m : ℤ) → In (negsuc 9998) (pos 9999) y → In (pos 1) (pos 12) m → month_in y m ≡ At (month_number (year_count y) (nat_abs m))
 unfolding month_in

@@ -4,7 +4,7 @@
 -- the strip's (`weeks_of_is`, `days_of_is`).
 -- Assumes nothing.
 use mathlib.Core.Path.{◌≡◌, sym, ap, ◌∙◌}
-use mathlib.Core.Bool.{and_false}
+use mathlib.Core.Bool.{and-false}
 use Prim.Native.Nat.{ℕ, ◌+◌, ◌*◌, ◌-◌, ◌%◌, ◌≤◌, ◌<◌}
 use native.Mathlib.Omega.{arith}
 use native.Mathlib.Decide.{dec_lt}
@@ -31,7 +31,7 @@ number_from_at b n i h l = rw (le-leb b i h, lt-ltb i (b + n) l)
 
 pub number_from-behind : (b n i : ℕ) → b + n ≤ i → number_from b n i ≡ 0
 unfolding number_from
-number_from-behind b n i h = rw (le-ltb i (b + n) h, and_false)
+number_from-behind b n i h = rw (le-ltb i (b + n) h, and-false)
 
 -- ---- rows
 

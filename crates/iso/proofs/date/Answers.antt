@@ -7,7 +7,6 @@ use Rattle.ints.specs.Range.{In}
 use Rattle.ints.proofs.Machine.{param, lit, known, from, add, fits, read, unsign, lt_yes, lt_no, inside, is_in_of_lt, is_in_of_gt}
 use Rattle.calendar.specs.Dates.{day_number}
 use Rattle.iso.proofs.Instants.{day_of-month, day_of-day, day_of-year, day_of-value}
-use borrow.Author.Rules.{rules}
 use Rattle.iso.proofs.date.Goals as goal
 use Rattle.iso.proofs.date.Goals.{Else-y-gt-MOST_YEAR}
 

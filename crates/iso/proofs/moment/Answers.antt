@@ -1,5 +1,5 @@
 -- `iso::moment` meets its contract: the instant is far within 64 bits.
-use mathlib.Core.Path.{◌≡◌, sym, ap, ◌∙◌}
+use mathlib.Core.Path.{sym, ap, ◌∙◌}
 use Prim.Native.Nat.{◌+◌, ◌*◌, ◌≤◌, ◌<◌}
 use native.Mathlib.Omega.{arith}
 use lib.IntN.{pos, negsuc, ◌-ℤ◌}
@@ -11,7 +11,6 @@ use Rattle.time.specs.Answers.{time_at}
 use Rattle.time.specs.Range.{seconds_in_range, since1970}
 use Rattle.time.specs.declared.Answer.TheVariants.{Time}
 use Rattle.iso.proofs.Instants.{moment_of_no_day, moment_of-out, moment_of_in}
-use borrow.Author.Rules.{rules}
 use Rattle.iso.proofs.moment.Goals as goal
 use Rattle.iso.proofs.moment.Goals.{In-At}
 

@@ -5,7 +5,6 @@ use Rattle.ints.proofs.Machine.{known, In_of_At, back}
 use Rattle.iso.proofs.FormFields.{FieldsIn_of_Are}
 use Rattle.iso.proofs.Instants.{zoned_parts, iso_of-not-ascii, iso_of-missing, iso_of_are}
 use native.Mathlib.Omega.{arith}
-use borrow.Author.Rules.{rules}
 use Rattle.iso.proofs.parse_git_date_format_with.Goals as goal
 
 -- no form

@@ -1,11 +1,9 @@
 -- `strip::days_of` meets its contract. The invariant: the places up to the next one have their numbers.
 use mathlib.Core.Path.{◌≡◌}
-use Prim.Native.Nat.{suc, ◌+◌, ◌-◌}
+use Prim.Native.Nat.{suc, ◌+◌}
 use native.Mathlib.Nat.{not-suc-le-zero}
 use native.Mathlib.Omega.{arith}
-use borrow.Author.Rules.{rules}
-use Rattle.strip.specs.Held.{number_from}
-use Rattle.strip.proofs.Filling.{Filled, Filled-zeros, Filled-set, along_of_Filled}
+use Rattle.strip.proofs.Filling.{Filled-zeros, Filled-set, along_of_Filled}
 use Rattle.strip.proofs.days_of.Goals as goal
 
 pub loop-place-init : goal.loop-place-init

@@ -1,10 +1,6 @@
-use mathlib.Core.Path.{◌≡◌}
-use Prim.Native.Nat.{suc, ◌+◌, ◌-◌}
-use native.Mathlib.Nat.{not-suc-le-zero}
-use native.Mathlib.Omega.{arith}
-use borrow.Author.Rules.{rules}
+use Prim.Native.Nat.{◌-◌}
 use Rattle.strip.specs.Held.{number_from}
-use Rattle.strip.proofs.Filling.{Filled, Filled-zeros, Filled-set, along_of_Filled}
+use Rattle.strip.proofs.Filling.{Filled}
 use Rattle.strip.proofs.days_of.Given as goal
 
 abbrev pub invariant-loop-place : goal.invariant-loop-place

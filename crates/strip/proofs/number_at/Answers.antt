@@ -1,7 +1,6 @@
 -- `strip::number_at` meets its contract: before the month, behind it, and in it.
 use mathlib.Core.Path.{sym}
 use native.Mathlib.Omega.{arith}
-use borrow.Author.Rules.{rules}
 use Rattle.strip.proofs.Places.{number_from-before, number_from_at, number_from-behind}
 use Rattle.strip.proofs.number_at.Goals as goal
 

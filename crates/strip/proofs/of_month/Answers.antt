@@ -1,7 +1,6 @@
 -- `strip::of_month` meets its contract: it is the call with the table, which it builds.
 use mir.Syntax.{w64}
 use mir.Facts.{to_z-of_z}
-use borrow.Author.Rules.{rules}
 use Rattle.strip.proofs.of_month.Goals as goal
 
 pub returns : goal.returns

@@ -3,7 +3,6 @@
 use mathlib.Core.Path.{◌≡◌, sym, ap, ◌∙◌}
 use Prim.Native.Nat.{◌*◌, ◌/◌}
 use native.Mathlib.Omega.{arith}
-use borrow.Author.Rules.{rules}
 use Rattle.calendar.specs.Calendar.{first_day, year_start, year_of, month_of}
 use Rattle.calendar.specs.Dates.{date_of}
 use Rattle.calendar.specs.declared.Date.{Date}

@@ -1,10 +1,10 @@
 -- `strip::weeks_of` meets its contract. The invariant: the rows before the next have their weeks, the others 0, and the next one begins on `day`.
 use mathlib.Core.Path.{◌≡◌, sym, ◌∙◌}
-use Prim.Native.Nat.{suc, ◌+◌, ◌*◌, ◌-◌, ◌%◌}
+use Prim.Native.Nat.{suc, ◌+◌, ◌*◌}
 use native.Mathlib.Nat.{not-suc-le-zero}
 use native.Mathlib.Omega.{arith}
 use Rattle.strip.specs.Held.{week_from}
-use Rattle.strip.proofs.Filling.{Filled, Filled-zeros, Filled-set, along_of_Filled}
+use Rattle.strip.proofs.Filling.{Filled-zeros, Filled-set, along_of_Filled}
 use Rattle.strip.proofs.Places.{week_from_in, week_from-behind}
 use Rattle.strip.specs.Weeks.{weekday}
 use Rattle.strip.proofs.weeks_of.Goals as goal

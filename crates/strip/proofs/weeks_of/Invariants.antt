@@ -1,11 +1,7 @@
-use mathlib.Core.Path.{◌≡◌, sym, ◌∙◌}
-use Prim.Native.Nat.{suc, ◌+◌, ◌*◌, ◌-◌, ◌%◌}
-use native.Mathlib.Nat.{not-suc-le-zero}
-use native.Mathlib.Omega.{arith}
+use mathlib.Core.Path.{◌≡◌}
+use Prim.Native.Nat.{◌+◌, ◌*◌, ◌-◌}
 use Rattle.strip.specs.Held.{week_from}
-use Rattle.strip.proofs.Filling.{Filled, Filled-zeros, Filled-set, along_of_Filled}
-use Rattle.strip.proofs.Places.{week_from_in, week_from-behind}
-use Rattle.strip.specs.Weeks.{weekday}
+use Rattle.strip.proofs.Filling.{Filled}
 use Rattle.strip.proofs.weeks_of.Given as goal
 
 abbrev pub invariant-loop-day : goal.invariant-loop-day

@@ -4,7 +4,6 @@ use Prim.Native.Nat.{◌≤◌}
 use native.Mathlib.Omega.{arith}
 use Rattle.text.proofs.Numbers.{fit_value-le}
 use Rattle.iso.proofs.Times.{clock_value, clock-not-hour, clock-not-minute, clock-not-second}
-use borrow.Author.Rules.{rules}
 use Rattle.iso.proofs.clock.clock.Goals as goal
 
 hour-le : (c : goal.In-Value-unsigned_number-2) → c.in-Value.hour ≤ 23

@@ -2,8 +2,6 @@
 use mathlib.Core.Path.{sym, ◌∙◌}
 use lib.Seq.{length-take-le}
 use Rattle.iso.proofs.Times.{colon_time-third, colon_time-second}
-use Rattle.text.specs.Places.{before}
-use borrow.Author.Rules.{rules}
 use Rattle.iso.proofs.clock.colon_time.Goals as goal
 
 pub slice_bounds-clock-end : goal.slice_bounds-clock-end

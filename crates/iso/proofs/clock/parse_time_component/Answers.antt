@@ -2,7 +2,6 @@
 use mathlib.Core.Path.{sym, ◌∙◌}
 use lib.Seq.{length-take-le}
 use Rattle.iso.proofs.Times.{iso_time-colon, iso_time-plain}
-use borrow.Author.Rules.{rules}
 use Rattle.iso.proofs.clock.parse_time_component.Goals as goal
 
 pub slice_bounds-colon_time-end : goal.slice_bounds-colon_time-end

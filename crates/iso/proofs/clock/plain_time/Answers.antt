@@ -1,7 +1,6 @@
 -- `iso::clock::plain_time` meets its contract.
 use borrow.Author.Tests.{eq-eqb, ne_eqb}
 use Rattle.iso.specs.Clock.{plain_time}
-use borrow.Author.Rules.{rules}
 use Rattle.iso.proofs.clock.plain_time.Goals as goal
 
 -- HH

@@ -1,9 +1,8 @@
 -- `iso::cut::block_end` meets its contract. The invariant: no space stands from e on. The measure is e.
 use mathlib.Core.Path.{sym, ◌∙◌}
 use native.Mathlib.Omega.{arith}
-use Rattle.text.specs.Places.{last_place, opens_with}
-use Rattle.text.proofs.Runs.{None, none_before_block}
-use borrow.Author.Rules.{rules}
+use Rattle.text.specs.Places.{last_place}
+use Rattle.text.proofs.Runs.{none_before_block}
 use Rattle.iso.proofs.cut.block_end.Goals as goal
 
 pub loop-e-init : goal.loop-e-init

@@ -1,8 +1,5 @@
-use mathlib.Core.Path.{sym, ◌∙◌}
-use native.Mathlib.Omega.{arith}
-use Rattle.text.specs.Places.{last_place, opens_with}
-use Rattle.text.proofs.Runs.{None, none_before_block}
-use borrow.Author.Rules.{rules}
+use Rattle.text.specs.Places.{opens_with}
+use Rattle.text.proofs.Runs.{None}
 use Rattle.iso.proofs.cut.block_end.Given as goal
 
 abbrev pub invariant-loop-e : goal.invariant-loop-e

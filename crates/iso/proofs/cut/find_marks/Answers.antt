@@ -6,13 +6,12 @@ use mathlib.Core.List.{List}
 use Prim.Native.Nat.{ℕ}
 use native.Mathlib.Nat.{le_refl}
 use native.Mathlib.Omega.{arith}
-use borrow.Author.Rules.{rules}
 use borrow.Author.Tests.{eq-eqb, ne_eqb}
 use lib.ListN.{length, get_or, drop, drop_of_length-le}
 use Rattle.text.specs.Bytes.{is_digit, is_sign}
 use Rattle.text.specs.Places.{last_place, opens_with}
 use Rattle.text.proofs.Lists.{drop-sub-one}
-use Rattle.text.proofs.Runs.{None, none_at_end, last-here, none_before}
+use Rattle.text.proofs.Runs.{none_at_end, last-here, none_before}
 use Rattle.iso.specs.Cut.{is_offset}
 use Rattle.iso.proofs.Marks.{sign_here, sign_before}
 use Rattle.iso.proofs.cut.find_marks.Goals as goal

@@ -6,7 +6,6 @@ use Rattle.text.proofs.Lists.{take-length-sub-drop}
 use Rattle.text.proofs.Runs.{last_where-le-length}
 use Rattle.iso.specs.Cut.{is_signed, splits_at_space}
 use Rattle.iso.proofs.Cuts.{splits_at_space_of_le, splits_at_space_of_lt, is_signed_of_lt, is_signed_of_length}
-use borrow.Author.Rules.{rules}
 use Rattle.iso.proofs.cut.is_spaced.Goals as goal
 use Rattle.iso.proofs.cut.is_spaced.Goals.{After-trimmed-rest}
 

@@ -2,12 +2,7 @@
 -- is at e. The measure is e.
 use mathlib.Core.Path.{◌≡◌, sym}
 use native.Mathlib.Omega.{arith}
-use borrow.Author.Rules.{rules}
-use lib.ListN.{get_or, drop}
-use Rattle.text.specs.Bytes.{is_digit}
 use Rattle.text.proofs.Lists.{drop-sub-one}
-use Rattle.text.proofs.Runs.{None}
-use Rattle.iso.specs.Cut.{is_offset}
 use Rattle.iso.proofs.Marks.{sign_here, sign_before}
 use Rattle.iso.proofs.cut.last_sign.Goals as goal
 

@@ -3,8 +3,7 @@ use mathlib.Core.Path.{◌≡◌, sym}
 use native.Mathlib.Omega.{arith}
 use borrow.Author.Tests.{eq-eqb, ne_eqb}
 use Rattle.text.specs.Places.{last_place, opens_with}
-use Rattle.text.proofs.Runs.{None, last-here, none_before}
-use borrow.Author.Rules.{rules}
+use Rattle.text.proofs.Runs.{last-here, none_before}
 use Rattle.iso.proofs.cut.last_space.Goals as goal
 
 pub loop-e-init : goal.loop-e-init

@@ -1,9 +1,5 @@
-use mathlib.Core.Path.{◌≡◌, sym}
-use native.Mathlib.Omega.{arith}
-use borrow.Author.Tests.{eq-eqb, ne_eqb}
-use Rattle.text.specs.Places.{last_place, opens_with}
-use Rattle.text.proofs.Runs.{None, last-here, none_before}
-use borrow.Author.Rules.{rules}
+use Rattle.text.specs.Places.{opens_with}
+use Rattle.text.proofs.Runs.{None}
 use Rattle.iso.proofs.cut.last_space.Given as goal
 
 abbrev pub invariant-loop-e : goal.invariant-loop-e

@@ -1,7 +1,6 @@
 -- `iso::forms::dashed` meets its contract.
 use Rattle.text.proofs.Lists.{take-length-sub-drop}
 use Rattle.iso.proofs.FormFields.{dotted_yes}
-use borrow.Author.Rules.{rules}
 use Rattle.iso.proofs.forms.dashed.Goals as goal
 
 pub returns : goal.returns

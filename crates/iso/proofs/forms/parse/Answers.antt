@@ -1,7 +1,6 @@
 -- `iso::forms::parse` meets its contract.
 use mathlib.Core.Path.{sym, ◌∙◌}
 use Rattle.iso.proofs.FormFields.{form_of-dotted, form_of-compact, form_of-flexible, FieldsIn_of_Are}
-use borrow.Author.Rules.{rules}
 use Rattle.iso.proofs.forms.parse.Goals as goal
 
 -- dotted

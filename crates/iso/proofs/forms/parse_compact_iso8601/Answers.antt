@@ -5,7 +5,6 @@ use native.Mathlib.Omega.{arith}
 use lib.ListN.{length}
 use lib.Seq.{length-take-le}
 use Rattle.iso.proofs.FormFields.{compact_short, compact_no, compact_yes}
-use borrow.Author.Rules.{rules}
 use Rattle.iso.proofs.forms.parse_compact_iso8601.Goals as goal
 
 -- too short

@@ -5,7 +5,6 @@ use native.Mathlib.Omega.{arith}
 use lib.ListN.{length}
 use lib.Seq.{length-take-le}
 use Rattle.iso.proofs.FormFields.{flexible_short, flexible_four, flexible_seven, flexible_ten, flexible_yes}
-use borrow.Author.Rules.{rules}
 use Rattle.iso.proofs.forms.parse_flexible_iso8601.Goals as goal
 
 -- too short

@@ -2,7 +2,6 @@
 use mathlib.Core.Path.{sym}
 use lib.Seq.{length-take-le}
 use Rattle.iso.proofs.FormFields.{dotted_short, dotted_no, dotted_four, dotted_seven, is_dotted-yes}
-use borrow.Author.Rules.{rules}
 use Rattle.iso.proofs.forms.parse_iso8601_dots.Goals as goal
 
 -- too short

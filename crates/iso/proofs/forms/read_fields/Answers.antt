@@ -2,7 +2,6 @@
 use mathlib.Core.Path.{sym, ◌∙◌}
 use lib.Seq.{length-take-le}
 use Rattle.iso.proofs.FormFields.{read_fields-parts}
-use borrow.Author.Rules.{rules}
 use Rattle.iso.proofs.forms.read_fields.Goals as goal
 
 pub slice_bounds-before-end : goal.slice_bounds-before-end

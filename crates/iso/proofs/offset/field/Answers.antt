@@ -7,7 +7,6 @@ use Rattle.ints.proofs.Machine.{In_of_At, known, param, le_yes, le_no}
 use Rattle.text.specs.declared.number.Integer.TheVariants.{Is}
 use Rattle.iso.specs.Parts.{int32}
 use Rattle.iso.proofs.Offsets.{int32-two-within, In_of_Within, up_to-not, up_to-value, up_to-over}
-use borrow.Author.Rules.{rules}
 use Rattle.iso.proofs.offset.field.Goals as goal
 use Rattle.iso.proofs.offset.field.Goals.{In-Is}
 

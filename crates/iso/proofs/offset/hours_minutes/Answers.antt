@@ -1,12 +1,11 @@
 -- `iso::offset::hours_minutes` meets its contract. The invariant: the first n of f, and the bytes left at i that are no colons, are
 -- all of these. The measure is what is left of the text.
 use mathlib.Core.Path.{◌≡◌, refl, sym, ap, ◌∙◌}
-use mathlib.Core.List.{◌++◌}
-use Prim.Native.Nat.{◌-◌, ◌≤◌, ◌<◌}
+use Prim.Native.Nat.{◌≤◌, ◌<◌}
 use native.Mathlib.Omega.{arith}
 use borrow.Author.Rules.{rules}
 use borrow.Author.Tests.{eq-eqb, ne_eqb}
-use lib.ListN.{length, take, drop, length-set}
+use lib.ListN.{length, take, length-set}
 use lib.Seq.{length-take-le}
 use Rattle.iso.specs.Parts.{without}
 use Rattle.iso.proofs.Places.{kept_skip, kept_on, kept_over, kept_end}

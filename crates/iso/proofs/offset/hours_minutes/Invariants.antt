@@ -1,14 +1,8 @@
-use mathlib.Core.Path.{◌≡◌, refl, sym, ap, ◌∙◌}
+use mathlib.Core.Path.{◌≡◌}
 use mathlib.Core.List.{◌++◌}
-use Prim.Native.Nat.{◌-◌, ◌≤◌, ◌<◌}
-use native.Mathlib.Omega.{arith}
-use borrow.Author.Rules.{rules}
-use borrow.Author.Tests.{eq-eqb, ne_eqb}
-use lib.ListN.{length, take, drop, length-set}
-use lib.Seq.{length-take-le}
+use Prim.Native.Nat.{◌-◌, ◌≤◌}
+use lib.ListN.{length, take, drop}
 use Rattle.iso.specs.Parts.{without}
-use Rattle.iso.proofs.Places.{kept_skip, kept_on, kept_over, kept_end}
-use Rattle.iso.proofs.Offsets.{hours_minutes-two, hours_minutes-four, hours_minutes-not}
 use Rattle.iso.proofs.offset.hours_minutes.Given as goal
 
 abbrev pub invariant-loop-i : goal.invariant-loop-i

@@ -6,7 +6,6 @@ use mir.Val.{to_z, of_z}
 use Rattle.ints.proofs.Machine.{At, In_of_At, known, negated, read, fits}
 use Rattle.text.specs.declared.number.Integer.TheVariants.{Is}
 use Rattle.iso.proofs.Offsets.{In_of_Within, negated-not, negated_value}
-use borrow.Author.Rules.{rules}
 use Rattle.iso.proofs.offset.negated.Goals as goal
 
 negated-at : (c : goal.In-Is) → At (negsuc 362339) (pos 362340) (neg_ℤ c.in-Is.z) (pos 0 -ℤ to_z w64 (of_z w64 c.in-Is.z))

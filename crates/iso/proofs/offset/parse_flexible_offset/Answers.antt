@@ -4,7 +4,6 @@ use lib.IntN.{pos, negsuc}
 use Rattle.ints.specs.Range.{In}
 use Rattle.iso.specs.Offset.{negated}
 use Rattle.iso.proofs.Offsets.{iso_offset-nil, iso_offset-east, iso_offset-west, iso_offset-zed, iso_offset-zed-not, iso_offset-not}
-use borrow.Author.Rules.{rules}
 use Rattle.iso.proofs.offset.parse_flexible_offset.Goals as goal
 
 zero_in : In (negsuc 362339) (pos 362340) (pos 0)

@@ -6,7 +6,6 @@ use mir.Val.{to_z, of_z}
 use Rattle.ints.proofs.Machine.{In_of_At, At, known, times, add, read, fits}
 use Rattle.text.specs.declared.number.Integer.TheVariants.{Is}
 use Rattle.iso.proofs.Offsets.{In_of_Within, offset_seconds-not-hours, offset_seconds-not-minutes, offset_seconds-value}
-use borrow.Author.Rules.{rules}
 use Rattle.iso.proofs.offset.seconds.Goals as goal
 
 hours : (c : goal.In-Is-m) → At (negsuc 98) (pos 99) c.in-Is.hours (to_z w64 (of_z w64 c.in-Is.hours))

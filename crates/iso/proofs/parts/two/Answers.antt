@@ -1,6 +1,5 @@
 -- `iso::parts::two` meets its contract.
 use native.Mathlib.Nat.{add-sub_cancel_left}
-use borrow.Author.Rules.{rules}
 use Rattle.iso.proofs.parts.two.Goals as goal
 
 pub returns : goal.returns
