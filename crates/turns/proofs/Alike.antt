@@ -2,7 +2,7 @@
 -- contract of `parse` carries this to the code.
 -- Assumes nothing.
 use mathlib.Core.Path.{◌≡◌, sym, ◌∙◌}
-use mathlib.Core.Bool.{true, false, and_false}
+use mathlib.Core.Bool.{true, false, and-false}
 use mathlib.Core.List.{List}
 use Prim.Native.Nat.{ℕ, ◌≤◌, ◌<◌}
 use borrow.Author.Tests.{lt-ltb, le-ltb}
@@ -19,7 +19,7 @@ use Rattle.turns.proofs.parse.Reads as turns-parse
 module _ (bound : ℕ) (s : List ℕ) (current : Now) where
   pub turns_as_relative : length s ≤ max_length → turns_of bound s current ≡ relative_of bound s current
   unfolding turns_of
-  turns_as_relative h = rw (le-ltb max_length (length s) h, and_false)
+  turns_as_relative h = rw (le-ltb max_length (length s) h, and-false)
 
   pub turns_too_long : ascii s ≡ true → max_length < length s → turns_of bound s current ≡ Refused Form
   unfolding turns_of

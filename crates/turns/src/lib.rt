@@ -66,7 +66,7 @@ fn seconds_before(current: Now, k: u64) -> Answer
 }
 
 // Waits for a count. Any other word is passed over; if it is `ago`, it sets the mark.
-#[cycle(await_count_await_unit)]
+#[cycle(awaiting)]
 fn await_count(s: &[u8], reading: Reading) -> Answer
     ensures { result ≡ read_rest max_pairs reading Nothing s.now }
 {
@@ -85,7 +85,7 @@ fn await_count(s: &[u8], reading: Reading) -> Answer
 
 // Waits for the unit of the count n. The very next word is the unit, even if it is `ago` or a
 // number. A count at the end of the text is dropped.
-#[cycle(await_count_await_unit)]
+#[cycle(awaiting)]
 fn await_unit(s: &[u8], n: u64, reading: Reading) -> Answer
     ensures { result ≡ read_rest max_pairs reading (Value n) s.now }
 {

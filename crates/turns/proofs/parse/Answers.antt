@@ -4,20 +4,19 @@ use native.Mathlib.Omega.{arith}
 use Rattle.relative.specs.Relative.{max_pairs, relative_of}
 use Rattle.turns.specs.Turns.{turns_of}
 use Rattle.turns.proofs.Alike.{turns_as_relative, turns_too_long, turns-not-ascii}
-use borrow.Author.Rules.{rules}
 use Rattle.turns.proofs.parse.Goals as goal
-
--- not too long
-alike : (c : goal.Else-s-gt-MAX_LENGTH) → let a = c.args in turns_of max_pairs a.s.now a.current ≡ relative_of max_pairs a.s.now a.current
-alike c = turns_as_relative _ _ _ (omega (arith, c.if-s-gt-MAX_LENGTH.false))
 
 -- too long
 pub returns-then-s-gt-MAX_LENGTH : goal.returns-then-s-gt-MAX_LENGTH
 returns-then-s-gt-MAX_LENGTH c = sym (turns_too_long _ _ _ (sym c.is_ascii.ensures ∙ c.if-is_ascii.true) (omega (arith, c.if-s-gt-MAX_LENGTH.true)))
 
+-- not too long
 pub returns-then-is_ascii : goal.returns-then-is_ascii
 unfolding relative_of
-returns-then-is_ascii c = rw (alike c.before, ← c.is_ascii.ensures, c.if-is_ascii.true) c.parse_ascii.ensures
+returns-then-is_ascii c =
+    let a = c.args in
+    let alike : turns_of max_pairs a.s.now a.current ≡ relative_of max_pairs a.s.now a.current = turns_as_relative _ _ _ (omega (arith, c.if-s-gt-MAX_LENGTH.false)) in
+    rw (alike, ← c.is_ascii.ensures, c.if-is_ascii.true) c.parse_ascii.ensures
 
 pub returns : goal.returns
 returns c = sym (turns-not-ascii _ _ _ (sym c.is_ascii.ensures ∙ c.if-is_ascii.false))

@@ -1,7 +1,6 @@
 -- `turns::parse_ascii` meets its contract. Each return: the tests that led there say which case of `named_of` holds.
 use mathlib.Core.Path.{◌∙◌}
 use Rattle.relative.specs.Relative.{named_of, by_pairs}
-use borrow.Author.Rules.{rules}
 use Rattle.turns.proofs.parse_ascii.Goals as goal
 
 -- `now` or `today`

@@ -1,5 +1,4 @@
 -- `turns::reading::not_moved` meets its contract.
-use borrow.Author.Rules.{rules}
 use Rattle.turns.proofs.reading.not_moved.Goals as goal
 
 pub returns-in-At : goal.returns-in-At

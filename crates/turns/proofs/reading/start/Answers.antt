@@ -1,5 +1,4 @@
 -- `turns::reading::start` meets its contract.
-use borrow.Author.Rules.{rules}
 use Rattle.turns.proofs.Readings.{read_on-start}
 use Rattle.turns.proofs.reading.start.Goals as goal
 

@@ -1,5 +1,4 @@
 -- `turns::reading::subtract` meets its contract.
-use borrow.Author.Rules.{rules}
 use Rattle.turns.specs.Reading.{subtracted}
 use Rattle.turns.proofs.reading.subtract.Goals as goal
 

@@ -1,5 +1,4 @@
 -- `turns::reading::Reading::pass_over` meets its contract.
-use borrow.Author.Rules.{rules}
 use Rattle.turns.proofs.Readings.{read_on-past}
 use Rattle.turns.proofs.reading.Reading.pass_over.Goals as goal
 
