@@ -1,15 +1,12 @@
 -- `header::offset::parse_field` meets its contract: two digits are a number of either kind, and the number of two bytes fits the
 -- width at which it is read.
-use mathlib.Core.Path.{◌≡◌, sym, ap, ◌∙◌}
-use mathlib.Core.Bool.{true}
+use mathlib.Core.Path.{sym, ap, ◌∙◌}
 use mir.Syntax.{w64}
 use Rattle.ints.proofs.Machine.{back}
-use Prim.Native.Nat.{◌+◌}
 use native.Mathlib.Omega.{arith}
 use native.Mathlib.Nat.{add-sub_cancel_left}
-use lib.ListN.{drop, get_or}
+use lib.ListN.{drop}
 use Rattle.text.specs.Number.{plus}
-use Rattle.text.specs.Bytes.{is_digit}
 use Rattle.text.specs.declared.number.Integer.TheVariants.{Is}
 use Rattle.text.proofs.Lists.{both}
 use Rattle.text.proofs.Numbers.{AtMost_of_fit, fit_signed-take}

@@ -1,14 +1,9 @@
 -- `header::offset::parse_fields` meets its contract: the tests are those of the definition, and a word of 5 bytes or more has the
 -- bytes of each field.
-use mathlib.Core.Path.{◌≡◌, sym, ◌∙◌}
-use Prim.Native.Nat.{◌≤◌}
+use mathlib.Core.Path.{sym, ◌∙◌}
 use native.Mathlib.Omega.{arith}
-use lib.Dec.{eqb}
-use lib.ListN.{length, get_or}
 use mir.Syntax.{w64}
 use Rattle.ints.proofs.Machine.{back}
-use Rattle.text.specs.declared.number.Integer.TheVariants.{Is}
-use Rattle.header.specs.Offset.{field_of, last_field, fields_of, together}
 use Rattle.header.proofs.Offsets.{le_of_five_or_seven, fields_of_of_tests, fields_of_of_length, fields_of_of_sign}
 use Rattle.header.proofs.offset.parse_fields.Goals as goal
 

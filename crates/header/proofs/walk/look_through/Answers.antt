@@ -1,11 +1,7 @@
 -- `header::walk::look_through` meets its contract. The invariant: what was found so far and what is left give the
 -- answer for the whole.
-use mathlib.Core.Path.{◌≡◌, refl, sym, ap, ◌∙◌}
+use mathlib.Core.Path.{refl, sym, ap, ◌∙◌}
 use mathlib.Core.Bool.{Bool, ◌&&◌, ◌||◌, and-true, or-false, and_assoc, or_assoc}
-use Prim.Native.Nat.{◌-◌}
-use lib.ListN.{length, drop}
-use Rattle.text.specs.Bytes.{ascii}
-use Rattle.text.specs.Places.{has}
 use Rattle.text.proofs.Plain.{ascii-drop-cons, ascii-drop-nil}
 use Rattle.text.proofs.Runs.{has_drop-cons, has_drop-nil}
 use Rattle.header.proofs.walk.look_through.Goals as goal

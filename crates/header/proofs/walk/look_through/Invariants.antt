@@ -1,12 +1,9 @@
-use mathlib.Core.Path.{◌≡◌, refl, sym, ap, ◌∙◌}
-use mathlib.Core.Bool.{Bool, ◌&&◌, ◌||◌, and-true, or-false, and_assoc, or_assoc}
+use mathlib.Core.Path.{◌≡◌}
+use mathlib.Core.Bool.{◌&&◌, ◌||◌}
 use Prim.Native.Nat.{◌-◌}
 use lib.ListN.{length, drop}
 use Rattle.text.specs.Bytes.{ascii}
 use Rattle.text.specs.Places.{has}
-use Rattle.text.proofs.Plain.{ascii-drop-cons, ascii-drop-nil}
-use Rattle.text.proofs.Runs.{has_drop-cons, has_drop-nil}
-use borrow.Author.Rules.{rules}
 use Rattle.header.proofs.walk.look_through.Given as goal
 
 abbrev pub invariant-loop-i : goal.invariant-loop-i
