@@ -9,14 +9,14 @@ use Rattle.header.specs.Header.{header_offset}
 use Rattle.header.specs.declared.offset.Parsed.TheVariants.{Nothing}
 use Rattle.header.proofs.parse_offset.Goals as goal
 
-headerOffset-of-length : (w : List ℕ) → length w < 2 → header_offset w ≡ Nothing
+header_offset_of_length : (w : List ℕ) → length w < 2 → header_offset w ≡ Nothing
 unfolding header_offset is_digit
-headerOffset-of-length [] h = refl
-headerOffset-of-length (a ∷ []) h = refl
-headerOffset-of-length (a ∷ b ∷ w) h = absurd (omega arith)
+header_offset_of_length [] h = refl
+header_offset_of_length (a ∷ []) h = refl
+header_offset_of_length (a ∷ b ∷ w) h = absurd (omega arith)
 
 pub returns-then-w-lt2 : goal.returns-then-w-lt2
-returns-then-w-lt2 c = sym (headerOffset-of-length _ c.if-w-lt2.true)
+returns-then-w-lt2 c = sym (header_offset_of_length _ c.if-w-lt2.true)
 
 pub returns-then-is_digit : goal.returns-then-is_digit
 unfolding header_offset
