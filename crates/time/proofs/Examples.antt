@@ -54,9 +54,9 @@ unfolding header_written
 too_wide = refl
 
 -- the least offset of 32 bits is too wide; its size does not fit 32 signed bits
-least_offset_lem : header_written (time_at (pos 5) (negsuc (2 ^ 31 - 1))) [] ≡ Refused Offset
+least_offset_too_wide : header_written (time_at (pos 5) (negsuc (2 ^ 31 - 1))) [] ≡ Refused Offset
 unfolding header_written
-least_offset_lem = refl
+least_offset_too_wide = refl
 
 -- "the buffer is shorter than the bytes to be written": six bytes for `5 +0000`, which takes seven
 short_by_one : header_written (time_at (pos 5) (pos 0)) (replicate 6 0) ≡ Refused Room

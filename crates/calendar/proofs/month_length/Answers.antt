@@ -1,8 +1,5 @@
 -- `calendar::month_length` meets its contract: two first days that follow one another are the month's days apart.
-use mathlib.Core.Path.{◌≡◌, ◌∙◌}
-use Prim.Native.Nat.{◌+◌}
 use native.Mathlib.Omega.{arith}
-use Rattle.calendar.specs.Calendar.{first_day, month_length}
 use Rattle.calendar.proofs.Lengths.{first_day-add-one, month_length-ge, month_length-le}
 use Rattle.calendar.proofs.month_length.Goals as goal
 
