@@ -6,12 +6,12 @@ use mathlib.Core.Path.{◌≡◌, refl, ap, ◌∙◌}
 use mathlib.Core.Bool.{Bool, true, false, cond, ◌&&◌}
 use mathlib.Core.List.{List, [], ◌∷◌}
 use Prim.Native.Nat.{ℕ, zero, suc, ◌+◌, ◌*◌, ◌/◌, ◌%◌, ◌≤◌, ◌<◌}
-use native.Mathlib.Nat.{not-suc-le-zero}
+use native.Mathlib.Nat.{not-suc-le-zero, le_of_suc-le-suc}
 use native.Mathlib.Numerals.{add-one}
 use native.Mathlib.Decide.{dec_lt}
 use native.Mathlib.Omega.{arith}
 use lib.Dec.{T, leb, leb→le}
-use lib.ListN.{get_or, take}
+use lib.ListN.{length, get_or, take}
 use mir.Facts.{and_yes}
 use Rattle.calendar.specs.Calendar.{leap, lengths, month_length, year_length, total, year_start, first_day}
 
@@ -64,7 +64,35 @@ pub first_day-zero : first_day 0 ≡ 0
 unfolding first_day year_start total
 first_day-zero = refl
 
--- ---- the lengths of months, by a test of each of the twelve in turn
+-- the least and the greatest length of a month, by a test of each in turn
+between : List ℕ → Bool
+between [] = true
+between (x ∷ xs) = leb 28 x && (leb x 31 && between xs)
+
+get_or_of_between : (xs : List ℕ) → T (between xs) → (k : ℕ) → k < length xs → (28 ≤ get_or xs k 0) × (get_or xs k 0 ≤ 31)
+unfolding between
+get_or_of_between [] t k h = absurd (not-suc-le-zero h)
+get_or_of_between (x ∷ xs) t zero h =
+    let p = and_yes (leb 28 x) (leb x 31 && between xs) t in
+    (leb→le 28 x p.0, leb→le x 31 (and_yes (leb x 31) (between xs) p.1).0)
+get_or_of_between (x ∷ xs) t (suc k) h =
+    let p = and_yes (leb 28 x) (leb x 31 && between xs) t in
+    get_or_of_between xs (and_yes (leb x 31) (between xs) p.1).1 k (le_of_suc-le-suc h)
+
+lengths_between : (l : Bool) (k : ℕ) → k < 12 → (28 ≤ get_or (lengths l) k 0) × (get_or (lengths l) k 0 ≤ 31)
+unfolding between lengths
+lengths_between true k h = get_or_of_between (lengths true) tt k h
+lengths_between false k h = get_or_of_between (lengths false) tt k h
+
+pub month_length-ge : (m : ℕ) → 28 ≤ month_length m
+unfolding month_length
+month_length-ge m = (lengths_between (leap (m / 12)) (m % 12) (omega arith)).0
+
+pub month_length-le : (m : ℕ) → month_length m ≤ 31
+unfolding month_length
+month_length-le m = (lengths_between (leap (m / 12)) (m % 12) (omega arith)).1
+
+-- ---- the same month of two years, by a test of each of the twelve in turn
 passes : (ℕ → Bool) → ℕ → Bool
 passes p zero = true
 passes p (suc n) = p n && passes p n
@@ -79,9 +107,9 @@ at_passes p (suc n) t k h =
       | no l ↦ let e : k ≡ n = omega arith in rw e both.0
     ]
 
--- month k, from 0, has at least 28 days, at most 31, and at most one more than in another year
+-- month k, from 0, has at most one day more than in another year
 abbrev tested : Bool → Bool → ℕ → Bool
-tested l j k = let x : ℕ = get_or (lengths l) k 0 in leb 28 x && (leb x 31 && leb x (get_or (lengths j) k 0 + 1))
+tested l j k = leb (get_or (lengths l) k 0) (get_or (lengths j) k 0 + 1)
 
 tested_of_lt : (l j : Bool) (k : ℕ) → k < 12 → T (tested l j k)
 unfolding passes lengths
@@ -90,21 +118,8 @@ tested_of_lt true false = at_passes (tested true false) 12 tt
 tested_of_lt false true = at_passes (tested false true) 12 tt
 tested_of_lt false false = at_passes (tested false false) 12 tt
 
-module _ (m n : ℕ) (e : m % 12 ≡ n % 12) where
-  length-tested : (28 ≤ month_length m) × ((month_length m ≤ 31) × (month_length m ≤ month_length n + 1))
-  unfolding month_length
-  length-tested =
-      let x : ℕ = month_length m in
-      let t = and_yes (leb 28 x) (leb x 31 && leb x (month_length n + 1)) (rw e (tested_of_lt (leap (m / 12)) (leap (n / 12)) (n % 12) (omega arith))) in
-      let u = and_yes (leb x 31) (leb x (month_length n + 1)) t.1 in
-      (leb→le 28 x t.0, (leb→le x 31 u.0, leb→le x (month_length n + 1) u.1))
-
-pub month_length-ge : (m : ℕ) → 28 ≤ month_length m
-month_length-ge m = (length-tested m m refl).0
-
-pub month_length-le : (m : ℕ) → month_length m ≤ 31
-month_length-le m = (length-tested m m refl).1.0
-
--- the same month of two years: only a leap day makes a difference
+-- only a leap day makes a difference
 pub month_length-le_of_year : (m n : ℕ) → m % 12 ≡ n % 12 → month_length m ≤ month_length n + 1
-month_length-le_of_year m n e = (length-tested m n e).1.1
+unfolding month_length
+month_length-le_of_year m n e =
+    leb→le (month_length m) (month_length n + 1) (rw e (tested_of_lt (leap (m / 12)) (leap (n / 12)) (n % 12) (omega arith)))
