@@ -2,7 +2,7 @@
 -- fields; a line from its path on, from its key on, from its time on.
 -- Assumes nothing.
 use mathlib.Core.Path.{◌≡◌, refl, sym, ap, ◌∙◌}
-use mathlib.Core.Bool.{true, false, ◌&&◌, ◌||◌, false≢true, and_false}
+use mathlib.Core.Bool.{true, false, ◌&&◌, ◌||◌, false≢true, and-false}
 use mathlib.Core.List.{List, []}
 use Prim.Native.Nat.{ℕ, ◌+◌, ◌-◌, ◌≤◌, ◌<◌}
 use native.Mathlib.Omega.{arith}
@@ -53,7 +53,7 @@ module _ (path key time : List ℕ) where
 
   hull_of_no_key : is_key key ≡ false → hull_of path key time ≡ Bad
   unfolding hull_of
-  hull_of_no_key e = rw (e, and_false)
+  hull_of_no_key e = rw (e, and-false)
 
   pub hull_of-stamp : is_path path ≡ true → is_key key ≡ true → hull_of path key time ≡ hull_at path key (stamp_of time)
   unfolding hull_of

@@ -3,7 +3,7 @@
 -- that is written for them.
 -- Assumes nothing.
 use mathlib.Core.Path.{◌≡◌, refl, sym, ap, ◌∙◌}
-use mathlib.Core.Bool.{Bool, true, false, cond, ◌&&◌, and_false, or-false}
+use mathlib.Core.Bool.{Bool, true, false, cond, ◌&&◌, and-false, or-false}
 use mathlib.Core.List.{List, [], ◌∷◌, ◌++◌}
 use Prim.Native.Char.{code}
 use Prim.Native.Nat.{ℕ, zero, suc, ◌+◌, ◌*◌, ◌/◌, ◌%◌, ◌<◌}
@@ -65,9 +65,9 @@ unfolding tail_of is_tail is_digit
 tail_of_of_length s h =
     rw (
       get_or_of_length-le s 5 (omega arith),
-      and_false (is_digit (get_or s 4 0)),
-      and_false (is_digit (get_or s 2 0) && is_digit (get_or s 3 0)),
-      and_false (eqb (get_or s 0 0) (code " ") && is_sign (get_or s 1 0)),
+      and-false (is_digit (get_or s 4 0)),
+      and-false (is_digit (get_or s 2 0) && is_digit (get_or s 3 0)),
+      and-false (eqb (get_or s 0 0) (code " ") && is_sign (get_or s 1 0)),
     )
 
 -- ---- the tail that is written for a time
@@ -104,10 +104,10 @@ tail_of-tail_bytes z (pos zero) true t h w e = rw e
 tail_of-tail_bytes z (pos zero) false t h w e = rw e
 tail_of-tail_bytes z (pos (suc n)) m t h w e =
     let k = eqb-true (suc n % 60) 0 w in
-    rw (eqb-suc-zero, and_false m, four_digits-digits (suc n) h k, minutes_lt (suc n) h k, e, clock_size-digits (suc n) h k)
+    rw (eqb-suc-zero, and-false m, four_digits-digits (suc n) h k, minutes_lt (suc n) h k, e, clock_size-digits (suc n) h k)
 tail_of-tail_bytes z (negsuc n) m t h w e =
     let k = eqb-true (suc n % 60) 0 w in
-    rw (and_false m, four_digits-digits (suc n) h k, minutes_lt (suc n) h k, e, clock_size-digits (suc n) h k, eqb-suc-zero)
+    rw (and-false m, four_digits-digits (suc n) h k, minutes_lt (suc n) h k, e, clock_size-digits (suc n) h k, eqb-suc-zero)
 
 -- ---- a tail with an offset and a mark
 -- the size and the sign of the offset, and the mark, which is set only beside 0

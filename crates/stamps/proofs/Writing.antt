@@ -3,7 +3,7 @@
 -- answers of a call that writes it.
 -- Assumes nothing.
 use mathlib.Core.Path.{◌≡◌, sym, ap, ◌∙◌}
-use mathlib.Core.Bool.{Bool, true, false, not, ◌&&◌, false≢true, and-true, and_false}
+use mathlib.Core.Bool.{Bool, true, false, not, ◌&&◌, false≢true, and-true, and-false}
 use mathlib.Core.List.{List, [], ◌∷◌, ◌++◌}
 use Prim.Native.Nat.{ℕ, ◌+◌, ◌≤◌, ◌<◌}
 use native.Mathlib.Omega.{arith}
@@ -48,13 +48,13 @@ unfolding every is_text_byte
 every-is_text_byte [] = rw (has_nil tab, has_nil newline)
 every-is_text_byte (b ∷ s) =
     by_test (eqb b tab) (λ e. rw (has_cons tab b s, e))
-    (λ e. by_test (eqb b newline) (λ d. rw (has_cons tab b s, has_cons newline b s, e, d, and_false (not (has tab s))))
+    (λ e. by_test (eqb b newline) (λ d. rw (has_cons tab b s, has_cons newline b s, e, d, and-false (not (has tab s))))
     (λ d. rw (has_cons tab b s, has_cons newline b s, e, d) (every-is_text_byte s)))
 
 -- ---- a path
 pub is_path_of_lt : (s : List ℕ) → 255 < length s → is_path s ≡ false
 unfolding is_path
-is_path_of_lt s h = rw (lt-leb (length s) 255 h, and_false (ltb 0 (length s)))
+is_path_of_lt s h = rw (lt-leb (length s) 255 h, and-false (ltb 0 (length s)))
 
 pub is_path_of_le : (s : List ℕ) → length s ≤ 255 → is_path s ≡ (ltb 0 (length s) && eqb (past is_path_byte s 0) (length s))
 unfolding is_path

@@ -20,13 +20,22 @@ loop-at-preserved c = copying_again c.loop-at.invariant _ _ _ _ _ c.from-rest.en
     c.is_marked.ensures c.size_if.ensures c.up_to-line.ensures _ _ c.put_part-written.ensures.value c.put_part-written.ensures.room_after
 
 pub overflow_add-at : goal.overflow_add-at
-overflow_add-at c = record { fits = omega (arith, (loop-again c).within) }
+overflow_add-at c =
+    let again = copying_again c.loop-at.invariant _ _ _ _ _ c.from-rest.ensures c.loop-at-test.true c.first_place-size.ensures.0
+    c.is_marked.ensures c.size_if.ensures c.up_to-line.ensures _ _ c.put_part-written.ensures.value c.put_part-written.ensures.room_after in
+    record { fits = omega (arith, again.within) }
 
 pub overflow_add-n : goal.overflow_add-n
-overflow_add-n c = let again = loop-again c in record { fits = omega (arith, again.fewer, again.within) }
+overflow_add-n c =
+    let again = copying_again c.loop-at.invariant _ _ _ _ _ c.from-rest.ensures c.loop-at-test.true c.first_place-size.ensures.0
+    c.is_marked.ensures c.size_if.ensures c.up_to-line.ensures _ _ c.put_part-written.ensures.value c.put_part-written.ensures.room_after in
+    record { fits = omega (arith, again.fewer, again.within) }
 
 pub loop-at-smaller : goal.loop-at-smaller
-loop-at-smaller c = omega (arith, (loop-again c).within)
+loop-at-smaller c =
+    let again = copying_again c.loop-at.invariant _ _ _ _ _ c.from-rest.ensures c.loop-at-test.true c.first_place-size.ensures.0
+    c.is_marked.ensures c.size_if.ensures c.up_to-line.ensures _ _ c.put_part-written.ensures.value c.put_part-written.ensures.room_after in
+    omega (arith, again.within)
 
 pub shape_of-room : goal.shape_of-room
 shape_of-room c = c.loop-at.invariant.size

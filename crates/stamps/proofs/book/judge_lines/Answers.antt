@@ -31,16 +31,28 @@ pub shape_of-marks-then-size-eq0 : goal.shape_of-marks-then-size-eq0
 shape_of-marks-then-size-eq0 c = c.loop-at.invariant.places
 
 pub overflow_add-length : goal.overflow_add-length
-overflow_add-length c = let again = loop-again c in record { fits = omega (arith, again.shorter, again.within) }
+overflow_add-length c =
+    let again = judging_again c.loop-at.invariant _ _ c.from.ensures c.loop-at-test.true c.next_line-next.ensures _ _
+        c.put_mark.ensures c.size_if-length.ensures c.if-size-eq0.false _ c.or_above-cut_off.ensures in
+    record { fits = omega (arith, again.shorter, again.within) }
 
 pub overflow_add-at : goal.overflow_add-at
-overflow_add-at c = record { fits = omega (arith, (loop-again c).within) }
+overflow_add-at c =
+    let again = judging_again c.loop-at.invariant _ _ c.from.ensures c.loop-at-test.true c.next_line-next.ensures _ _
+        c.put_mark.ensures c.size_if-length.ensures c.if-size-eq0.false _ c.or_above-cut_off.ensures in
+    record { fits = omega (arith, again.within) }
 
 pub overflow_add-n : goal.overflow_add-n
-overflow_add-n c = let again = loop-again c in record { fits = omega (arith, again.fewer, again.within) }
+overflow_add-n c =
+    let again = judging_again c.loop-at.invariant _ _ c.from.ensures c.loop-at-test.true c.next_line-next.ensures _ _
+        c.put_mark.ensures c.size_if-length.ensures c.if-size-eq0.false _ c.or_above-cut_off.ensures in
+    record { fits = omega (arith, again.fewer, again.within) }
 
 pub loop-at-smaller : goal.loop-at-smaller
-loop-at-smaller c = omega (arith, (loop-again c).within)
+loop-at-smaller c =
+    let again = judging_again c.loop-at.invariant _ _ c.from.ensures c.loop-at-test.true c.next_line-next.ensures _ _
+        c.put_mark.ensures c.size_if-length.ensures c.if-size-eq0.false _ c.or_above-cut_off.ensures in
+    omega (arith, again.within)
 
 pub shape_of-marks : goal.shape_of-marks
 shape_of-marks c = c.loop-at.invariant.places

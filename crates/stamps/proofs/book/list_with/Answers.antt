@@ -28,20 +28,20 @@ returns-then-bad-ne0 c =
 pub returns-then-room-length : goal.returns-then-room-length
 returns-then-room-length c = let judged = c.judge_lines-found.ensures in
     let all = copies_too_short (listing max_pairs c.args.book.now) c.args.room.now
-    (check_of-zero max_pairs c.args.book.now _ c.if-book-gt-MAX_BOOK.false judged.0.0 c.if-bad-ne0.false) _ (judged.1.0 c.if-bad-ne0.false) c.if-room-length.true in record { value = all.0; room_after = all.1 }
+    (check_of-zero max_pairs c.args.book.now _ c.if-book-gt-MAX_BOOK.false judged.bad_value.0 c.if-bad-ne0.false) _ (judged.length_value c.if-bad-ne0.false) c.if-room-length.true in record { value = all.0; room_after = all.1 }
 
 pub copy_marked-requires : goal.copy_marked-requires
 copy_marked-requires c = let judged = c.judge_lines-found.ensures in
     let zero = c.if-bad-ne0.false in
-    let p = marked_book max_pairs c.args.book.now _ _ c.if-book-gt-MAX_BOOK.false (omega (arith, c.no_marks-marks.ensures)) (first_bad_of_zero _ (sym judged.0.0 ∙ zero)) (judged.1.1 zero) in record {
+    let p = marked_book max_pairs c.args.book.now _ _ c.if-book-gt-MAX_BOOK.false (omega (arith, c.no_marks-marks.ensures)) (first_bad_of_zero _ (sym judged.bad_value.0 ∙ zero)) (judged.marks_after zero) in record {
       book_value = p.0;
-      book_in_bounds = omega (arith, ap length p.1, judged.1.0 zero, c.if-room-length.false);
+      book_in_bounds = omega (arith, ap length p.1, judged.length_value zero, c.if-room-length.false);
     }
 
 pub returns : goal.returns
 returns c = let judged = c.judge_lines-found.ensures in
     let zero = c.if-bad-ne0.false in
-    let p = marked_book max_pairs c.args.book.now _ _ c.if-book-gt-MAX_BOOK.false (omega (arith, c.no_marks-marks.ensures)) (first_bad_of_zero _ (sym judged.0.0 ∙ zero)) (judged.1.1 zero) in
+    let p = marked_book max_pairs c.args.book.now _ _ c.if-book-gt-MAX_BOOK.false (omega (arith, c.no_marks-marks.ensures)) (first_bad_of_zero _ (sym judged.bad_value.0 ∙ zero)) (judged.marks_after zero) in
     let all = copies_written (listing max_pairs c.args.book.now) c.args.room.now
-    (check_of-zero max_pairs c.args.book.now _ c.if-book-gt-MAX_BOOK.false judged.0.0 zero) _ (judged.1.0 zero) _ c.if-room-length.false
+    (check_of-zero max_pairs c.args.book.now _ c.if-book-gt-MAX_BOOK.false judged.bad_value.0 zero) _ (judged.length_value zero) _ c.if-room-length.false
     (c.copy_marked.ensures ∙ ap (λ (bytes : List ℕ). bytes ++ drop (length bytes) c.args.room.now) p.1) in record { value = all.0; room_after = all.1 }

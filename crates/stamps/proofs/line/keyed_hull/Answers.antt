@@ -11,7 +11,7 @@ use borrow.Author.Rules.{rules}
 use Rattle.stamps.proofs.line.keyed_hull.Goals as goal
 
 pub overflow_sub-key_end : goal.overflow_sub-key_end
-overflow_sub-key_end c = omega (arith, le-past is_hex_digit c.args.s.now (c.args.path-end + 1), c.past-key_end.ensures)
+overflow_sub-key_end c = omega (arith, le-past is_hex_digit c.args.s.now (c.args.path_end + 1), c.past-key_end.ensures)
 
 -- a key of another size
 pub returns-then-key_end-key_start-ne-KEY : goal.returns-then-key_end-key_start-ne-KEY
@@ -21,7 +21,7 @@ pub stamped_hull-requires : goal.stamped_hull-requires
 stamped_hull-requires c =
     let s = c.args.s.now in
     let o = opens_with-drop tab s c.past-key_end.result ∙ sym c.is_at.ensures ∙ c.if-is_at.true in
-    (c.requires.0, omega (arith, le-past is_hex_digit s (c.args.path-end + 1), c.past-key_end.ensures), lt-length_of_opens_with tab s _ o)
+    (c.requires.0, omega (arith, le-past is_hex_digit s (c.args.path_end + 1), c.past-key_end.ensures), lt-length_of_opens_with tab s _ o)
 
 -- a key that a tab follows: the line goes on there
 pub returns-then-is_at : goal.returns-then-is_at

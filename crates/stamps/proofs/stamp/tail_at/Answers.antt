@@ -10,11 +10,6 @@ use Rattle.stamps.specs.Held.{tail_with}
 use Rattle.stamps.proofs.Tails.{tests, tail_of_of_tests, tail_of_of_no_test, tail_of_of_length, four_digits_of_tests}
 use Rattle.stamps.proofs.stamp.tail_at.Goals as goal
 
--- a tail
-are-tests : (c : goal.Then-s-at-2) → let a = c.args in tests a.s.now a.at ≡ true
-are-tests c =
-    rw (← c.is_sign.ensures, ← c.are_digits.ensures, ← c.ends_at.ensures) c.if-s-at-2.true
-
 -- fewer than six bytes
 pub returns-then-s-lt-TAIL : goal.returns-then-s-lt-TAIL
 returns-then-s-lt-TAIL c = let a = c.args in sym (tail_of_of_length _ (omega (arith, c.if-s-lt-TAIL.true, length-drop a.at a.s.now)))
@@ -22,16 +17,19 @@ returns-then-s-lt-TAIL c = let a = c.args in sym (tail_of_of_length _ (omega (ar
 pub returns-then-s-at : goal.returns-then-s-at
 returns-then-s-at c = let a = c.args in sym (tail_of_of_length _ (omega (arith, c.if-s-at.true, length-drop a.at a.s.now)))
 
+-- a tail
 pub clock_size-requires : goal.clock_size-requires
 clock_size-requires c =
     let a = c.args in
-    four_digits_of_tests a.s.now a.at (are-tests c)
+    let t : tests a.s.now a.at ≡ true = rw (← c.is_sign.ensures, ← c.are_digits.ensures, ← c.ends_at.ensures) c.if-s-at-2.true in
+    four_digits_of_tests a.s.now a.at t
 
 pub returns-then-s-at-2 : goal.returns-then-s-at-2
 returns-then-s-at-2 c =
     let a = c.args in
+    let t : tests a.s.now a.at ≡ true = rw (← c.is_sign.ensures, ← c.are_digits.ensures, ← c.ends_at.ensures) c.if-s-at-2.true in
     c.with_sign.ensures ∙ ap (tail_with (eqb (get_or a.s.now (a.at + 1) 0) 45)) c.clock_size.ensures.0
-    ∙ sym (tail_of_of_tests a.s.now a.at (are-tests c.before.before))
+    ∙ sym (tail_of_of_tests a.s.now a.at t)
 
 -- another byte among them, or behind them
 pub returns : goal.returns

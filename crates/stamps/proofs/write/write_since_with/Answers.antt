@@ -11,7 +11,7 @@ pub returns-then-is_since : goal.returns-then-is_since
 unfolding since_written
 returns-then-is_since c =
     let good : is_since max_pairs c.args.text.now c.args.current ≡ true = sym c.is_since.ensures ∙ c.if-is_since.true in
-    let all = rw good c.put_if_fits.ensures in record { value = all.0; room_after = all.1 }
+    record { value = rw good c.put_if_fits.ensures.value; room_after = rw good c.put_if_fits.ensures.room_after }
 
 pub returns : goal.returns
 unfolding since_written
