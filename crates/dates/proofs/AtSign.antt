@@ -3,7 +3,7 @@
 -- digits, and digits are neither a unit nor the mark `ago` (`relative_of_of_at`).
 -- Assumes nothing.
 use mathlib.Core.Path.{◌≡◌, refl}
-use mathlib.Core.Bool.{Bool, true, false, cond, ◌&&◌, false≢true, and_false, or-false}
+use mathlib.Core.Bool.{Bool, true, false, cond, ◌&&◌, false≢true, and-false, or-false}
 use mathlib.Core.List.{List, [], ◌∷◌, ◌++◌, reverse, reverse-cons, reverse-append}
 use Prim.Native.Nat.{ℕ, ◌-◌, ◌≤◌}
 use Prim.Native.Char.{code}
@@ -127,7 +127,7 @@ ago_from_of_low NoNumber (w ∷ ws) h = rw (not_named w h.0 (bytes "ago") refl) 
 no_known_pair : (c : Number) (ws : List (List ℕ)) → AllLow ws → (ltb 0 (length (pairs_from c ws)) && known (pairs_from c ws)) ≡ false
 unfolding pairs_from known
 no_known_pair c [] h = refl
-no_known_pair (Value n) (w ∷ ws) h = rw (unit_of_of_low w h.0, and_false)
+no_known_pair (Value n) (w ∷ ws) h = rw (unit_of_of_low w h.0, and-false)
 no_known_pair NoNumber (w ∷ ws) h = no_known_pair (next NoNumber w) ws h.1
 
 -- the `@` separates words, so the words are those of the text after it

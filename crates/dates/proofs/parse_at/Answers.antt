@@ -5,7 +5,6 @@ use borrow.Author.Tests.{ne_eqb}
 use lib.ListN.{drop_of_length-le}
 use Rattle.text.proofs.Lists.{drop-cons-add-one, take-length-sub-drop}
 use Rattle.dates.specs.Any.{at_of}
-use borrow.Author.Rules.{rules}
 use Rattle.dates.proofs.parse_at.Goals as goal
 
 -- the empty text

@@ -1,11 +1,11 @@
 -- `dates::parse_marked` meets its contract.
 use mathlib.Core.Path.{ap, ◌∙◌}
+use native.Mathlib.Omega.{arith}
 use mir.Syntax.{w32, w64}
 use Rattle.ints.proofs.Machine.{back}
 use Rattle.time.specs.Answers.{time_marked}
 use Rattle.time.specs.declared.Answer.TheVariants.{Time}
 use Rattle.dates.specs.Any.{marked_of, number_from}
-use borrow.Author.Rules.{rules}
 use Rattle.dates.proofs.parse_marked.Goals as goal
 
 -- a raw date
@@ -15,7 +15,7 @@ returns-in-Time c =
     let t = c.in-Time.t in
     rw (← c.parse_raw_by-date.ensures, c.in-Time.is)
     (ap Time (c.with_mark.ensures
-    ∙ λ i. time_marked (back w64 t.seconds c.struct_told-1.given.0.1 i) (back w32 t.offset c.struct_told-in-Time-1.given.1.1.0.1 i) t.mark))
+    ∙ λ i. time_marked (back w64 t.seconds (omega arith) i) (back w32 t.offset (omega arith) i) t.mark))
 
 -- a refusal other than 2 and 11
 pub returns-then-settles : goal.returns-then-settles
