@@ -1,5 +1,4 @@
 -- `stamps::book::check_with` meets its contract.
-use borrow.Author.Rules.{rules}
 use Rattle.relative.specs.Relative.{max_pairs}
 use Rattle.stamps.proofs.Books.{check_of-long, check_of-zero, check_of-bad}
 use Rattle.stamps.proofs.book.check_with.Goals as goal

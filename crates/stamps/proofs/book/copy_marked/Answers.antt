@@ -1,10 +1,7 @@
 -- `stamps::book::copy_marked` meets its contract. The invariant: the marked lines from `at` on, put behind the bytes that are
 -- written, give the answer. The measure is what is left.
-use Prim.Native.Nat.{◌-◌}
 use native.Mathlib.Omega.{arith}
-use borrow.Author.Rules.{rules}
-use lib.ListN.{length}
-use Rattle.stamps.proofs.Marks.{Copying, copying_start, copying_fits, copying_again, copying_end}
+use Rattle.stamps.proofs.Marks.{copying_start, copying_fits, copying_again, copying_end}
 use Rattle.stamps.proofs.book.copy_marked.Goals as goal
 
 pub loop-at-init : goal.loop-at-init

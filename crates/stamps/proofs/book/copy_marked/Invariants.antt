@@ -1,8 +1,6 @@
 use Prim.Native.Nat.{◌-◌}
-use native.Mathlib.Omega.{arith}
-use borrow.Author.Rules.{rules}
 use lib.ListN.{length}
-use Rattle.stamps.proofs.Marks.{Copying, copying_start, copying_fits, copying_again, copying_end}
+use Rattle.stamps.proofs.Marks.{Copying}
 use Rattle.stamps.proofs.book.copy_marked.Given as goal
 
 abbrev pub invariant-loop-at : goal.invariant-loop-at

@@ -1,11 +1,8 @@
 -- `stamps::book::judge_lines` meets its contract. The invariant: the lines in front of `at` are good, and with what the lines
 -- from `at` on give, their number, their length and their marks make the answer for the whole. The measure is what is left.
-use Prim.Native.Nat.{◌-◌}
 use native.Mathlib.Omega.{arith}
-use borrow.Author.Rules.{rules}
-use lib.ListN.{length as length_of}
 use Rattle.relative.specs.Relative.{max_pairs}
-use Rattle.stamps.proofs.Books.{Judging, judging_start, judging_again, judging_stop, judging_end}
+use Rattle.stamps.proofs.Books.{judging_start, judging_again, judging_stop, judging_end}
 use Rattle.stamps.proofs.book.judge_lines.Goals as goal
 
 pub loop-at-init : goal.loop-at-init
@@ -33,25 +30,25 @@ shape_of-marks-then-size-eq0 c = c.loop-at.invariant.places
 pub overflow_add-length : goal.overflow_add-length
 overflow_add-length c =
     let again = judging_again c.loop-at.invariant _ _ c.from.ensures c.loop-at-test.true c.next_line-next.ensures _ _
-        c.put_mark.ensures c.size_if-length.ensures c.if-size-eq0.false _ c.or_above-cut_off.ensures in
+    c.put_mark.ensures c.size_if-length.ensures c.if-size-eq0.false _ c.or_above-cut_off.ensures in
     record { fits = omega (arith, again.shorter, again.within) }
 
 pub overflow_add-at : goal.overflow_add-at
 overflow_add-at c =
     let again = judging_again c.loop-at.invariant _ _ c.from.ensures c.loop-at-test.true c.next_line-next.ensures _ _
-        c.put_mark.ensures c.size_if-length.ensures c.if-size-eq0.false _ c.or_above-cut_off.ensures in
+    c.put_mark.ensures c.size_if-length.ensures c.if-size-eq0.false _ c.or_above-cut_off.ensures in
     record { fits = omega (arith, again.within) }
 
 pub overflow_add-n : goal.overflow_add-n
 overflow_add-n c =
     let again = judging_again c.loop-at.invariant _ _ c.from.ensures c.loop-at-test.true c.next_line-next.ensures _ _
-        c.put_mark.ensures c.size_if-length.ensures c.if-size-eq0.false _ c.or_above-cut_off.ensures in
+    c.put_mark.ensures c.size_if-length.ensures c.if-size-eq0.false _ c.or_above-cut_off.ensures in
     record { fits = omega (arith, again.fewer, again.within) }
 
 pub loop-at-smaller : goal.loop-at-smaller
 loop-at-smaller c =
     let again = judging_again c.loop-at.invariant _ _ c.from.ensures c.loop-at-test.true c.next_line-next.ensures _ _
-        c.put_mark.ensures c.size_if-length.ensures c.if-size-eq0.false _ c.or_above-cut_off.ensures in
+    c.put_mark.ensures c.size_if-length.ensures c.if-size-eq0.false _ c.or_above-cut_off.ensures in
     omega (arith, again.within)
 
 pub shape_of-marks : goal.shape_of-marks

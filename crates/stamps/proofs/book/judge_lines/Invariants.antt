@@ -1,9 +1,7 @@
 use Prim.Native.Nat.{◌-◌}
-use native.Mathlib.Omega.{arith}
-use borrow.Author.Rules.{rules}
 use lib.ListN.{length as length_of}
 use Rattle.relative.specs.Relative.{max_pairs}
-use Rattle.stamps.proofs.Books.{Judging, judging_start, judging_again, judging_stop, judging_end}
+use Rattle.stamps.proofs.Books.{Judging}
 use Rattle.stamps.proofs.book.judge_lines.Given as goal
 
 abbrev pub invariant-loop-at : goal.invariant-loop-at

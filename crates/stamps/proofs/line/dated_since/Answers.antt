@@ -7,7 +7,6 @@ use Rattle.text.specs.Lines.{tab}
 use Rattle.text.specs.Number.{fit_signed}
 use Rattle.stamps.proofs.Fields.{opens_with-drop, lt-length_of_opens_with, ends_bad}
 use Rattle.stamps.proofs.SinceLines.{fit_signed-fit_signed, seconds_no_tab, offset-not-last, since_ends}
-use borrow.Author.Rules.{rules}
 use Rattle.stamps.proofs.line.dated_since.Goals as goal
 
 pub overflow_add-seconds_end : goal.overflow_add-seconds_end

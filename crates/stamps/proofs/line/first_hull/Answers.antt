@@ -6,7 +6,6 @@ use Rattle.text.specs.Lines.{tab}
 use Rattle.stamps.specs.Lines.{is_path_byte}
 use Rattle.stamps.proofs.Fields.{opens_with-drop, lt-length_of_opens_with, ends_bad, ends_behind}
 use Rattle.stamps.proofs.HullLines.{hull_no_path, hull_no_tab, path_ends, hull_keyed, is_path-part_from}
-use borrow.Author.Rules.{rules}
 use Rattle.stamps.proofs.line.first_hull.Goals as goal
 
 pub overflow_sub-path : goal.overflow_sub-path

@@ -4,7 +4,6 @@ use mathlib.Core.List.{List}
 use Prim.Native.Nat.{ℕ}
 use Rattle.text.specs.Bytes.{same}
 use Rattle.stamps.proofs.Reading.{first_hull, first_since, first_bad_lem}
-use borrow.Author.Rules.{rules}
 use Rattle.stamps.proofs.line.first_line.Goals as goal
 
 -- a line of `hull`

@@ -6,7 +6,6 @@ use Rattle.text.specs.Lines.{tab}
 use Rattle.stamps.specs.Held.{is_text_byte}
 use Rattle.stamps.proofs.Fields.{opens_with-drop, lt-length_of_opens_with, ends_bad, ends_behind}
 use Rattle.stamps.proofs.SinceLines.{since_no_tab, text_ends, since_dated}
-use borrow.Author.Rules.{rules}
 use Rattle.stamps.proofs.line.first_since.Goals as goal
 
 pub dated_since-requires : goal.dated_since-requires

@@ -7,7 +7,6 @@ use Rattle.text.specs.Lines.{tab}
 use Rattle.stamps.specs.Lines.{is_hex_digit}
 use Rattle.stamps.proofs.Fields.{opens_with-drop, lt-length_of_opens_with, ends_bad, ends_behind}
 use Rattle.stamps.proofs.HullLines.{key-not, key_no_tab, key_ends, key_stamped}
-use borrow.Author.Rules.{rules}
 use Rattle.stamps.proofs.line.keyed_hull.Goals as goal
 
 pub overflow_sub-key_end : goal.overflow_sub-key_end

@@ -2,7 +2,6 @@
 use mathlib.Core.Path.{sym, ap, ◌∙◌}
 use mathlib.Core.List.{List}
 use Prim.Native.Nat.{ℕ}
-use borrow.Author.Rules.{rules}
 use Rattle.text.specs.Bytes.{same}
 use Rattle.relative.specs.Relative.{max_pairs}
 use Rattle.stamps.proofs.FirstHulls.{first_hull_only, first_no_hull}

@@ -1,6 +1,5 @@
 -- `stamps::line::read_with` meets its contract: a line is good only if its first line is all of it.
 use Rattle.stamps.proofs.Reading.{read_whole, read-not-whole}
-use borrow.Author.Rules.{rules}
 use Rattle.stamps.proofs.line.read_with.Goals as goal
 
 -- all of the text was read

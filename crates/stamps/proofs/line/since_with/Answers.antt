@@ -15,7 +15,7 @@ use Rattle.text.specs.declared.number.Integer.{Integer}
 use Rattle.text.specs.declared.number.Integer.TheVariants.{Is}
 use Rattle.time.specs.Answers.{time_at}
 use Rattle.relative.specs.Relative.{max_pairs}
-use Rattle.stamps.specs.Lines.{since_at, since_with}
+use Rattle.stamps.specs.Lines.{since_at}
 use Rattle.stamps.specs.Held.{part_from}
 use Rattle.stamps.specs.declared.line.Line.TheVariants.{Since}
 use Rattle.stamps.proofs.Stamps.{In_of_fit_signed}

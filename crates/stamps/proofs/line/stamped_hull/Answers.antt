@@ -3,7 +3,6 @@ use mathlib.Core.Path.{sym, ap, ◌∙◌}
 use Rattle.stamps.specs.Lines.{hull_at}
 use Rattle.stamps.proofs.Fields.{ends_bad}
 use Rattle.stamps.proofs.HullLines.{hull_stamped}
-use borrow.Author.Rules.{rules}
 use Rattle.stamps.proofs.line.stamped_hull.Goals as goal
 
 -- no stamp

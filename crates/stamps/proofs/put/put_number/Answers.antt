@@ -9,7 +9,6 @@ use mir.Facts.{to_z-of_z}
 use Rattle.text.specs.Decimal.{signed}
 use Rattle.text.specs.Room.{put_at}
 use Rattle.stamps.proofs.Putting.{put_at-signed}
-use borrow.Author.Rules.{rules}
 use Rattle.stamps.proofs.put.put_number.Goals as goal
 
 pub put_signed-requires : goal.put_signed-requires

@@ -3,7 +3,6 @@ use mathlib.Core.Path.{sym, ap, ◌∙◌}
 use Prim.Native.Nat.{ℕ, ◌+◌}
 use Rattle.time.proofs.Headers.{length-header_bytes}
 use Rattle.stamps.proofs.Putting.{put_at-header}
-use borrow.Author.Rules.{rules}
 use Rattle.stamps.proofs.put.put_time.Goals as goal
 
 pub returns : goal.returns

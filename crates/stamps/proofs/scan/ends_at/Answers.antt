@@ -1,6 +1,5 @@
 -- `stamps::scan::ends_at` meets its contract.
 use mathlib.Core.Path.{sym}
-use borrow.Author.Rules.{rules}
 use Rattle.stamps.proofs.Scans.{ends_here_of_le, ends_here_of_lt}
 use Rattle.stamps.proofs.scan.ends_at.Goals as goal
 

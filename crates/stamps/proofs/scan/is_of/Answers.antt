@@ -1,5 +1,4 @@
 -- `stamps::scan::is_of` meets its contract.
-use borrow.Author.Rules.{rules}
 use Rattle.stamps.specs.Lines.{is_path_byte, is_hex_digit}
 use Rattle.stamps.specs.Held.{is_text_byte}
 use Rattle.stamps.proofs.scan.is_of.Goals as goal

@@ -1,11 +1,6 @@
 -- `stamps::scan::past` meets its contract. The invariant: the place past the run from i on is the place past the run from `at` on.
-use Rattle.text.specs.Places.{past}
-use mathlib.Core.Path.{◌≡◌, refl, sym, ◌∙◌}
-use Prim.Native.Nat.{◌-◌}
-use lib.ListN.{length}
-use Rattle.stamps.specs.Held.{is_of}
+use mathlib.Core.Path.{refl, sym, ◌∙◌}
 use Rattle.text.proofs.Runs.{past_of-true, past_of-false, past_of-length-le}
-use borrow.Author.Rules.{rules}
 use Rattle.stamps.proofs.scan.past.Goals as goal
 
 pub loop-i-preserved : goal.loop-i-preserved

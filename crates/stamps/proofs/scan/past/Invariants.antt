@@ -1,10 +1,8 @@
 use Rattle.text.specs.Places.{past}
-use mathlib.Core.Path.{◌≡◌, refl, sym, ◌∙◌}
+use mathlib.Core.Path.{◌≡◌}
 use Prim.Native.Nat.{◌-◌}
 use lib.ListN.{length}
 use Rattle.stamps.specs.Held.{is_of}
-use Rattle.text.proofs.Runs.{past_of-true, past_of-false, past_of-length-le}
-use borrow.Author.Rules.{rules}
 use Rattle.stamps.proofs.scan.past.Given as goal
 
 abbrev pub invariant-loop-i : goal.invariant-loop-i

@@ -1,5 +1,4 @@
 -- `stamps::stamp::printed_at` meets its contract.
-use borrow.Author.Rules.{rules}
 use Rattle.stamps.proofs.Printed.{OpensPrinted_of_width}
 use Rattle.stamps.proofs.stamp.printed_at.Goals as goal
 

@@ -1,6 +1,5 @@
 -- `stamps::stamp::two_digits` meets its contract: two digits are at most 99.
 use native.Mathlib.Omega.{arith}
-use borrow.Author.Rules.{rules}
 use mathlib.Core.Path.{refl}
 use Rattle.text.proofs.Numbers.{digit_range}
 use Rattle.stamps.proofs.stamp.two_digits.Goals as goal

@@ -1,6 +1,5 @@
 -- `stamps::stamp::with_sign` meets its contract: a size this small fits with either sign.
 use Prim.Native.Nat.{ℕ, ◌≤◌}
-use borrow.Author.Rules.{rules}
 use lib.Dec.{eqb}
 use lib.IntN.{pos}
 use mir.Syntax.{w64}

@@ -3,7 +3,6 @@ use native.Mathlib.Omega.{arith}
 use Rattle.time.proofs.Headers.{length-header_bytes}
 use Rattle.stamps.proofs.HullLines.{parts_of_is_path, parts_of_is_key}
 use Rattle.stamps.proofs.Writing.{good_hull, length-ended-hull_line}
-use borrow.Author.Rules.{rules}
 use Rattle.stamps.proofs.write.hull_width.Goals as goal
 
 pub overflow_add-result-3 : goal.overflow_add-result-3

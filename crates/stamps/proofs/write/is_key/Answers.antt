@@ -3,7 +3,6 @@ use mathlib.Core.Path.{sym, ap, ◌∙◌}
 use Prim.Native.Nat.{ℕ}
 use lib.Dec.{eqb}
 use Rattle.stamps.proofs.Writing.{is_key_of_ne, is_key_of_eq}
-use borrow.Author.Rules.{rules}
 use Rattle.stamps.proofs.write.is_key.Goals as goal
 
 pub returns-then-s-ne-KEY : goal.returns-then-s-ne-KEY

@@ -5,7 +5,6 @@ use Prim.Native.Nat.{ℕ}
 use lib.Dec.{ltb, eqb}
 use lib.ListN.{length}
 use Rattle.stamps.proofs.Writing.{is_path_of_lt, is_path_of_le}
-use borrow.Author.Rules.{rules}
 use Rattle.stamps.proofs.write.is_path.Goals as goal
 
 pub returns-then-s-gt-MAX_PATH : goal.returns-then-s-gt-MAX_PATH

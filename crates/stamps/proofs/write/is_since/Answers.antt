@@ -4,7 +4,6 @@ use native.Mathlib.Omega.{arith}
 use Rattle.relative.specs.Relative.{max_pairs}
 use Rattle.stamps.specs.Writing.{is_read}
 use Rattle.stamps.proofs.Writing.{is_since_of_lt, is_since_of_le}
-use borrow.Author.Rules.{rules}
 use Rattle.stamps.proofs.write.is_since.Goals as goal
 
 pub returns-then-past-text : goal.returns-then-past-text

@@ -8,7 +8,6 @@ use mir.Syntax.{w32, w64}
 use mir.Facts.{to_z-of_z}
 use borrow.Author.Rules.{sfits_of}
 use Rattle.stamps.specs.Stamps.{is_whole_minutes}
-use borrow.Author.Rules.{rules}
 use Rattle.stamps.proofs.write.is_whole.Goals as goal
 
 pub returns : goal.returns

@@ -8,7 +8,6 @@ use Rattle.time.specs.Header.{header_bytes}
 use Rattle.stamps.specs.Writing.{hull_line}
 use Rattle.text.proofs.Behind.{Front, front-append, front_room, front_whole}
 use Rattle.stamps.proofs.Writing.{good_hull, length-ended-hull_line}
-use borrow.Author.Rules.{rules}
 use Rattle.stamps.proofs.write.put_hull.Goals as goal
 
 pub put_part-at-requires : goal.put_part-at-requires
@@ -36,8 +35,7 @@ put_time_field-at-requires c =
     let a = c.args in
     let hull : Front (bytes "hull") a.room.now c.put_part-at.new.room c.put_part-at.result = record { is = c.put_part-at.ensures.room_after; place = c.put_part-at.ensures.value } in
     let path = front-append (tab ∷ a.path.now) hull c.put_field-at.ensures.room_after c.put_field-at.ensures.value in
-    let key = front-append (tab ∷ a.key.now) path c.put_field-at-2.ensures.room_after c.put_field-at-2.ensures.value in
-    (
+    let key = front-append (tab ∷ a.key.now) path c.put_field-at-2.ensures.room_after c.put_field-at-2.ensures.value in (
       (good_hull a.path.now a.key.now a.time c.requires.time_value).narrow,
       front_room (tab ∷ header_bytes a.time) key
           (omega (arith, c.requires.time_in_bounds, length-append (hull_line a.path.now a.key.now a.time) (newline ∷ []))),

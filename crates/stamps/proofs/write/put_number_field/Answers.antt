@@ -10,7 +10,6 @@ use Rattle.text.specs.Decimal.{signed}
 use Rattle.text.specs.Lines.{tab}
 use Rattle.text.specs.Room.{put_at}
 use Rattle.text.proofs.Behind.{length-put_at, put_at-behind}
-use borrow.Author.Rules.{rules}
 use Rattle.stamps.proofs.write.put_number_field.Goals as goal
 
 pub put_number-requires : goal.put_number-requires

@@ -1,5 +1,5 @@
 -- `stamps::write::put_since` meets its contract: five parts, one behind the other.
-use mathlib.Core.Path.{◌≡◌, subst, ap, ◌∙◌}
+use mathlib.Core.Path.{subst, ap, ◌∙◌}
 use mathlib.Core.List.{[], ◌∷◌, ◌++◌}
 use native.Mathlib.Omega.{arith}
 use lib.IntN.{ℤ}
@@ -47,8 +47,8 @@ put_number_field-at-requires-2 c =
     let f : SFits w64 a.current.seconds = search rules in
     let z = to_z-of_z w64 a.current.seconds f in
     let seconds =
-        subst (λ (z : ℤ). Front (bytes "since" ++ tab ∷ a.text.now ++ tab ∷ signed z) a.room.now c.put_number_field-at.new.room c.put_number_field-at.result) z
-        (front-append _ text c.put_number_field-at.ensures.room_after c.put_number_field-at.ensures.value) in
+    subst (λ (z : ℤ). Front (bytes "since" ++ tab ∷ a.text.now ++ tab ∷ signed z) a.room.now c.put_number_field-at.new.room c.put_number_field-at.result) z
+    (front-append _ text c.put_number_field-at.ensures.room_after c.put_number_field-at.ensures.value) in
     let g : SFits w32 a.current.offset = search rules in
     let h : SFits w64 c.as_i64.result = search rules in
     let o = to_z-of_z w64 c.as_i64.result h ∙ c.as_i64.ensures ∙ to_z-of_z w32 a.current.offset g in
@@ -66,14 +66,14 @@ put_part-requires c =
     let f : SFits w64 a.current.seconds = search rules in
     let z = to_z-of_z w64 a.current.seconds f in
     let seconds =
-        subst (λ (z : ℤ). Front (bytes "since" ++ tab ∷ a.text.now ++ tab ∷ signed z) a.room.now c.put_number_field-at.new.room c.put_number_field-at.result) z
-        (front-append _ text c.put_number_field-at.ensures.room_after c.put_number_field-at.ensures.value) in
+    subst (λ (z : ℤ). Front (bytes "since" ++ tab ∷ a.text.now ++ tab ∷ signed z) a.room.now c.put_number_field-at.new.room c.put_number_field-at.result) z
+    (front-append _ text c.put_number_field-at.ensures.room_after c.put_number_field-at.ensures.value) in
     let g : SFits w32 a.current.offset = search rules in
     let h : SFits w64 c.as_i64.result = search rules in
     let o = to_z-of_z w64 c.as_i64.result h ∙ c.as_i64.ensures ∙ to_z-of_z w32 a.current.offset g in
     let offset =
-        subst (λ (z : ℤ). Front (bytes "since" ++ tab ∷ a.text.now ++ tab ∷ signed a.current.seconds ++ tab ∷ signed z) a.room.now c.put_number_field-at-2.new.room c.put_number_field-at-2.result) o
-        (front-append _ seconds c.put_number_field-at-2.ensures.room_after c.put_number_field-at-2.ensures.value) in
+    subst (λ (z : ℤ). Front (bytes "since" ++ tab ∷ a.text.now ++ tab ∷ signed a.current.seconds ++ tab ∷ signed z) a.room.now c.put_number_field-at-2.new.room c.put_number_field-at-2.result) o
+    (front-append _ seconds c.put_number_field-at-2.ensures.room_after c.put_number_field-at-2.ensures.value) in
     front_room (newline ∷ []) offset c.requires
 
 pub returns : goal.returns
@@ -85,12 +85,12 @@ returns c =
     let f : SFits w64 a.current.seconds = search rules in
     let z = to_z-of_z w64 a.current.seconds f in
     let seconds =
-        subst (λ (z : ℤ). Front (bytes "since" ++ tab ∷ a.text.now ++ tab ∷ signed z) a.room.now c.put_number_field-at.new.room c.put_number_field-at.result) z
-        (front-append _ text c.put_number_field-at.ensures.room_after c.put_number_field-at.ensures.value) in
+    subst (λ (z : ℤ). Front (bytes "since" ++ tab ∷ a.text.now ++ tab ∷ signed z) a.room.now c.put_number_field-at.new.room c.put_number_field-at.result) z
+    (front-append _ text c.put_number_field-at.ensures.room_after c.put_number_field-at.ensures.value) in
     let g : SFits w32 a.current.offset = search rules in
     let h : SFits w64 c.as_i64.result = search rules in
     let o = to_z-of_z w64 c.as_i64.result h ∙ c.as_i64.ensures ∙ to_z-of_z w32 a.current.offset g in
     let offset =
-        subst (λ (z : ℤ). Front (bytes "since" ++ tab ∷ a.text.now ++ tab ∷ signed a.current.seconds ++ tab ∷ signed z) a.room.now c.put_number_field-at-2.new.room c.put_number_field-at-2.result) o
-        (front-append _ seconds c.put_number_field-at-2.ensures.room_after c.put_number_field-at-2.ensures.value) in
+    subst (λ (z : ℤ). Front (bytes "since" ++ tab ∷ a.text.now ++ tab ∷ signed a.current.seconds ++ tab ∷ signed z) a.room.now c.put_number_field-at-2.new.room c.put_number_field-at-2.result) o
+    (front-append _ seconds c.put_number_field-at-2.ensures.room_after c.put_number_field-at-2.ensures.value) in
     front_whole (front-append (newline ∷ []) offset c.put_part.ensures.room_after c.put_part.ensures.value)

@@ -4,7 +4,6 @@ use mathlib.Core.List.{[], ◌∷◌}
 use Rattle.text.specs.Lines.{tab}
 use Rattle.time.specs.Header.{header_bytes}
 use Rattle.text.proofs.Behind.{put_at-behind}
-use borrow.Author.Rules.{rules}
 use Rattle.stamps.proofs.write.put_time_field.Goals as goal
 
 pub returns : goal.returns

@@ -3,7 +3,6 @@ use mathlib.Core.Path.{sym, ◌∙◌}
 use native.Mathlib.Omega.{arith}
 use Rattle.stamps.specs.Writing.{hull_line, hull_written}
 use Rattle.stamps.proofs.Writing.{wrote_nothing, wrote_too_short, wrote_line}
-use borrow.Author.Rules.{rules}
 use Rattle.stamps.proofs.write.write_hull.Goals as goal
 
 pub hull_width-n-requires : goal.hull_width-n-requires

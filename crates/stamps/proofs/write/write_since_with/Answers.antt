@@ -4,7 +4,6 @@ use mathlib.Core.Bool.{true}
 use Rattle.relative.specs.Relative.{max_pairs}
 use Rattle.stamps.specs.Writing.{is_since, since_line, since_written}
 use Rattle.stamps.proofs.Writing.{wrote_nothing}
-use borrow.Author.Rules.{rules}
 use Rattle.stamps.proofs.write.write_since_with.Goals as goal
 
 pub returns-then-is_since : goal.returns-then-is_since
