@@ -4,7 +4,7 @@
 -- listing is that of the book without the lines that went (`listing_of_compacted`).
 -- Assumes nothing.
 use mathlib.Core.Path.{◌≡◌, refl, sym, ap, ◌∙◌}
-use mathlib.Core.Bool.{true, false≢true, and_false}
+use mathlib.Core.Bool.{true, false≢true, and-false}
 use mathlib.Core.List.{List, [], ◌∷◌, ◌++◌}
 use Prim.Native.Nat.{ℕ, ◌≤◌}
 use native.Mathlib.Omega.{arith}
@@ -121,7 +121,7 @@ module _ (bound : ℕ) where
       let x = line_of bound l in
       by_test (is_kept bound l x ls)
       (λ y. by_test (is_listed c x) (λ t. rw (y, t, listed_kept (cut_off_below c x) ls)) (λ t. rw (y, t, listed_kept (cut_off_below c x) ls)))
-      (λ n. rw (n, and_false (is_listed c x)) (listed_kept c ls ∙ ap (λ (d : Integer). listed_of_kept bound d ls) (sym (cut_off_below-hull c x (hull_of_gone bound l x ls n)))))
+      (λ n. rw (n, and-false (is_listed c x)) (listed_kept c ls ∙ ap (λ (d : Integer). listed_of_kept bound d ls) (sym (cut_off_below-hull c x (hull_of_gone bound l x ls n)))))
     where
       cut_off_below-hull : (c : Integer) (x : Line) → is_hull_line x ≡ true → cut_off_below c x ≡ c
       cut_off_below-hull c (Hull h) e = refl

@@ -26,12 +26,12 @@ returns-then-room-length c =
 pub copy_lines-requires : goal.copy_lines-requires
 copy_lines-requires c =
     let kept-are = c.keep_lines-found.ensures in record {
-      count_in_bounds = kept-are.0.few;
-      count_in_bounds_2 = omega (arith, ap length (bytes-kept _ _ _ kept-are.0.lines_are), kept-are.1, c.if-room-length.false);
+      count_in_bounds = kept-are.table.few;
+      count_in_bounds_2 = omega (arith, ap length (bytes-kept _ _ _ kept-are.table.lines_are), kept-are.length_value, c.if-room-length.false);
     }
 
 pub returns : goal.returns
 returns c =
     let kept-are = c.keep_lines-found.ensures in
-    let all = copies_written (compacted max_pairs c.args.book.now) c.args.room.now refl _ kept-are.1 _ c.if-room-length.false
-    (c.copy_lines.ensures ∙ ap (λ (bytes : List ℕ). bytes ++ drop (length bytes) c.args.room.now) (bytes-kept _ _ _ kept-are.0.lines_are)) in record { value = all.0; room_after = all.1 }
+    let all = copies_written (compacted max_pairs c.args.book.now) c.args.room.now refl _ kept-are.length_value _ c.if-room-length.false
+    (c.copy_lines.ensures ∙ ap (λ (bytes : List ℕ). bytes ++ drop (length bytes) c.args.room.now) (bytes-kept _ _ _ kept-are.table.lines_are)) in record { value = all.0; room_after = all.1 }

@@ -13,7 +13,7 @@ compact_good-requires c = sym c.check_with-checked.ensures ∙ c.in-Good.is
 pub returns-in-Good : goal.returns-in-Good
 returns-in-Good c =
     let e = sym c.check_with-checked.ensures ∙ c.in-Good.is in
-    let all = rw e c.compact_good.ensures in record { value = all.0; room_after = all.1 }
+    record { value = rw e c.compact_good.ensures.value; room_after = rw e c.compact_good.ensures.room_after }
 
 -- a book that is not good
 pub returns-in-Refused : goal.returns-in-Refused

@@ -1,11 +1,11 @@
 -- `compact::lines::keep_lines` meets its contract. The invariant: the lines from `at` on are done, those of them that are kept are stored, and
 -- every path of a `hull` line among them is found from its bucket. The measure is `at`.
 use mathlib.Core.Path.{◌≡◌, sym, ap, ◌∙◌}
+use mathlib.Core.Bool.{Bool}
 use mathlib.Core.List.{List}
-use Prim.Native.Nat.{ℕ}
+use Prim.Native.Nat.{ℕ, ◌-◌, ◌<◌}
 use native.Mathlib.Omega.{arith}
-use borrow.Author.Rules.{rules}
-use lib.ListN.{drop, get_or}
+use lib.ListN.{take, drop, get_or}
 use Rattle.text.specs.Lines.{ended_lines, taken_by}
 use Rattle.relative.specs.Relative.{max_pairs}
 use Rattle.stamps.proofs.Listings.{good_book_iff}
@@ -16,26 +16,19 @@ use Rattle.compact.proofs.Keeping.{Keeping, keeping_start, count-le, count-lt, k
 use Rattle.compact.proofs.lines.keep_lines.Goals as goal
 
 -- the line in front of `at`
-line : (c : goal.After-last_start-start)
-    → LineBack c.args.book.now c.loop-at.at c.last_start-start.result
-line c =
-    let book = c.args.book.now in
-    line_back book c.loop-at.at c.last_start-start.result c.loop-at-test.true c.loop-at.invariant.within c.loop-at.invariant.whole (c.last_start-start.ensures ∙ ap (λ (s : List ℕ). taken_by (ended_lines s)) c.up_to.ensures)
+line : {book heads links places : List ℕ} {at count size start : ℕ} {s : List ℕ} → Keeping max_pairs book heads links places at count size → 0 < at
+    → s ≡ take (at - 1) book → start ≡ taken_by (ended_lines s) → LineBack book at start
+line {book} {heads} {links} {places} {at} {count} {size} {start} j some is e =
+    line_back book at start some j.within j.whole (e ∙ ap (λ (t : List ℕ). taken_by (ended_lines t)) is)
 
--- the bucket of its path
-bucket : (c : goal.After-bucket_of-bucket)
-    → c.bucket_of-bucket.result ≡ bucket_of (path_at (drop c.last_start-start.result c.args.book.now))
-bucket c =
-    c.bucket_of-bucket.ensures.0 ∙ ap bucket_of (c.path_at-path.ensures ∙ ap path_at c.from.ensures)
+-- the line that begins at `start`: the bucket of its path, and whether it is overtaken
+module _ (book : List ℕ) (start : ℕ) {text path : List ℕ} {found : ℕ} (text_is : text ≡ drop start book) (path_is : path ≡ path_at text) (found_is : found ≡ bucket_of path) where
+  bucket : found ≡ bucket_of (path_at (drop start book))
+  bucket = found_is ∙ ap bucket_of (path_is ∙ ap path_at text_is)
 
--- whether it is overtaken
-overtaken : (c : goal.After-is_overtaken) → let book = c.before.before.args.book.now in
-    let path = path_at (drop c.last-start.result book) in
-    is_overtaken book c.loop.links c.loop.places path (get_or c.loop.heads (bucket_of path) 0) ≡ c.is_overtaken.result
-overtaken c =
-    let book = c.before.before.args.book.now in
-    let path_is = c.path_at_lem.ensures ∙ ap path_at c.from.ensures in
-    sym (c.is_overtaken.ensures ∙ (λ i. is_overtaken book c.loop.links c.loop.places (path_is i) (get_or c.loop.heads (bucket c.before.before.before.before i) 0)))
+  overtaken : (heads links places : List ℕ) {r : Bool} → r ≡ is_overtaken book links places path (get_or heads found 0)
+      → is_overtaken book links places (path_at (drop start book)) (get_or heads (bucket_of (path_at (drop start book))) 0) ≡ r
+  overtaken heads links places e = sym (e ∙ (λ i. is_overtaken book links places ((path_is ∙ ap path_at text_is) i) (get_or heads (bucket i) 0)))
 
 pub loop-at-init : goal.loop-at-init
 loop-at-init c =
@@ -45,56 +38,53 @@ loop-at-init c =
 -- a line that is overtaken
 pub loop-at-preserved-then-is_overtaken : goal.loop-at-preserved-then-is_overtaken
 loop-at-preserved-then-is_overtaken c =
-    keeping_dropped c.loop.invariant c.before.before.requires.0 c.last-start.result (line c.before.before.before.before.before.before.before.before) (overtaken c.before ∙ c.if-is_overtaken.true)
+    keeping_dropped c.loop-at.invariant c.requires.book_value c.last_start-start.result (line c.loop-at.invariant c.loop-at-test.true c.up_to.ensures c.last_start-start.ensures)
+    (overtaken c.args.book.now c.last_start-start.result c.from.ensures c.path_at-path.ensures c.bucket_of-bucket.ensures.0 c.loop-at.heads c.loop-at.links c.loop-at.places c.is_overtaken.ensures ∙ c.if-is_overtaken.true)
 
 -- a line that is kept
 pub loop-at-preserved : goal.loop-at-preserved
 loop-at-preserved c =
-    keeping_taken c.loop.invariant c.before.before.requires.0 c.last-start.result (line c.before.before.before.before.before.before.before.before.before.before.before.before.before.before.before.before.before.before) (overtaken c.before.before.before.before.before.before.before.before.before.before.before ∙ c.if-is_overtaken.false)
-    c.bucket-of.result (bucket c.before.before.before.before.before.before.before.before.before.before.before.before.before.before.before) bucket_of-lt _ _ _ c.enter.ensures.heads_after c.enter.ensures.links_after c.enter.ensures.places_after
+    keeping_taken c.loop-at.invariant c.requires.book_value c.last_start-start.result (line c.loop-at.invariant c.loop-at-test.true c.up_to.ensures c.last_start-start.ensures)
+    (overtaken c.args.book.now c.last_start-start.result c.from.ensures c.path_at-path.ensures c.bucket_of-bucket.ensures.0 c.loop-at.heads c.loop-at.links c.loop-at.places c.is_overtaken.ensures ∙ c.if-is_overtaken.false)
+    c.bucket_of-bucket.result (bucket c.args.book.now c.last_start-start.result c.from.ensures c.path_at-path.ensures c.bucket_of-bucket.ensures.0) bucket_of-lt _ _ _ c.enter.ensures.heads_after c.enter.ensures.links_after
+    c.enter.ensures.places_after
 
 pub is_overtaken-requires : goal.is_overtaken-requires
 is_overtaken-requires c =
-    let j = c.loop.invariant in
-    let least = j.heads_le c.bucket-of.result in
-    (omega (arith, least, count-le j c.before.before.requires.0, j.link_places), j.link_places ∙ sym j.place_places, λ k lt. j.down k (omega (arith, least)))
+    let j = c.loop-at.invariant in
+    let least = j.heads_le c.bucket_of-bucket.result in
+    (omega (arith, least, count-le j c.requires.book_value, j.link_places), j.link_places ∙ sym j.place_places, λ k lt. j.down k (omega (arith, least)))
 
 pub enter-requires : goal.enter-requires
 enter-requires c =
-    let j = c.loop.invariant in
-    let few = count-lt j c.before.before.requires.0 c.last-start.result (line c.before.before.before.before.before.before.before.before.before.before.before) in
-    (omega (arith, (line c.before.before.before.before.before.before.before.before.before.before.before).size_is, j.within, ((good_book_iff max_pairs c.before.before.args.book.now).0 c.before.before.requires.0).0), omega (arith, c.bucket-of.ensures.1, j.head_places), omega (arith, few), omega (arith, few, j.link_places), omega (arith, few, j.place_places))
+    let j = c.loop-at.invariant in
+    let back = line j c.loop-at-test.true c.up_to.ensures c.last_start-start.ensures in
+    let few = count-lt j c.requires.book_value c.last_start-start.result back in (
+      omega (arith, back.size_is, j.within, ((good_book_iff max_pairs c.args.book.now).0 c.requires.book_value).0),
+      omega (arith, c.bucket_of-bucket.ensures.1, j.head_places),
+      omega (arith, few),
+      omega (arith, few, j.link_places),
+      omega (arith, few, j.place_places),
+    )
 
 pub returns : goal.returns
 returns c =
     let all = keeping_end c.loop-at.invariant c.requires.book_value (omega (arith, c.loop-at-test.false)) in record { table = all.0; length_value = all.1 }
 
-pub offset_bounds-heads-bucket : goal.offset_bounds-heads-bucket
-offset_bounds-heads-bucket c = record { fits = omega (arith, c.bucket_of-bucket.ensures.1) }
-
-pub bounds-heads-bucket : goal.bounds-heads-bucket
-bounds-heads-bucket c = omega (arith, c.bucket_of-bucket.ensures.1, c.loop-at.invariant.head_places)
-
 pub loop-at-smaller-then-is_overtaken : goal.loop-at-smaller-then-is_overtaken
-loop-at-smaller-then-is_overtaken c = omega (arith, (line c.before.before.before.before.before.before.before.before).size_is)
+loop-at-smaller-then-is_overtaken c = omega (arith, (line c.loop-at.invariant c.loop-at-test.true c.up_to.ensures c.last_start-start.ensures).size_is)
 
 pub overflow_sub-length : goal.overflow_sub-length
-overflow_sub-length c = omega (arith, (line c.before.before.before.before.before.before.before.before.before.before.before.before.before.before.before.before.before.before).size_is)
+overflow_sub-length c = omega (arith, (line c.loop-at.invariant c.loop-at-test.true c.up_to.ensures c.last_start-start.ensures).size_is)
 
 pub overflow_add-length : goal.overflow_add-length
-overflow_add-length c = let j = c.loop.invariant in record { fits = omega (arith, j.shorter, (line c.before.before.before.before.before.before.before.before.before.before.before.before.before.before.before.before.before.before).size_is) }
+overflow_add-length c =
+    let j = c.loop-at.invariant in record { fits = omega (arith, j.shorter, (line j c.loop-at-test.true c.up_to.ensures c.last_start-start.ensures).size_is) }
 
 pub overflow_add-count : goal.overflow_add-count
-overflow_add-count c = record { fits = omega (arith, count-lt c.loop.invariant c.before.before.requires.0 c.last-start.result (line c.before.before.before.before.before.before.before.before.before.before.before.before.before.before.before.before.before.before)) }
+overflow_add-count c =
+    let j = c.loop-at.invariant in
+    record { fits = omega (arith, count-lt j c.requires.book_value c.last_start-start.result (line j c.loop-at-test.true c.up_to.ensures c.last_start-start.ensures)) }
 
 pub loop-at-smaller : goal.loop-at-smaller
-loop-at-smaller c = omega (arith, (line c.before.before.before.before.before.before.before.before.before.before.before.before.before.before.before.before.before.before).size_is)
-
-pub shape_of-heads : goal.shape_of-heads
-shape_of-heads c = c.loop-at.invariant.head_places ∙ c.requires.value.0
-
-pub shape_of-links : goal.shape_of-links
-shape_of-links c = c.loop-at.invariant.link_places ∙ c.requires.value_2.0
-
-pub shape_of-places : goal.shape_of-places
-shape_of-places c = c.loop-at.invariant.place_places ∙ c.requires.value_2.1
+loop-at-smaller c = omega (arith, (line c.loop-at.invariant c.loop-at-test.true c.up_to.ensures c.last_start-start.ensures).size_is)

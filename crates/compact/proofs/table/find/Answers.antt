@@ -19,6 +19,3 @@ returns c =
     let chain : ℕ → ℕ = λ b. let first = get_or c.args.heads.now b 0 in
     number_in c.args.book.now c.args.links.now c.args.places.now c.args.path.now first first in
     c.find_in_chain.ensures ∙ ap chain c.bucket_of-bucket.ensures.0
-
-pub offset_bounds-heads-bucket : goal.offset_bounds-heads-bucket
-offset_bounds-heads-bucket c = let table = c.requires.1 in omega (arith, c.bucket_of-bucket.ensures.1, table.head_places)

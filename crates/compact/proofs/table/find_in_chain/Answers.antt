@@ -48,21 +48,3 @@ unfolding number_in
 returns c =
     let z : c.loop-k.k ≡ 0 = omega (arith, c.loop-k-test.false) in
     sym (c.loop-k.invariant.1 ∙ ap (λ (m : ℕ). number_in c.args.book.now c.args.links.now c.args.places.now c.args.path.now m m) z)
-
-pub loop-k-init : goal.loop-k-init
-loop-k-init c = (le_refl _, refl)
-
-pub bounds-places-k : goal.bounds-places-k
-bounds-places-k c = omega (arith, c.loop-k.invariant.0, c.requires.0, c.requires.1, c.loop-k-test.true)
-
-pub overflow_cast-places : goal.overflow_cast-places
-overflow_cast-places c = record { fits = omega (arith, (c.shared_slice_known-in-loop-k-1.given (c.loop-k.k - 1)).fits) }
-
-pub bounds-links-k : goal.bounds-links-k
-bounds-links-k c = omega (arith, c.loop-k.invariant.0, c.requires.0, c.loop-k-test.true)
-
-pub overflow_cast-k-in-loop-k : goal.overflow_cast-k-in-loop-k
-overflow_cast-k-in-loop-k c = record { fits = omega (arith, (c.shared_slice_known-in-loop-k-2-1.given (c.loop-k.k - 1)).fits) }
-
-pub loop-k-smaller : goal.loop-k-smaller
-loop-k-smaller c = omega (arith, c.requires.2 (c.loop-k.k - 1) (omega (arith, c.loop-k.invariant.0)), c.loop-k-test.true)
