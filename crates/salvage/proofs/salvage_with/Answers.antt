@@ -15,7 +15,7 @@ pub returns-then-are_long_enough : goal.returns-then-are_long_enough
 returns-then-are_long_enough c =
     let found = c.take_lines-found.ensures in
     let all = salvages_written max_pairs c.args.book.now c.args.room.now c.args.report.now c.if-book-gt-MAX_BOOK.false _ _ _ _ _
-    (sym c.are_long_enough.ensures ∙ c.if-are_long_enough.true) found.0 found.1.0 found.1.1 in record { value = all.0; room_after = all.1.0; report_after = all.1.1 }
+    (sym c.are_long_enough.ensures ∙ c.if-are_long_enough.true) found.length_value found.room_after found.report_after in record { value = all.0; room_after = all.1.0; report_after = all.1.1 }
 
 -- a room is too short
 pub returns : goal.returns

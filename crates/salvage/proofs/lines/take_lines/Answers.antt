@@ -68,7 +68,15 @@ pub good_run_with-run-requires : goal.good_run_with-run-requires
 good_run_with-run-requires c = c.requires.months
 
 pub overflow_add-next : goal.overflow_add-next
-overflow_add-next c = record { fits = omega (arith, (add-next-2 c).ranges) }
+overflow_add-next c =
+    let ran = c.good_run_with-run.ensures in
+    record {
+      fits = omega (
+        arith,
+        line_within c.loop-at.invariant _ _ _ c.from-rest.ensures ran.0 ran.1 c.loop-at-test.true _ c.from.ensures _ c.first_place-size.ensures.0,
+        c.requires.book_len_bound,
+      );
+    }
 
 pub shape_of-report-then-bad-eq0 : goal.shape_of-report-then-bad-eq0
 shape_of-report-then-bad-eq0 c = c.loop-at.invariant.in_report.same
@@ -77,13 +85,34 @@ pub overflow_sub-number : goal.overflow_sub-number
 overflow_sub-number c = pos_of_not-zero _ c.if-bad-eq0.false
 
 pub overflow_add-number-in-loop-at : goal.overflow_add-number-in-loop-at
-overflow_add-number-in-loop-at c = record { fits = omega (arith, (loop-again c).number_is, (loop-again c).fewer, (loop-again c).within, c.requires.book_len_bound) }
+overflow_add-number-in-loop-at c =
+    let ran = c.good_run_with-run.ensures in
+    record {
+      fits = omega (
+        arith,
+        bad_within c.loop-at.invariant _ _ _ c.from-rest.ensures ran.0 ran.1,
+        c.requires.book_len_bound,
+      );
+    }
 
 pub overflow_add-at : goal.overflow_add-at
-overflow_add-at c = record { fits = omega (arith, (loop-again c).within, c.requires.book_len_bound) }
+overflow_add-at c =
+    let ran = c.good_run_with-run.ensures in
+    record {
+      fits = omega (
+        arith,
+        line_within c.loop-at.invariant _ _ _ c.from-rest.ensures ran.0 ran.1 c.loop-at-test.true _ c.from.ensures _ c.first_place-size.ensures.0,
+        c.requires.book_len_bound,
+      );
+    }
 
 pub loop-at-smaller : goal.loop-at-smaller
-loop-at-smaller c = omega (arith, (loop-again c).within)
+loop-at-smaller c =
+    let ran = c.good_run_with-run.ensures in
+    omega (
+      arith,
+      line_within c.loop-at.invariant _ _ _ c.from-rest.ensures ran.0 ran.1 c.loop-at-test.true _ c.from.ensures _ c.first_place-size.ensures.0,
+    )
 
 pub shape_of-room : goal.shape_of-room
 shape_of-room c = c.loop-at.invariant.in_room_lem.same
