@@ -1,8 +1,9 @@
 // The text that `monthstrip --help` writes. `.ci/help` tests that docs/monthstrip.1 has each of its lines.
 use crate::write_out;
 
-pub fn write_help() {
+pub fn write_help(rt: &HostRuntime) {
     write_out(
+        rt,
         b"Usage: monthstrip YEAR MONTH
        monthstrip -h | --help
        monthstrip --version

@@ -8,19 +8,43 @@
 //
 // No message is written while the old file is open for writing: if standard error was closed when the
 // program started, the open file may have its number.
+//
+// std closes a file where it is dropped, and does not say how that went. The bytes of a new file are on
+// the device by then; for a device or a pipe, a close that fails is not noticed.
 ghost use Rattle.std.specs.Prelude.{◌≤◌, ◌≡◌, length};
-ghost use Rattle.libc.specs.Io.{Ended};
 
-use crate::{Reading, fail, names, put, read_whole, refuse, write_whole};
-use libc::types::{stat, timespec};
-use libc::{PATH_MAX, STDIN_FILENO};
-use text::{decimal, places};
+use crate::{
+    Reading, fail, read_whole, refuse, refuse_name, say, say_number, say_reason, unread,
+    write_whole,
+};
+use std::fs::{File, Metadata, OpenOptions, Permissions};
+use std::io::ErrorKind;
+use std::os::unix::fs::{MetadataExt, OpenOptionsExt, PermissionsExt, fchown};
+use std::random::RandomSource;
+use std::{fs, io, process, str};
 
 // The bits of a mode that say who may read, write and run the file.
 const PERMISSIONS: u32 = 0o777;
 
-// The mode of a file of which nothing is known. No file has it: a mode says of what kind the file is.
-const UNKNOWN: u32 = 0;
+// The permissions of a file that its owner alone may read.
+const PRIVATE: u32 = 0o600;
+
+// The letters and digits that the name of a new file ends in, and how many of them.
+const LETTERS: &[u8; 62] = b"ABCDEFGHIJKLMNOPQRSTUVWXYZabcdefghijklmnopqrstuvwxyz0123456789";
+
+const DRAWN: usize = 6;
+
+// How many names are tried for a new file.
+const TRIES: usize = 100;
+
+// The system's error for a name that is taken.
+const EEXIST: i32 = 17;
+
+// What the system calls the descriptors that are open, and standard input among them. std tells nothing of
+// a descriptor that it has not opened.
+const DESCRIPTORS: &str = "/proc/self/fd";
+
+const INPUT: &str = "/proc/self/fd/0";
 
 // What a new file takes over from the file that it replaces.
 #[derive(Clone, Copy)]
@@ -30,312 +54,363 @@ struct Kept {
     group: u32,
 }
 
+// What is open: a regular file, something else, or something that the system tells nothing about.
+#[derive(Clone, Copy)]
+enum Kind {
+    Regular(Kept),
+    Other,
+    Unknown,
+}
+
 // Reads a file that `replace_file` can replace, to its end or until `room` is full. What is not a
 // regular file is refused, and so is a symbolic link.
-pub fn read_regular(program: &[u8], path: &[u8], room: &mut [u8]) -> Reading
+pub fn read_regular(rt: &HostRuntime, program: &[u8], path: &[u8], room: &mut [u8]) -> Reading
     ensures { result.length ≤ length room.new }
 {
-    let fd = os::open_read(path);
-    if fd < 0 {
-        fail(program, path);
+    let Ok(text) = str::from_utf8(path) else {
+        refuse_name(rt, program, path);
         return unread();
+    };
+    match fs::open(rt, text) {
+        Ok(mut file) => {
+            if may_replace(rt, program, text, &file) {
+                return read_whole(rt, program, path, &mut file, room);
+            }
+            unread()
+        }
+        Err(error) => {
+            fail(rt, program, path, &error);
+            unread()
+        }
     }
-    if may_replace(program, path, fd) {
-        let reading = read_whole(program, path, fd, room);
-        libc::close(fd);
-        return reading;
-    }
-    libc::close(fd);
-    unread()
 }
 
 // Whether the file that is open for reading is regular and is not named by a symbolic link. If not, the
 // reason goes to standard error.
-fn may_replace(program: &[u8], path: &[u8], fd: i32) -> bool {
-    let about = kept_of(fd);
-    if is_regular(about.mode) {
-        if is_link(path) {
-            refuse_link(program, path);
-            return false;
+fn may_replace(rt: &HostRuntime, program: &[u8], path: &str, file: &File) -> bool {
+    match kind_of(file) {
+        Kind::Regular(_) => {
+            if is_link(rt, path) {
+                refuse_link(rt, program, path);
+                return false;
+            }
+            true
         }
-        return true;
+        Kind::Other | Kind::Unknown => {
+            refuse_kind(rt, program, path);
+            false
+        }
     }
-    refuse_kind(program, path);
-    false
 }
 
-fn refuse_link(program: &[u8], path: &[u8]) {
-    refuse(program, path, b"a symbolic link; name the file itself");
+fn refuse_link(rt: &HostRuntime, program: &[u8], path: &str) {
+    refuse(
+        rt,
+        program,
+        path.as_bytes(),
+        b"a symbolic link; name the file itself",
+    );
 }
 
-fn refuse_kind(program: &[u8], path: &[u8]) {
-    refuse(program, path, b"not a regular file");
-}
-
-fn unread() -> Reading
-    ensures { result.length ≡ 0 }
-{
-    Reading {
-        length: 0,
-        failed: true,
-    }
+fn refuse_kind(rt: &HostRuntime, program: &[u8], path: &str) {
+    refuse(rt, program, path.as_bytes(), b"not a regular file");
 }
 
 // Replaces the regular file at `path`, or makes it, and returns true. It then holds `s`; permissions,
 // owner and group are those of the file before it, as far as the user may set them. If anything fails,
 // the reason goes to standard error, the answer is false, and the file is as it was. A file that the
 // user may not write is not replaced.
-pub fn replace_file(program: &[u8], path: &[u8], s: &[u8]) -> bool {
-    let fd = os::open_append(path);
-    if fd < 0 {
-        return replace_missing(program, path, s);
+pub fn replace_file(rt: &HostRuntime, program: &[u8], path: &[u8], s: &[u8]) -> bool {
+    let Ok(text) = str::from_utf8(path) else {
+        refuse_name(rt, program, path);
+        return false;
+    };
+    match open_append(rt, text) {
+        Ok(file) => {
+            let kind = kind_of(&file);
+            drop(file);
+            match kind {
+                Kind::Regular(old) => replace(rt, program, text, Some(old), s),
+                Kind::Other | Kind::Unknown => {
+                    refuse_kind(rt, program, text);
+                    false
+                }
+            }
+        }
+        Err(error) => replace_missing(rt, program, text, &error, s),
     }
-    let old = kept_of(fd);
-    libc::close(fd);
-    if is_regular(old.mode) {
-        return replace(program, path, old, s);
-    }
-    refuse_kind(program, path);
-    false
 }
 
 // The same for a file that may also be a device or a pipe, which is written to as it is. Opening a file
 // to append neither makes it nor empties it. Opening it to read could wait for ever: a pipe waits until
 // somebody writes to it.
-pub fn write_file(program: &[u8], path: &[u8], s: &[u8]) -> bool {
-    let fd = os::open_append(path);
-    if fd < 0 {
-        return replace_missing(program, path, s);
-    }
-    let old = kept_of(fd);
-    if is_regular(old.mode) {
-        libc::close(fd);
-        return replace(program, path, old, s);
-    }
-    if old.mode == UNKNOWN {
-        libc::close(fd);
-        refuse_kind(program, path);
+pub fn write_file(rt: &HostRuntime, program: &[u8], path: &[u8], s: &[u8]) -> bool {
+    let Ok(text) = str::from_utf8(path) else {
+        refuse_name(rt, program, path);
         return false;
+    };
+    match open_append(rt, text) {
+        Ok(mut file) => match kind_of(&file) {
+            Kind::Regular(old) => {
+                drop(file);
+                replace(rt, program, text, Some(old), s)
+            }
+            Kind::Unknown => {
+                drop(file);
+                refuse_kind(rt, program, text);
+                false
+            }
+            Kind::Other => write_whole(rt, program, path, &mut file, s),
+        },
+        Err(error) => replace_missing(rt, program, text, &error, s),
     }
-    let wrote = write_whole(program, path, fd, s);
-    close(program, path, fd, wrote)
+}
+
+fn open_append(rt: &HostRuntime, path: &str) -> io::Result<File> {
+    OpenOptions::new().append(true).open(rt, path)
 }
 
 // Makes the file at `path`, which could not be opened, if the reason is that there is none.
-fn replace_missing(program: &[u8], path: &[u8], s: &[u8]) -> bool {
-    if os::errno() == libc::ENOENT {
-        let old = Kept {
-            mode: UNKNOWN,
-            user: 0,
-            group: 0,
-        };
-        return replace(program, path, old, s);
+fn replace_missing(
+    rt: &HostRuntime,
+    program: &[u8],
+    path: &str,
+    error: &io::Error,
+    s: &[u8],
+) -> bool {
+    if error.kind() == ErrorKind::NotFound {
+        return replace(rt, program, path, None, s);
     }
-    fail(program, path);
+    fail(rt, program, path.as_bytes(), error);
     false
 }
 
-// Replaces the file at `path`, which is regular, or is missing and has an unknown mode. Where a file is
+// Replaces the file at `path`, which is regular, or makes it if there is none before it. Where a file is
 // replaced, the new one can be read by its owner alone until it has the permissions of the old one.
-fn replace(program: &[u8], path: &[u8], old: Kept, s: &[u8]) -> bool {
-    if is_link(path) {
-        refuse_link(program, path);
+fn replace(rt: &HostRuntime, program: &[u8], path: &str, old: Option<Kept>, s: &[u8]) -> bool {
+    if is_link(rt, path) {
+        refuse_link(rt, program, path);
         return false;
     }
-    let mut room = names();
-    let at = put(path, 0, &mut room);
-    let at = put(b".tmp.", at, &mut room);
-    if old.mode == UNKNOWN {
-        let end = put_process(at, &mut room);
-        let new = places::up_to(&room, end);
-        let fd = os::create(new);
-        return replace_by(program, path, new, fd, old, s);
+    let made = match old {
+        Some(_) => create_private(rt, path),
+        None => create_shared(rt, path),
+    };
+    match made {
+        Ok(new) => replace_by(rt, program, path, new, old, s),
+        Err(error) => {
+            fail_beside(rt, program, path, old, &error);
+            false
+        }
     }
-    let end = put(b"XXXXXX", at, &mut room);
-    let fd = create_private(end, &mut room);
-    replace_by(program, path, places::up_to(&room, end), fd, old, s)
 }
 
-// Makes a file that its owner alone may read, and returns its descriptor, or -1. Its name is at the front
-// of `room`, up to `end`, and the X at its end are replaced there.
-fn create_private(end: usize, room: &mut [u8]) -> i32 {
-    if room.len() < end {
-        return -1;
+// A file that is made beside another, and its name.
+struct New {
+    name: String,
+    file: File,
+}
+
+// Makes a file whose name ends in the number of this process, and which all may read whom the umask of
+// the process lets.
+fn create_shared(rt: &HostRuntime, path: &str) -> io::Result<New> {
+    let name = shared_name(rt, path)?;
+    let file = OpenOptions::new()
+        .write(true)
+        .create_new(true)
+        .open(rt, name.as_str())?;
+    Ok(New { name, file })
+}
+
+fn shared_name(rt: &HostRuntime, path: &str) -> io::Result<String> {
+    let id = process::id(rt.process());
+    Ok(format!(in rt.alloc(); "{path}.tmp.{id}")?)
+}
+
+// Makes a file that its owner alone may read. Its name ends in letters and digits that the system draws.
+fn create_private(rt: &HostRuntime, path: &str) -> io::Result<New> {
+    for _ in 0..TRIES {
+        let name = private_name(rt, path)?;
+        let made = OpenOptions::new()
+            .write(true)
+            .create_new(true)
+            .mode(PRIVATE)
+            .open(rt, name.as_str());
+        match made {
+            Ok(file) => return Ok(New { name, file }),
+            Err(error) => {
+                if error.kind() != ErrorKind::AlreadyExists {
+                    return Err(error);
+                }
+            }
+        }
     }
-    os::create_temp(&mut room[..end])
+    Err(io::Error::from_raw_os_error(EEXIST))
 }
 
-// Puts the number of this process into `room`.
-fn put_process(at: usize, room: &mut [u8]) -> usize {
-    let mut digits = [0u8; 20];
-    let n = io::decimal(process(), &mut digits);
-    put(&digits[..n], at, room)
+fn private_name(rt: &HostRuntime, path: &str) -> io::Result<String> {
+    let mut drawn = [0u8; DRAWN];
+    rt.fill_bytes(&mut drawn)?;
+    let mut name = format!(in rt.alloc(); "{path}.tmp.")?;
+    for byte in drawn {
+        name.push(char::from(LETTERS[byte as usize % LETTERS.len()]))?;
+    }
+    Ok(name)
 }
 
-// The number of this process, which is never negative.
-fn process() -> u64 {
-    let pid = libc::getpid();
-    decimal::magnitude(pid as i64)
+// Says why no file was made beside the one at `path`.
+fn fail_beside(rt: &HostRuntime, program: &[u8], path: &str, old: Option<Kept>, error: &io::Error) {
+    say(rt, program);
+    say(rt, b": ");
+    say(rt, path.as_bytes());
+    say(rt, b".tmp.");
+    match old {
+        Some(_) => say(rt, b"XXXXXX"),
+        None => say_number(rt, process::id(rt.process()) as usize),
+    }
+    say_reason(rt, error);
 }
 
 // Fills the new file and renames it over the old one. If that fails, the new file is removed.
-fn replace_by(program: &[u8], path: &[u8], new: &[u8], fd: i32, old: Kept, s: &[u8]) -> bool {
-    if fd < 0 {
-        fail(program, new);
-        return false;
-    }
-    let filled = fill(program, new, fd, old, s);
-    if close(program, new, fd, filled) {
-        if os::rename(new, path) >= 0 {
-            return true;
+fn replace_by(
+    rt: &HostRuntime,
+    program: &[u8],
+    path: &str,
+    new: New,
+    old: Option<Kept>,
+    s: &[u8],
+) -> bool {
+    let New { name, mut file } = new;
+    let filled = fill(rt, program, name.as_str(), &mut file, old, s);
+    drop(file);
+    if filled {
+        match fs::rename(rt, name.as_str(), path) {
+            Ok(()) => return true,
+            Err(error) => fail(rt, program, path.as_bytes(), &error),
         }
-        fail(program, path);
     }
-    os::unlink(new);
+    let _ = fs::remove_file(rt, name.as_str());
     false
 }
 
 // Gives the new file its owner and permissions, before it holds a byte, and then its bytes, and waits
 // until they are on the device.
-fn fill(program: &[u8], new: &[u8], fd: i32, old: Kept, s: &[u8]) -> bool {
-    if has_taken_over(fd, old) {
-        if write_whole(program, new, fd, s) {
-            return sync(program, new, fd);
+fn fill(
+    rt: &HostRuntime,
+    program: &[u8],
+    new: &str,
+    file: &mut File,
+    old: Option<Kept>,
+    s: &[u8],
+) -> bool {
+    match take_over(file, old) {
+        Ok(()) => {
+            if write_whole(rt, program, new.as_bytes(), file, s) {
+                return sync(rt, program, new, file);
+            }
+            false
         }
-        return false;
-    }
-    fail(program, new);
-    false
-}
-
-// Gives the new file what is known of the old one, and returns false if the permissions cannot be set.
-// Most users may not give a file away, so it does not count if the owner and the group cannot be set.
-fn has_taken_over(fd: i32, old: Kept) -> bool {
-    if old.mode == UNKNOWN {
-        return true;
-    }
-    libc::fchown(fd, old.user, old.group);
-    libc::fchmod(fd, old.mode & PERMISSIONS) >= 0
-}
-
-fn sync(program: &[u8], new: &[u8], fd: i32) -> bool {
-    if libc::fsync(fd) < 0 {
-        fail(program, new);
-        return false;
-    }
-    true
-}
-
-// Closes a file that was written, and returns whether the writing and the closing went well. What
-// failed before has been reported already.
-fn close(program: &[u8], name: &[u8], fd: i32, wrote: bool) -> bool {
-    let closed = libc::close(fd);
-    if wrote {
-        if closed < 0 {
-            fail(program, name);
-            return false;
+        Err(error) => {
+            fail(rt, program, new.as_bytes(), &error);
+            false
         }
-        return true;
     }
-    false
 }
 
-// Whether a symbolic link is at `path`. The text of the link is not used: to read it is the one call of
-// the kit that needs no struct and does not follow a link.
-fn is_link(path: &[u8]) -> bool {
-    let path = ended(path);
-    let mut text = [0u8; 1];
-    libc::readlink(&path, &mut text) >= 0
+// Gives the new file what is known of the old one, and fails if the permissions cannot be set. Most
+// users may not give a file away, so it does not count if the owner and the group cannot be set.
+fn take_over(file: &File, old: Option<Kept>) -> io::Result<()> {
+    match old {
+        Some(kept) => {
+            let _ = fchown(file, Some(kept.user), Some(kept.group));
+            file.set_permissions(Permissions::from_mode(kept.mode & PERMISSIONS))
+        }
+        None => Ok(()),
+    }
 }
 
-// As much of `path` as leaves room for a 0, and then zeros.
-fn ended(path: &[u8]) -> [u8; PATH_MAX]
-    ensures { Ended result }
-{
-    let mut room = io::buffer();
-    put(path, 0, &mut room);
-    room[PATH_MAX - 1] = 0;
-    room
+fn sync(rt: &HostRuntime, program: &[u8], new: &str, file: &File) -> bool {
+    match file.sync_all() {
+        Ok(()) => true,
+        Err(error) => {
+            fail(rt, program, new.as_bytes(), &error);
+            false
+        }
+    }
+}
+
+// Whether a symbolic link is at `path`.
+fn is_link(rt: &HostRuntime, path: &str) -> bool {
+    match fs::symlink_metadata(rt, path) {
+        Ok(about) => about.is_symlink(),
+        Err(_) => false,
+    }
 }
 
 // Whether two paths name the same regular file: by the same name, by two spellings of it, or by a link. The
 // answer is false if a path names no file, or a file that the system tells nothing about.
-pub fn is_same_file(path: &[u8], other: &[u8]) -> bool {
-    are_same(known_at(path), known_at(other))
+pub fn is_same_file(rt: &HostRuntime, path: &[u8], other: &[u8]) -> bool {
+    are_same(known_at(rt, path), known_at(rt, other))
 }
 
-// Whether standard input is read from the regular file that a path names.
-pub fn is_input(path: &[u8]) -> bool {
-    are_same(filled(STDIN_FILENO, nothing_known()), known_at(path))
-}
-
-// A file of which nothing is known has device 0 and inode 0, and no regular file has both.
-fn are_same(one: stat, other: stat) -> bool {
-    if is_regular(one.st_mode) {
-        return (one.st_dev == other.st_dev) & (one.st_ino == other.st_ino);
-    }
-    false
-}
-
-fn is_regular(mode: u32) -> bool {
-    mode & libc::S_IFMT == libc::S_IFREG
-}
-
-// What is known of an open file; the mode is `UNKNOWN` if the system does not say.
-fn kept_of(fd: i32) -> Kept {
-    let about = filled(fd, nothing_known());
-    Kept {
-        mode: about.st_mode,
-        user: about.st_uid,
-        group: about.st_gid,
+// Whether standard input is read from the regular file that a path names. Where the system cannot be
+// asked, the answer is true for every regular file, so that no caller overwrites its input.
+pub fn is_input(rt: &HostRuntime, path: &[u8]) -> bool {
+    let file = known_at(rt, path);
+    match fs::metadata(rt, INPUT) {
+        Ok(input) => are_same(Some(input), file),
+        Err(_) => is_regular(file) & !lists_descriptors(rt),
     }
 }
 
-// What `fstat` makes of `about`, which stays as it is if the call fails. `fstat` borrows a struct, so
-// this function is proved by hand.
-fn filled(fd: i32, about: stat) -> stat {
-    let mut known = about;
-    libc::fstat(fd, &mut known);
-    known
+// Whether the system names the descriptors that are open: if it does, and names no standard input, that
+// is closed.
+fn lists_descriptors(rt: &HostRuntime) -> bool {
+    match fs::metadata(rt, DESCRIPTORS) {
+        Ok(about) => about.is_dir(),
+        Err(_) => false,
+    }
+}
+
+fn are_same(one: Option<Metadata>, other: Option<Metadata>) -> bool {
+    let (Some(one), Some(other)) = (one, other) else {
+        return false;
+    };
+    one.is_file() & (one.dev() == other.dev()) & (one.ino() == other.ino())
+}
+
+fn is_regular(about: Option<Metadata>) -> bool {
+    match about {
+        Some(about) => about.is_file(),
+        None => false,
+    }
+}
+
+// Of what kind an open file is.
+fn kind_of(file: &File) -> Kind {
+    match file.metadata() {
+        Ok(about) => {
+            if about.is_file() {
+                return Kind::Regular(Kept {
+                    mode: about.mode(),
+                    user: about.uid(),
+                    group: about.gid(),
+                });
+            }
+            Kind::Other
+        }
+        Err(_) => Kind::Unknown,
+    }
 }
 
 // What is known of the file that a path names. A symbolic link is followed. Nothing is opened, because
 // opening a pipe could wait for ever.
-fn known_at(path: &[u8]) -> stat {
-    let path = ended(path);
-    filled_at(&path, nothing_known())
-}
-
-// What `stat` makes of `about`, which stays as it is if the call fails. `stat` borrows a struct, so this
-// function is proved by hand.
-fn filled_at(path: &[u8; PATH_MAX], about: stat) -> stat
-    requires { Ended path.now }
-{
-    let mut known = about;
-    libc::stat(path, &mut known);
-    known
-}
-
-fn nothing_known() -> stat {
-    let never = timespec {
-        tv_sec: 0,
-        tv_nsec: 0,
+fn known_at(rt: &HostRuntime, path: &[u8]) -> Option<Metadata> {
+    let Ok(text) = str::from_utf8(path) else {
+        return None;
     };
-    stat {
-        st_dev: 0,
-        st_ino: 0,
-        st_nlink: 0,
-        st_mode: UNKNOWN,
-        st_uid: 0,
-        st_gid: 0,
-        __pad: 0,
-        st_rdev: 0,
-        st_size: 0,
-        st_blksize: 0,
-        st_blocks: 0,
-        st_atim: never,
-        st_mtim: never,
-        st_ctim: never,
-        __unused: [0; 3],
+    match fs::metadata(rt, text) {
+        Ok(about) => Some(about),
+        Err(_) => None,
     }
 }

@@ -3,8 +3,8 @@
 //
 // No contract can say which bytes are read or written: what is proved here is that every call is safe
 // and ends. A read or a write that a signal interrupts is made again, and so is one on a descriptor
-// that does not block and is not ready. The exit status of a Rattle program is always 0, so every
-// failure is reported by a message.
+// that does not block and is not ready. The programs end with the exit status 0, and every failure is
+// reported by a message.
 #![tactic(auto)]
 
 pub mod files;
@@ -12,15 +12,21 @@ pub mod files;
 ghost use Rattle.std.specs.Prelude.{◌≤◌, ◌≡◌, length};
 ghost use Rattle.streams.specs.Names.{name_of};
 
-use libc::types::timespec;
-use libc::{STDERR_FILENO, STDIN_FILENO, STDOUT_FILENO};
+use std::env::FillError;
+use std::io::{Cursor, ErrorKind, Read, Write};
+use std::rt::{Clock, Env};
+use std::time::Duration;
+use std::{fs, io, str, thread};
 use text::{bytes, places};
 
-// How long a program waits for a descriptor that is not ready, in nanoseconds.
-const PAUSE: i64 = 1000000;
+// How long a program waits for a descriptor that is not ready, in milliseconds.
+const PAUSE: u64 = 1;
 
-// Room for the name of a program and the name of its input, which has at most 4,096 bytes.
-const NAMES: usize = 8192;
+// Room for the reason of a failure, as std words it.
+const REASON: usize = 256;
+
+// No argument of a program is longer.
+pub const MAX_ARGUMENT: usize = 4096;
 
 // What reading an input gave: how many bytes, and whether it failed.
 #[derive(Clone, Copy)]
@@ -39,62 +45,80 @@ pub fn name_of<'a>(path: &'a [u8], input: &'a [u8]) -> &'a [u8]
     path
 }
 
+// Whether the program was given an argument `i`. Argument 0 is the name of the program.
+pub fn has_argument(rt: &impl Env, i: usize) -> bool {
+    match rt.arg(i, &mut []) {
+        Ok(_) => true,
+        Err(FillError::TooLong) => true,
+        Err(FillError::NotPresent) => false,
+    }
+}
+
 // Reads a file to its end, or until `room` is full. If the file cannot be opened or read, the reason
 // goes to standard error. The bytes read are at the front of `room`.
-pub fn read_file(program: &[u8], path: &[u8], room: &mut [u8]) -> Reading
+pub fn read_file(rt: &HostRuntime, program: &[u8], path: &[u8], room: &mut [u8]) -> Reading
     ensures { result.length ≤ length room.new }
 {
-    let fd = os::open_read(path);
-    if fd < 0 {
-        fail(program, path);
-        return Reading {
-            length: 0,
-            failed: true,
-        };
+    let Ok(text) = str::from_utf8(path) else {
+        refuse_name(rt, program, path);
+        return unread();
+    };
+    match fs::open(rt, text) {
+        Ok(mut file) => read_whole(rt, program, path, &mut file, room),
+        Err(error) => {
+            fail(rt, program, path, &error);
+            unread()
+        }
     }
-    let reading = read_whole(program, path, fd, room);
-    libc::close(fd);
-    reading
 }
 
 // Reads standard input in the same way.
-pub fn read_input(program: &[u8], room: &mut [u8]) -> Reading
+pub fn read_input(rt: &HostRuntime, program: &[u8], room: &mut [u8]) -> Reading
     ensures { result.length ≤ length room.new }
 {
-    read_whole(program, b"standard input", STDIN_FILENO, room)
+    let mut input = rt.stdin();
+    read_whole(rt, program, b"standard input", &mut input, room)
 }
 
-// Reads what `name` names from its descriptor. A proved loop has to end, and nothing says that an
-// input does not interrupt its reads for ever, so the loop counts its reads down from a number that no
-// run uses up. What is behind the loop is never reached.
-fn read_whole(program: &[u8], name: &[u8], fd: i32, room: &mut [u8]) -> Reading
+// Reads what `name` names. A proved loop has to end, and nothing says that an input does not interrupt
+// its reads for ever, so the loop counts its reads down from a number that no run uses up. What is
+// behind the loop is never reached.
+fn read_whole<I: Read>(
+    rt: &HostRuntime,
+    program: &[u8],
+    name: &[u8],
+    input: &mut I,
+    room: &mut [u8],
+) -> Reading
     ensures { result.length ≤ length room.new }
 {
     let mut held: usize = 0;
-    let mut turns = u64::MAX;
-    while turns > 0 {
+    for _ in 0..u64::MAX {
         if room.len() <= held {
             return Reading {
                 length: held,
                 failed: false,
             };
         }
-        let got = libc::read(fd, &mut room[held..]);
-        if has_failed(got) {
-            fail(program, name);
-            return Reading {
-                length: held,
-                failed: true,
-            };
+        let got = input.read(&mut room[held..]);
+        match got {
+            Ok(0) => {
+                return Reading {
+                    length: held,
+                    failed: false,
+                };
+            }
+            Ok(n) => held += n,
+            Err(error) => {
+                if has_failed(rt, &error) {
+                    fail(rt, program, name, &error);
+                    return Reading {
+                        length: held,
+                        failed: true,
+                    };
+                }
+            }
         }
-        if got == 0 {
-            return Reading {
-                length: held,
-                failed: false,
-            };
-        }
-        held += io::count(got, &room[held..]);
-        turns -= 1;
     }
     Reading {
         length: held,
@@ -102,34 +126,50 @@ fn read_whole(program: &[u8], name: &[u8], fd: i32, room: &mut [u8]) -> Reading
     }
 }
 
+// What reading a file gave that could not be opened.
+fn unread() -> Reading
+    ensures { result.length ≡ 0 }
+{
+    Reading {
+        length: 0,
+        failed: true,
+    }
+}
+
 // Writes all of `s` to standard output and returns true. If a write fails, the reason goes to
 // standard error and the answer is false; some of `s` may have been written by then.
-pub fn write_out(program: &[u8], s: &[u8]) -> bool {
-    write_whole(program, b"standard output", STDOUT_FILENO, s)
+pub fn write_out(rt: &HostRuntime, program: &[u8], s: &[u8]) -> bool {
+    let mut out = rt.stdout();
+    write_whole(rt, program, b"standard output", &mut out, s)
 }
 
 // The same for standard error, where `s` is an answer and not a message. If a write fails, there may be
 // nowhere to say so.
-pub fn write_error(program: &[u8], s: &[u8]) -> bool {
-    write_whole(program, b"standard error", STDERR_FILENO, s)
+pub fn write_error(rt: &HostRuntime, program: &[u8], s: &[u8]) -> bool {
+    let mut out = rt.stderr();
+    write_whole(rt, program, b"standard error", &mut out, s)
 }
 
-// Writes all of `s` in the same way to what `name` names, by its descriptor. The kit's `io::write_all`
-// gives up at the first interrupted write and does not say how much it wrote, so the loop is here. A
-// proved loop has to end: it counts its writes down from a number that no run uses up.
-fn write_whole(program: &[u8], name: &[u8], fd: i32, s: &[u8]) -> bool {
+// Writes all of `s` in the same way to what `name` names. std's `write_all` does not wait for a
+// descriptor that is not ready, so the loop is here. A proved loop has to end: it counts its writes down
+// from a number that no run uses up.
+fn write_whole<O: Write>(
+    rt: &HostRuntime,
+    program: &[u8],
+    name: &[u8],
+    out: &mut O,
+    s: &[u8],
+) -> bool {
     let mut done: usize = 0;
-    let mut turns = u64::MAX;
-    while turns > 0 {
+    for _ in 0..u64::MAX {
         if s.len() <= done {
             return true;
         }
-        let wrote = write_once(program, name, fd, &s[done..]);
+        let wrote = write_once(rt, program, name, out, &s[done..]);
         if wrote.failed {
             return false;
         }
         done += wrote.taken;
-        turns -= 1;
     }
     false
 }
@@ -143,115 +183,115 @@ struct Wrote {
 
 // Makes one write of `s`, which is not empty. It may take only a part of `s`, or nothing if it has to
 // be made again.
-fn write_once(program: &[u8], name: &[u8], fd: i32, s: &[u8]) -> Wrote
+fn write_once<O: Write>(
+    rt: &HostRuntime,
+    program: &[u8],
+    name: &[u8],
+    out: &mut O,
+    s: &[u8],
+) -> Wrote
     ensures { result.taken ≤ length s.now }
 {
-    let got = libc::write(fd, s);
-    if has_failed(got) {
-        fail(program, name);
-        return Wrote {
-            taken: 0,
-            failed: true,
-        };
-    }
-    if got == 0 {
-        refuse(program, name, b"no byte was taken");
-        return Wrote {
-            taken: 0,
-            failed: true,
-        };
-    }
-    Wrote {
-        taken: io::count(got, s),
-        failed: false,
-    }
-}
-
-// Whether a read or a write that returned `got` has failed for good. It has not if it moved bytes, if
-// a signal interrupted it, or if its descriptor does not block and is not ready yet. In the last two
-// cases `got` is negative, and the caller makes the call again. `errno` belongs to that call, so the
-// caller has to ask this before it makes any other call.
-pub fn has_failed(got: isize) -> bool {
-    if got >= 0 {
-        return false;
-    }
-    let error = os::errno();
-    if error == libc::EINTR {
-        return false;
-    }
-    if error == libc::EAGAIN {
-        pause();
-        return false;
-    }
-    true
-}
-
-// Waits for a millisecond. The kit has no call that waits until a descriptor is ready (`poll`). A
-// signal may end the wait early, which does no harm. `nanosleep` borrows two structs, so this
-// function is proved by hand.
-fn pause() {
-    let asked = timespec {
-        tv_sec: 0,
-        tv_nsec: PAUSE,
-    };
-    let mut left = timespec {
-        tv_sec: 0,
-        tv_nsec: 0,
-    };
-    libc::nanosleep(&asked, &mut left);
-}
-
-// Writes `PROGRAM: NAME: reason` to standard error, where the reason is that of the call that has just
-// failed. The names are put together first: a write between that call and `os::fail` could change
-// `errno`.
-pub fn fail(program: &[u8], name: &[u8]) {
-    let mut room = names();
-    let at = put(program, 0, &mut room);
-    let at = put(b": ", at, &mut room);
-    let end = put(name, at, &mut room);
-    os::fail(places::up_to(&room, end));
-}
-
-// Writes `PROGRAM: NAME: why` to standard error, where no call has failed and the program itself says why.
-fn refuse(program: &[u8], name: &[u8], why: &[u8]) {
-    io::write_all(STDERR_FILENO, program);
-    io::write_all(STDERR_FILENO, b": ");
-    io::write_all(STDERR_FILENO, name);
-    io::write_all(STDERR_FILENO, b": ");
-    io::write_all(STDERR_FILENO, why);
-    io::write_all(STDERR_FILENO, b"\n");
-}
-
-fn names() -> [u8; 8192]
-    ensures { 8192 ≡ length result }
-{
-    [0; NAMES]
-}
-
-// Puts as much of `part` as fits into `room` from place `at` on, and returns the place past it.
-fn put(part: &[u8], at: usize, room: &mut [u8]) -> usize {
-    let mut end = at;
-    let mut i = 0;
-    while i < part.len() {
-        if room.len() <= end {
-            return end;
+    let put = out.write(s);
+    match put {
+        Ok(0) => {
+            refuse(rt, program, name, b"no byte was taken");
+            Wrote {
+                taken: 0,
+                failed: true,
+            }
         }
-        room[end] = part[i];
-        end += 1;
-        i += 1;
+        Ok(taken) => Wrote {
+            taken,
+            failed: false,
+        },
+        Err(error) => {
+            let failed = has_failed(rt, &error);
+            if failed {
+                fail(rt, program, name, &error);
+            }
+            Wrote { taken: 0, failed }
+        }
     }
-    end
+}
+
+// Whether a read or a write that ended in `error` has failed for good. It has not if a signal
+// interrupted it, or if its descriptor does not block and is not ready yet: then the caller makes the
+// call again.
+pub fn has_failed(rt: &impl Clock, error: &io::Error) -> bool {
+    match error.kind() {
+        ErrorKind::Interrupted => false,
+        ErrorKind::WouldBlock => {
+            thread::sleep(rt, Duration::from_millis(PAUSE));
+            false
+        }
+        _ => true,
+    }
+}
+
+// Writes `PROGRAM: NAME: reason` to standard error, where the reason is that of `error`.
+pub fn fail(rt: &HostRuntime, program: &[u8], name: &[u8], error: &io::Error) {
+    say(rt, program);
+    say(rt, b": ");
+    say(rt, name);
+    say_reason(rt, error);
+}
+
+// Writes the end of a message: a colon and the reason of a failure.
+fn say_reason(rt: &HostRuntime, error: &io::Error) {
+    let mut reason = Cursor::new([0u8; REASON]);
+    let _ = write!(reason, "{error}");
+    let said = places::before(reason.get_ref(), 0);
+    say(rt, b": ");
+    say(rt, system_words(said));
+    say(rt, b"\n");
+}
+
+// The reason in the system's words: std puts ` (os error N)` behind them.
+fn system_words(said: &[u8]) -> &[u8] {
+    match str::from_utf8(said) {
+        Ok(text) => match text.split_once(" (os error ") {
+            Some((words, _)) => words.as_bytes(),
+            None => said,
+        },
+        Err(_) => said,
+    }
+}
+
+// Writes `PROGRAM: NAME: why` to standard error.
+fn refuse(rt: &HostRuntime, program: &[u8], name: &[u8], why: &[u8]) {
+    say(rt, program);
+    say(rt, b": ");
+    say(rt, name);
+    say(rt, b": ");
+    say(rt, why);
+    say(rt, b"\n");
+}
+
+// std opens a file by a name that is text in UTF-8, and by no other.
+fn refuse_name(rt: &HostRuntime, program: &[u8], path: &[u8]) {
+    refuse(rt, program, path, b"the name is not UTF-8");
+}
+
+// Writes a part of a message to standard error. If the write fails, there is nowhere to say so.
+pub fn say(rt: &HostRuntime, part: &[u8]) {
+    let _ = Print::write_all(&rt.stderr(), part);
+}
+
+// Writes a number to standard error, in plain decimal.
+pub fn say_number(rt: &HostRuntime, n: usize) {
+    let _ = rt.stderr().print(n);
 }
 
 // Says on standard error where a book is bad: `NAME:LINE: bad line`, or that it is too long if the line
 // is 0. It is the message of every program that reads a book.
-pub fn bad_book(name: &[u8], line: usize) {
-    io::write_all(STDERR_FILENO, name);
+pub fn bad_book(rt: &HostRuntime, name: &[u8], line: usize) {
+    say(rt, name);
     if line == 0 {
-        io::write_all(STDERR_FILENO, b": too long: more than 65,536 bytes\n");
+        say(rt, b": too long: more than 65,536 bytes\n");
         return;
     }
-    io::write_all(STDERR_FILENO, b":");
-    io::print_decimal(STDERR_FILENO, line as u64);
-    io::write_all(STDERR_FILENO, b": bad line\n");
+    say(rt, b":");
+    say_number(rt, line);
+    say(rt, b": bad line\n");
 }

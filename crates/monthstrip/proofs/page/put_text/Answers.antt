@@ -1,0 +1,10 @@
+-- `monthstrip::page::put_text` meets its contract.
+use native.Mathlib.Omega.{arith}
+use Rattle.text.proofs.Behind.{drop-put_at}
+use Rattle.monthstrip.proofs.page.put_text.Goals as goal
+
+pub returns : goal.returns
+returns c = record {
+  text_value = omega arith;
+  page_after = drop-put_at c.args.text.now c.args.page.now _ c.args.end c.put_part.ensures.room_after c.requires.0 c.requires.1;
+}

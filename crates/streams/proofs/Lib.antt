@@ -1,3 +1,0 @@
--- The laws of the functions that are proved by hand. Stats: a `stat` in memory.
--- Assumes nothing.
-pub mod Stats
