@@ -2,7 +2,7 @@
 -- of a line that asks.
 -- Assumes nothing.
 use mathlib.Core.Path.{◌≡◌, sym, ap, ◌∙◌}
-use mathlib.Core.Bool.{◌&&◌, and_false}
+use mathlib.Core.Bool.{◌&&◌, and-false}
 use mathlib.Core.List.{List}
 use Prim.Native.Nat.{ℕ, ◌+◌, ◌^◌, ◌≤◌, ◌<◌}
 use native.Mathlib.Omega.{arith}
@@ -50,7 +50,7 @@ line_of_of_length s h = rw (lt-leb (length s) max_line h)
 
 pub line_of_no_tab : (s : List ℕ) → length s ≤ first_place tab s → Wrong ≡ line_of s
 unfolding line_of has
-line_of_no_tab s h = rw (le-ltb (first_place tab s) (length s) h, and_false)
+line_of_no_tab s h = rw (le-ltb (first_place tab s) (length s) h, and-false)
 
 -- r is what follows the first tab, t what follows the second
 module _ (s r : List ℕ) (a b : ℕ) (ea : a ≡ first_place tab s) (er : r ≡ drop (a + 1) s) (eb : b ≡ first_place tab r) where
@@ -58,7 +58,7 @@ module _ (s r : List ℕ) (a b : ℕ) (ea : a ≡ first_place tab s) (er : r ≡
   unfolding line_of has
   line_of-one-tab h =
       let p : r ≡ rest s = cut_rest s r a ea er in
-      rw (le-ltb (first_place tab (rest s)) (length (rest s)) (omega (arith, ap length p, ap (first_place tab) p)), and_false, and_false)
+      rw (le-ltb (first_place tab (rest s)) (length (rest s)) (omega (arith, ap length p, ap (first_place tab) p)), and-false, and-false)
 
   module _ (t : List ℕ) (c : ℕ) (et : t ≡ drop (b + 1) r) (ec : c ≡ first_place tab t) where
     last_is : t ≡ rest (rest s)
@@ -67,7 +67,7 @@ module _ (s r : List ℕ) (a b : ℕ) (ea : a ≡ first_place tab s) (er : r ≡
     pub line_of-two-tabs : length t ≤ c → Wrong ≡ line_of s
     unfolding line_of has
     line_of-two-tabs h =
-        rw (le-ltb (first_place tab (rest (rest s))) (length (rest (rest s))) (omega (arith, ap length last_is, ap (first_place tab) last_is)), and_false, and_false, and_false)
+        rw (le-ltb (first_place tab (rest (rest s))) (length (rest (rest s))) (omega (arith, ap length last_is, ap (first_place tab) last_is)), and-false, and-false, and-false)
 
     pub line_of-three_tabs : (f g h : List ℕ) (n : Named) (k : Current) (x : Line) → length s ≤ max_line → a < length s → b < length r → c < length t
         → f ≡ take a s → g ≡ take b r → h ≡ take c t → n ≡ form_named f → k ≡ current_of g h → x ≡ asks n k (a + 1 + (b + 1) + (c + 1)) → x ≡ line_of s

@@ -4,7 +4,6 @@ use Rattle.text.specs.Room.{fits, room_after}
 use Rattle.lines.specs.Rows.{row_bytes, written_in}
 use Rattle.lines.specs.Answers.{answer_line}
 use Rattle.lines.specs.declared.print.Row.{Row}
-use borrow.Author.Rules.{rules}
 use Rattle.lines.proofs.answer_with.Goals as goal
 
 pub returns : goal.returns

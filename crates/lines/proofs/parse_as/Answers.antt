@@ -1,5 +1,4 @@
 -- `lines::parse_as` meets its contract: each form has its reader.
-use borrow.Author.Rules.{rules}
 use Rattle.lines.proofs.parse_as.Goals as goal
 
 pub returns-in-Header : goal.returns-in-Header

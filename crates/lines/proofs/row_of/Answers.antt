@@ -1,6 +1,5 @@
 -- `lines::row_of` meets its contract: what the form's reader answers, or 9.
 use Rattle.lines.proofs.Answering.{row_asked, row_wrong}
-use borrow.Author.Rules.{rules}
 use Rattle.lines.proofs.row_of.Goals as goal
 
 pub returns-in-Asks : goal.returns-in-Asks

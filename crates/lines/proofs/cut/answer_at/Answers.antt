@@ -7,7 +7,6 @@ use Rattle.text.proofs.Putting.{put_behind}
 use Rattle.text.specs.Room.{fits, room_after}
 use Rattle.lines.specs.Rows.{written_in}
 use Rattle.lines.specs.Answers.{answer_line}
-use borrow.Author.Rules.{rules}
 use Rattle.lines.proofs.cut.answer_at.Goals as goal
 
 pub returns : goal.returns

@@ -1,10 +1,8 @@
 -- `lines::cut::answer_lines_with` meets its contract. The invariant: what is written, and the answers of what is left that fit, are the
 -- answers of the whole that fit. The measure is what is left.
-use Prim.Native.Nat.{◌-◌, ◌<◌}
+use Prim.Native.Nat.{◌<◌}
 use native.Mathlib.Omega.{arith}
-use borrow.Author.Rules.{rules}
-use lib.ListN.{length}
-use Rattle.lines.proofs.Buffers.{Going, going_start, going_again, stop_no_line, stop_full}
+use Rattle.lines.proofs.Buffers.{going_start, going_again, stop_no_line, stop_full}
 use Rattle.lines.proofs.cut.answer_lines_with.Goals as goal
 
 pub loop-rest-init : goal.loop-rest-init
@@ -20,9 +18,6 @@ answer_at-n-requires c = record {
   at_in_bounds = omega (arith, c.loop-rest.invariant.within, c.loop-rest.invariant.size);
 }
 
-pub shape_of-out-then-n-eq0 : goal.shape_of-out-then-n-eq0
-shape_of-out-then-n-eq0 c = let e = c.loop-rest.invariant.size in search rules
-
 pub returns-then-n-eq0 : goal.returns-then-n-eq0
 returns-then-n-eq0 c =
     let all = stop_full c.loop-rest.invariant _ _ _ _ _ c.from-rest.ensures c.first_place-e.ensures.0 c.if-rest-e.false c.up_to.ensures
@@ -33,18 +28,3 @@ pub loop-rest-preserved : goal.loop-rest-preserved
 loop-rest-preserved c = let some : 0 < c.answer_at-n.result = omega (arith, c.if-n-eq0.false) in
     going_again c.loop-rest.invariant _ _ _ _ _ c.from-rest.ensures c.first_place-e.ensures.0 c.if-rest-e.false c.up_to.ensures
     c.answer_at-n.ensures.value some c.answer_at-n.ensures.out_after
-
-pub shape_of-out-then-rest-e : goal.shape_of-out-then-rest-e
-shape_of-out-then-rest-e c = c.loop-rest.invariant.size
-
-pub overflow_add-taken : goal.overflow_add-taken
-overflow_add-taken c = record { fits = omega (arith, (loop-again c).inside) }
-
-pub overflow_add-taken-in-loop-rest : goal.overflow_add-taken-in-loop-rest
-overflow_add-taken-in-loop-rest c = record { fits = omega (arith, (loop-again c).inside) }
-
-pub overflow_add-written : goal.overflow_add-written
-overflow_add-written c = record { fits = omega (arith, (loop-again c).within) }
-
-pub loop-rest-smaller : goal.loop-rest-smaller
-loop-rest-smaller c = omega (arith, (loop-again c).inside)

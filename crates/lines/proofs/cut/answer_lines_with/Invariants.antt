@@ -1,8 +1,6 @@
-use Prim.Native.Nat.{◌-◌, ◌<◌}
-use native.Mathlib.Omega.{arith}
-use borrow.Author.Rules.{rules}
+use Prim.Native.Nat.{◌-◌}
 use lib.ListN.{length}
-use Rattle.lines.proofs.Buffers.{Going, going_start, going_again, stop_no_line, stop_full}
+use Rattle.lines.proofs.Buffers.{Going}
 use Rattle.lines.proofs.cut.answer_lines_with.Given as goal
 
 abbrev pub invariant-loop-rest : goal.invariant-loop-rest

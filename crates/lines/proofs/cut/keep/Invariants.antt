@@ -1,7 +1,5 @@
 use Prim.Native.Nat.{◌-◌}
-use native.Mathlib.Omega.{arith}
-use borrow.Author.Rules.{rules}
-use Rattle.lines.proofs.Keeping.{Moved, moved_start, moved_again, length_moved, kept_at_end, kept_at_length, kept_at_most}
+use Rattle.lines.proofs.Keeping.{Moved}
 use Rattle.lines.proofs.cut.keep.Given as goal
 
 abbrev pub invariant-loop-at : goal.invariant-loop-at

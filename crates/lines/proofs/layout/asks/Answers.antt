@@ -1,5 +1,4 @@
 -- `lines::layout::asks` meets its contract.
-use borrow.Author.Rules.{rules}
 use Rattle.lines.proofs.layout.asks.Goals as goal
 
 pub returns-in-Is : goal.returns-in-Is

@@ -4,7 +4,6 @@ use mathlib.Core.Path.{sym, ◌∙◌}
 use Rattle.text.specs.Number.{signed_of}
 use Rattle.lines.specs.Layout.{current_at, current_of}
 use Rattle.lines.proofs.Layouts.{Fits32_of_fit_signed}
-use borrow.Author.Rules.{rules}
 use Rattle.lines.proofs.layout.current_of.Goals as goal
 
 pub returns-then-same : goal.returns-then-same

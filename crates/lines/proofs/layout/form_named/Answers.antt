@@ -1,5 +1,4 @@
 -- `lines::layout::form_named` meets its contract.
-use borrow.Author.Rules.{rules}
 use Rattle.lines.proofs.layout.form_named.Goals as goal
 
 pub returns-then-same : goal.returns-then-same

@@ -1,6 +1,5 @@
 -- `lines::layout::form_of` meets its contract: the names are tried from the last to the first, and the first decides.
 use Rattle.lines.specs.Layout.{form_named}
-use borrow.Author.Rules.{rules}
 use Rattle.lines.proofs.layout.form_of.Goals as goal
 
 pub returns : goal.returns

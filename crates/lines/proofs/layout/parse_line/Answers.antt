@@ -5,7 +5,6 @@ use lib.ListN.{length, length-drop}
 use Prim.Native.Nat.{◌+◌, ◌≤◌}
 use Rattle.lines.specs.Layout.{max_line}
 use Rattle.lines.proofs.Layouts.{line_of_of_length, line_of_no_tab, line_of-one-tab, line_of-two-tabs, line_of-three_tabs}
-use borrow.Author.Rules.{rules}
 use Rattle.lines.proofs.layout.parse_line.Goals as goal
 
 pub returns-then-line-gt-MAX_LINE : goal.returns-then-line-gt-MAX_LINE
