@@ -10,7 +10,7 @@ use native.Mathlib.Numerals.{add-one}
 use native.Mathlib.Omega.{arith}
 use borrow.Author.Tests.{ltb-true, ltb-false}
 use lib.Dec.{ltb}
-use lib.ListN.{length, take, drop, get_or, length-drop, drop_of_length-le}
+use lib.ListN.{length, take, drop, length-drop, drop_of_length-le}
 use lib.Seq.{take-suc, take-add, drop-drop, drop-nil, take-nil}
 use Rattle.text.specs.Lines.{newline, ended_lines, taken_by, left}
 use Rattle.text.specs.Places.{first_place, before, has}

@@ -1,7 +1,7 @@
 -- Salvaging a damaged book (RULES 16): its good lines are copied, and the bad ones are reported. Each line is judged alone, as in a book
 -- (RULES 13.2 to 13.7). Lines are counted from 1.
 -- Assumes nothing.
-use Rattle.std.specs.Prelude.{ℕ, suc, ◌+◌, Bool, true, false, cond, List, [], ◌∷◌, ◌++◌, leb, length}
+use Rattle.std.specs.Prelude.{ℕ, suc, Bool, true, false, cond, List, [], ◌∷◌, ◌++◌, leb, length}
 use Rattle.text.specs.Decimal.{decimal}
 use Rattle.text.specs.Lines.{tab, ended_lines, left}
 use Rattle.text.specs.Room.{fit_both}

@@ -1,7 +1,6 @@
 -- `salvage::are_long_enough` meets its contract.
 use lib.Dec.{leb}
 use mathlib.Core.Bool.{◌&&◌}
-use borrow.Author.Rules.{rules}
 use Rattle.relative.specs.Relative.{max_pairs}
 use Rattle.salvage.proofs.Answers.{always_fit}
 use Rattle.salvage.proofs.are_long_enough.Goals as goal

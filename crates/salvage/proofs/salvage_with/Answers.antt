@@ -1,6 +1,5 @@
 -- `salvage::salvage_with` meets its contract.
 use mathlib.Core.Path.{sym, ◌∙◌}
-use borrow.Author.Rules.{rules}
 use Rattle.relative.specs.Relative.{max_pairs}
 use Rattle.salvage.proofs.Answers.{salvages_too_long, salvages_too_short, salvages_written}
 use Rattle.salvage.proofs.salvage_with.Goals as goal

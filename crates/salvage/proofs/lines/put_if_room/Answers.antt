@@ -1,6 +1,5 @@
 -- `salvage::lines::put_if_room` meets its contract.
 use mathlib.Core.Path.{refl}
-use borrow.Author.Rules.{rules}
 use Rattle.salvage.proofs.PutRows.{put_none, put_all}
 use Rattle.salvage.proofs.lines.put_if_room.Goals as goal
 

@@ -1,12 +1,9 @@
 -- `salvage::lines::take_lines` meets its contract. The invariant: what stands in front of `at` is taken, and with what the rest gives it makes the
 -- answer for the whole. The measure is what is left.
 use mathlib.Core.Path.{refl}
-use Prim.Native.Nat.{◌+◌, ◌-◌}
 use native.Mathlib.Omega.{arith}
-use borrow.Author.Rules.{rules}
-use lib.ListN.{length as length_of}
 use Rattle.relative.specs.Relative.{max_pairs}
-use Rattle.salvage.proofs.Pass.{Taking, taking_start, taking_end, taking_whole, taking_again, kept_fits, run_has_room, rows_have_room, line_within, bad_within, pos_of_not-zero}
+use Rattle.salvage.proofs.Pass.{taking_start, taking_end, taking_whole, taking_again, kept_fits, run_has_room, rows_have_room, line_within, bad_within, pos_of_not-zero}
 use Rattle.salvage.proofs.lines.take_lines.Goals as goal
 
 pub loop-at-init : goal.loop-at-init

@@ -1,10 +1,7 @@
-use mathlib.Core.Path.{refl}
 use Prim.Native.Nat.{◌+◌, ◌-◌}
-use native.Mathlib.Omega.{arith}
-use borrow.Author.Rules.{rules}
 use lib.ListN.{length as length_of}
 use Rattle.relative.specs.Relative.{max_pairs}
-use Rattle.salvage.proofs.Pass.{Taking, taking_start, taking_end, taking_whole, taking_again, kept_fits, run_has_room, rows_have_room, line_within, bad_within, pos_of_not-zero}
+use Rattle.salvage.proofs.Pass.{Taking}
 use Rattle.salvage.proofs.lines.take_lines.Given as goal
 
 abbrev pub invariant-loop-at : goal.invariant-loop-at

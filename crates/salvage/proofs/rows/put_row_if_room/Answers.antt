@@ -2,7 +2,6 @@
 use mathlib.Core.Path.{ap}
 use Prim.Native.Nat.{ℕ, ◌+◌}
 use native.Mathlib.Omega.{arith}
-use borrow.Author.Rules.{rules}
 use Rattle.salvage.specs.Held.{ended_row}
 use Rattle.salvage.proofs.PutRows.{put_none, put_all, put_at-row}
 use Rattle.salvage.proofs.rows.put_row_if_room.Goals as goal

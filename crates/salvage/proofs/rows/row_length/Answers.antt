@@ -1,6 +1,5 @@
 -- `salvage::rows::row_length` meets its contract.
 use native.Mathlib.Omega.{arith}
-use borrow.Author.Rules.{rules}
 use Rattle.salvage.proofs.PutRows.{length-ended_row}
 use Rattle.salvage.proofs.rows.row_length.Goals as goal
 
