@@ -2,7 +2,7 @@
 -- that have the same seconds, those of the first list come first, and each list's keep their order (`merge_is_stable`).
 -- Assumes nothing.
 use mathlib.Core.Path.{◌≡◌, refl, sym, ap, ◌∙◌, subst}
-use mathlib.Core.Bool.{true, false, false≢true, and_false}
+use mathlib.Core.Bool.{true, false, false≢true, and-false}
 use mathlib.Core.List.{List, [], ◌∷◌, ◌++◌, append-nil}
 use Prim.Native.Nat.{ℕ}
 use native.Mathlib.Omega.{arith}
@@ -88,7 +88,7 @@ module _ (bound : ℕ) where
         let w = seconds_of_hull (line_of bound l) g.0 in
         let later : is_in_order (Is w.0) (Is z) ≡ false =
         by_test (is_in_order (Is w.0) (Is z)) (λ y. absurd (false≢true (sym e ∙ is_in_order-trans above w.0 (Is z) (sym (ap (is_in_order above) w.1) ∙ p.0) y))) (λ n. n) in
-        rw (w.1, later, and_false (le_z z w.0)) (lines_at-before (Is w.0) ls later g.1 (sym (ap (λ (a : Integer). is_sorted bound a ls) w.1) ∙ p.1))
+        rw (w.1, later, and-false (le_z z w.0)) (lines_at-before (Is w.0) ls later g.1 (sym (ap (λ (a : Integer). is_sorted bound a ls) w.1) ∙ p.1))
 
     -- a line that is not in order with a line with the seconds z, which is next, is later than z
     later_of_not_in_order : (a b : Integer) → is_in_order a b ≡ false → is_at z b ≡ true → is_in_order a (Is z) ≡ false

@@ -3,7 +3,7 @@
 -- `report_with_empty_second`).
 -- Assumes nothing.
 use mathlib.Core.Path.{◌≡◌, refl, ap, ◌∙◌}
-use mathlib.Core.Bool.{Bool, true, false, cond, not, ◌&&◌, false≢true, and_false}
+use mathlib.Core.Bool.{Bool, true, false, cond, not, ◌&&◌, false≢true, and-false}
 use mathlib.Core.List.{List, [], ◌∷◌}
 use Prim.Native.Nat.{ℕ, suc}
 use lib.ListN.{length}
@@ -51,7 +51,7 @@ module _ (bound : ℕ) (ls ms : List (List ℕ)) where
   pub times_in-reported : (p : List ℕ) (above ks : List (List ℕ)) → are_hulls bound ks ≡ true
       → times_in p (reported bound ls ms above ks) ≡ cond (is_differing bound ls ms p && (holds_path bound p ks && not (holds_path bound p above))) 1 0
   unfolding reported are_hulls holds_path times_in
-  times_in-reported p above [] h = rw (and_false (is_differing bound ls ms p))
+  times_in-reported p above [] h = rw (and-false (is_differing bound ls ms p))
   times_in-reported p above (k ∷ ks) h =
       let x = line_of bound k in
       let q = path_in k x in
@@ -61,7 +61,7 @@ module _ (bound : ℕ) (ls ms : List (List ℕ)) where
       let all = times_in-reported p (k ∷ above) ks g.1 in
       by_test (same q p)
       (λ y.
-      let none : times_in p below ≡ 0 = all ∙ rw (has, y, and_false (holds_path bound p ks), and_false (is_differing bound ls ms p)) in
+      let none : times_in p below ≡ 0 = all ∙ rw (has, y, and-false (holds_path bound p ks), and-false (is_differing bound ls ms p)) in
       times_in-same p q (is_differing bound ls ms q && not (holds_path bound q above)) below y none ∙ rw (has, y, eq_of_same q p y))
       (λ n. times_in-other p q (is_differing bound ls ms q && not (holds_path bound q above)) below n ∙ all ∙ rw (has, n))
 
@@ -120,4 +120,4 @@ module _ (bound : ℕ) (list : List ℕ) where
 
   pub report_with_empty_second : report bound list [] ≡ []
   unfolding report holds_path is_differing
-  report_with_empty_second = rw ended_lines-nil (no_rows bound (ended_lines list) [] (λ p. rw (and_false (holds_path bound p (ended_lines list)))))
+  report_with_empty_second = rw ended_lines-nil (no_rows bound (ended_lines list) [] (λ p. rw (and-false (holds_path bound p (ended_lines list)))))

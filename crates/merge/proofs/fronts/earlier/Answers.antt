@@ -1,20 +1,24 @@
 -- `merge::fronts::earlier` meets its contract, machine by machine.
-use mathlib.Core.Path.{◌≡◌, refl, sym, ◌∙◌}
-use borrow.Author.Rules.{rules}
+use mathlib.Core.Path.{◌≡◌, ap, ◌∙◌}
+use mathlib.Core.List.{List}
+use Prim.Native.Nat.{ℕ}
 use Rattle.relative.specs.Relative.{max_pairs}
-use Rattle.merge.specs.Fronts.{earlier_of, earlier_machine}
+use Rattle.merge.specs.Fronts.{front_of, earlier_of, earlier_machine, line_from, earlier_line}
+use Rattle.merge.specs.declared.fronts.Front.{Front}
+use Rattle.merge.specs.declared.lists.Machine.{Machine}
 use Rattle.merge.proofs.fronts.earlier.Goals as goal
 
--- whose line it is
-machine : (c : goal.After-earlier_of-machine) → earlier_machine max_pairs c.args.first.now c.args.second.now ≡ c.earlier_of-machine.result
+-- the line of the machine that is found
+line : (first second : List ℕ) {f g : Front} {m : Machine} → f ≡ front_of max_pairs first → g ≡ front_of max_pairs second → m ≡ earlier_of f g
+    → line_from m first second ≡ earlier_line max_pairs first second
 unfolding earlier_machine
-machine c = sym (c.earlier_of-machine.ensures ∙ (λ i. earlier_of (c.front_of.ensures i) (c.front_of-2.ensures i)))
+line first second a b e = ap (λ (m : Machine). line_from m first second) (e ∙ (λ i. earlier_of (a i) (b i)))
 
 pub returns-in-First : goal.returns-in-First
-returns-in-First c = rw (machine c.before.before, c.in-First.is) refl
+returns-in-First c = line c.args.first.now c.args.second.now c.front_of.ensures c.front_of-2.ensures c.in-First.ensures
 
 pub returns-in-Second : goal.returns-in-Second
-returns-in-Second c = rw (machine c.before.before, c.in-Second.is) refl
+returns-in-Second c = line c.args.first.now c.args.second.now c.front_of.ensures c.front_of-2.ensures c.in-Second.ensures
 
 pub returns-in-Neither : goal.returns-in-Neither
-returns-in-Neither c = rw (machine c.before.before.before, c.in-Neither.is) c.up_to.ensures
+returns-in-Neither c = c.up_to.ensures ∙ line c.args.first.now c.args.second.now c.front_of.ensures c.front_of-2.ensures c.in-Neither.ensures

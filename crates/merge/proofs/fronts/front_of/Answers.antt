@@ -1,9 +1,10 @@
 -- `merge::fronts::front_of` meets its contract.
 use mathlib.Core.Path.{sym, ap, ◌∙◌}
 use mir.Syntax.{w64}
+use mir.Val.{SFits}
+use mir.ValLaws.{to_z-of_z}
 use native.Mathlib.Omega.{arith}
 use borrow.Author.Rules.{rules}
-use Rattle.ints.proofs.Machine.{back}
 use Rattle.relative.specs.Relative.{max_pairs}
 use Rattle.merge.specs.declared.fronts.Front.TheVariants.{At}
 use Rattle.merge.proofs.FrontLines.{front_empty, front_at, front_longer, front_bad}
@@ -17,7 +18,8 @@ returns-in_default c =
 -- one is, and it is all of the text
 pub returns-then-size-s : goal.returns-then-size-s
 returns-then-size-s c =
-    ap At (back w64 _ c.known_told-1.given.0.1)
+    let fits : SFits w64 c.in-Hull.seconds = search rules in
+    ap At (to_z-of_z w64 _ fits)
     ∙ front_at max_pairs c.args.s.now c.if-s-eq0.false _ _ (sym c.next_hull-next.ensures ∙ c.in-Hull.is) (omega (arith, c.if-size-s.true))
 
 -- the text goes on

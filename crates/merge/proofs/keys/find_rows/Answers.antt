@@ -16,8 +16,8 @@ use Rattle.merge.proofs.WaitingRows.{Finding, finding_start, finding_end, row_sm
 use Rattle.merge.proofs.keys.find_rows.Goals as goal
 
 -- the length of the row of the line at k
-row : (c : goal.After-row_length-length) → c.row_length-length.result ≡ cond (eqb c.other_of-other.result 0) 0 (size (path_at c.from-line.result.now) + 35)
-row c = c.row_length-length.ensures ∙ ap (λ (p : List ℕ). cond (eqb c.other_of-other.result 0) 0 (size p + 35)) c.path_at.ensures
+row : (other : ℕ) (text : List ℕ) {path : List ℕ} {n : ℕ} → n ≡ cond (eqb other 0) 0 (size path + 35) → path ≡ path_at text → n ≡ cond (eqb other 0) 0 (size (path_at text) + 35)
+row other text e path_is = e ∙ ap (λ (p : List ℕ). cond (eqb other 0) 0 (size p + 35)) path_is
 
 pub loop-k-init : goal.loop-k-init
 loop-k-init c =
@@ -27,7 +27,7 @@ pub overflow_add-length : goal.overflow_add-length
 overflow_add-length c =
     let inv = c.loop-k.invariant in
     let small = row_small max_pairs c.args.first.now c.args.second.now inv.0 c.requires.count_in_bounds.1 inv.1 c.args.heads.now c.args.links.now _ c.requires.by_index.1 c.loop-k-test.true
-    c.from-line.result.now c.from-line.ensures _ c.other_of-other.ensures.value _ (row c) in
+    c.from-line.result.now c.from-line.ensures _ c.other_of-other.ensures.value _ (row c.other_of-other.result c.from-line.result.now c.row_length-length.ensures c.path_at.ensures) in
     record { fits = omega (arith, small, inv.1.small, inv.1.few, c.requires.count_bound.0) }
 
 pub loop-k-preserved : goal.loop-k-preserved
@@ -35,7 +35,7 @@ loop-k-preserved c =
     let inv = c.loop-k.invariant in (
       inv.0,
       finding_again max_pairs c.args.first.now c.args.second.now inv.0 c.requires.count_in_bounds.1 inv.1 c.args.heads.now c.args.links.now _ c.requires.by_index.1 c.loop-k-test.true
-          c.from-line.result.now c.from-line.ensures _ c.other_of-other.ensures.value _ (row c) _ refl,
+          c.from-line.result.now c.from-line.ensures _ c.other_of-other.ensures.value _ (row c.other_of-other.result c.from-line.result.now c.row_length-length.ensures c.path_at.ensures) _ refl,
       length-set c.loop-k.waiting c.loop-k.k c.other_of-other.result ∙ inv.2,
     )
 
@@ -43,33 +43,3 @@ pub returns : goal.returns
 returns c =
     let inv = c.loop-k.invariant in
     let all = finding_end max_pairs c.args.first.now c.args.second.now inv.0 c.requires.count_in_bounds.1 inv.1 c.loop-k-test.false in record { value = all.0; all_wait = all.1 }
-
-pub offset_bounds-places-k : goal.offset_bounds-places-k
-offset_bounds-places-k c = record { fits = omega (arith, c.loop-k-test.true, c.requires.count_bound.0) }
-
-pub bounds-places-k : goal.bounds-places-k
-bounds-places-k c = omega (arith, c.loop-k-test.true, c.requires.count_in_bounds.0)
-
-pub overflow_cast-places : goal.overflow_cast-places
-overflow_cast-places c = record { fits = omega (arith, (c.shared_slice_known-in-loop-k-1.given c.loop-k.k).fits) }
-
-pub other_of-other-requires : goal.other_of-other-requires
-other_of-other-requires c = c.requires.by_index
-
-pub overflow_cast-waiting : goal.overflow_cast-waiting
-overflow_cast-waiting c = record { fits = omega (arith, c.other_of-other.ensures.upper_bound, c.requires.by_index.1.place_places) }
-
-pub offset_bounds-waiting-k : goal.offset_bounds-waiting-k
-offset_bounds-waiting-k c = record { fits = omega (arith, c.loop-k-test.true, c.requires.count_bound.0) }
-
-pub bounds-waiting-k : goal.bounds-waiting-k
-bounds-waiting-k c = omega (arith, c.loop-k-test.true, c.loop-k.invariant.1.room)
-
-pub overflow_add-k : goal.overflow_add-k
-overflow_add-k c = record { fits = omega (arith, c.loop-k-test.true, c.requires.count_bound.0) }
-
-pub loop-k-smaller : goal.loop-k-smaller
-loop-k-smaller c = omega (arith, c.loop-k-test.true)
-
-pub shape_of-waiting : goal.shape_of-waiting
-shape_of-waiting c = c.loop-k.invariant.2

@@ -1,50 +1,68 @@
 -- `merge::keys::other_of` meets its contract.
 use mathlib.Core.Path.{◌≡◌, sym, ap, ◌∙◌}
-use Prim.Native.Nat.{◌-◌, ◌≤◌}
+use mathlib.Core.Bool.{Bool}
+use mathlib.Core.List.{List}
+use Prim.Native.Nat.{ℕ, ◌-◌, ◌≤◌}
 use native.Mathlib.Omega.{arith}
-use borrow.Author.Rules.{rules}
 use lib.ListN.{length, drop, get_or}
 use Rattle.text.specs.Bytes.{same}
 use Rattle.relative.specs.Relative.{max_pairs}
-use Rattle.compact.specs.Held.{path_at, found_number}
+use Rattle.compact.specs.Held.{path_at, found_number, IsTable}
 use Rattle.merge.specs.Held.{key_at}
 use Rattle.merge.proofs.LastKeys.{number-le}
 use Rattle.merge.proofs.WaitingRows.{other_none, other_same, other_differs}
 use Rattle.merge.proofs.keys.other_of.Goals as goal
 
-number : (c : goal.After-find-n) → let start = from-find c in
-    c.find-n.result ≡ found_number start.args.second.now start.args.heads.now start.args.links.now start.args.others.now (path_at start.args.s.now)
-number c =
-    let start = from-find c in
-    c.find-n.ensures ∙ ap (found_number start.args.second.now start.args.heads.now start.args.links.now start.args.others.now) c.path_at.ensures
+-- the number that is found for the path
+number : (s second heads links others : List ℕ) {n : ℕ} {path : List ℕ} → n ≡ found_number second heads links others path → path ≡ path_at s
+    → n ≡ found_number second heads links others (path_at s)
+number s second heads links others found path_is = found ∙ ap (found_number second heads links others) path_is
 
 -- it is that of a kept line
-within : (c : goal.After-find-n) → c.find-n.result ≤ length (from-find c).args.others.now
-within c =
-    let start = from-find c in
-    let table = start.pre.1 in
-    let p = path_at start.args.s.now in
-    omega (arith, number c, number-le max_pairs start.args.second.now start.args.heads.now start.args.links.now start.args.others.now start.pre.0 table p, table.few)
+within : (second heads links others : List ℕ) (count : ℕ) → IsTable max_pairs second heads links others count → (path : List ℕ) {n : ℕ} → n ≡ found_number second heads links others path
+    → n ≤ length others
+within second heads links others count table path found = omega (arith, found, number-le max_pairs second heads links others count table path, table.few)
 
 -- whether the keys are the same
-keys : (c : goal.After-same) → let start = from-find c.before.before.before.before.before in
-    c.same.result ≡ same (key_at start.args.s.now) (key_at (drop (get_or start.args.others.now (c.find-n.result - 1) 0) start.args.second.now))
-keys c =
-    let own = c.key_at.ensures in
-    let other = c.key_at-2.ensures in
-    c.same.ensures ∙ (λ i. same (own i) (other i))
+keys : {own other a b : List ℕ} {r t : Bool} → r ≡ same own other → own ≡ a → other ≡ b → r ≡ t → same a b ≡ t
+keys e own_is other_is tested = sym (e ∙ (λ i. same (own_is i) (other_is i))) ∙ tested
 
 pub returns-then-n-eq0 : goal.returns-then-n-eq0
-returns-then-n-eq0 c = record {
-  value = other_none _ _ _ _ _ _ (number c.before) c.if-n-eq0.true;
-  upper_bound = omega arith;
-}
+returns-then-n-eq0 c =
+    record {
+      value = other_none _ _ _ _ _ _ (number c.args.s.now c.args.second.now c.args.heads.now c.args.links.now c.args.others.now c.find-n.ensures c.path_at.ensures) c.if-n-eq0.true;
+      upper_bound = omega arith;
+    }
 
 pub offset_bounds-others-n : goal.offset_bounds-others-n
-offset_bounds-others-n c = record { fits = omega (arith, within c.before.before) }
+offset_bounds-others-n c =
+    record {
+      fits =
+          omega (
+            arith,
+            within c.args.second.now c.args.heads.now c.args.links.now c.args.others.now c.requires.0 c.requires.1 c.path_at.result.now c.find-n.ensures,
+            c.requires.1.place_places,
+          );
+    }
 
 pub bounds-others-n : goal.bounds-others-n
-bounds-others-n c = omega (arith, within c.before.before.before, c.if-n-eq0.false)
+bounds-others-n c =
+    omega (arith, within c.args.second.now c.args.heads.now c.args.links.now c.args.others.now c.requires.0 c.requires.1 c.path_at.result.now c.find-n.ensures, c.if-n-eq0.false)
 
-pub overflow_cast-others : goal.overflow_cast-others
-overflow_cast-others c = record { fits = omega (arith, (c.shared_slice_known-6-1.given (c.find-n.result - 1)).fits) }
+pub returns-then-same : goal.returns-then-same
+returns-then-same c =
+    record {
+      value =
+          other_same _ _ _ _ _ _ (number c.args.s.now c.args.second.now c.args.heads.now c.args.links.now c.args.others.now c.find-n.ensures c.path_at.ensures) c.if-n-eq0.false
+          (keys c.same.ensures c.key_at.ensures c.key_at-2.ensures c.if-same.true);
+      upper_bound = omega arith;
+    }
+
+pub returns : goal.returns
+returns c =
+    record {
+      value =
+          other_differs _ _ _ _ _ _ (number c.args.s.now c.args.second.now c.args.heads.now c.args.links.now c.args.others.now c.find-n.ensures c.path_at.ensures) c.if-n-eq0.false
+          (keys c.same.ensures c.key_at.ensures c.key_at-2.ensures c.if-same.false);
+      upper_bound = within c.args.second.now c.args.heads.now c.args.links.now c.args.others.now c.requires.0 c.requires.1 c.path_at.result.now c.find-n.ensures;
+    }

@@ -1,52 +1,44 @@
 -- `merge::lists::check_lines` meets its contract. The invariant: n lines, which end at `at`, are passed, and the list is at fault as what is left
 -- is. The measure is how much is left.
 use mathlib.Core.Path.{◌≡◌, sym, ap, ◌∙◌}
+use mathlib.Core.Bool.{Bool}
 use mir.Syntax.{w64}
-use Prim.Native.Nat.{◌-◌}
+use mir.Val.{SFits, to_z, of_z}
+use mir.ValLaws.{to_z-of_z}
 use native.Mathlib.Omega.{arith}
 use borrow.Author.Rules.{rules}
-use lib.ListN.{length}
-use Rattle.ints.proofs.Machine.{back}
+use lib.IntN.{ℤ}
+use Rattle.text.specs.declared.number.Integer.{Integer}
 use Rattle.relative.specs.Relative.{max_pairs}
 use Rattle.stamps.specs.Listing.{is_at_or_after}
-use Rattle.merge.specs.Held.{next_of}
-use Rattle.merge.specs.declared.lists.Next.TheVariants.{Hull as NextHull}
-use Rattle.merge.proofs.ListLines.{Checking, checking_start, checking_end, checking_bad, checking-step-back, size-pos, size_within, checking_again}
+use Rattle.merge.proofs.ListLines.{checking_start, checking_end, checking_bad, checking-step-back, size-pos, size_within, checking_again}
 use Rattle.merge.proofs.lists.check_lines.Goals as goal
 
--- the next line
-line : (c : goal.In-Hull-2) → next_of max_pairs c.from.result.now ≡ NextHull c.in-Hull.seconds c.in-Hull.size
-line c = sym c.next_hull-next.ensures ∙ c.in-Hull.is
-
--- it is: its seconds are what the machine holds of them
-seconds : (c : goal.After-is_at_or_after)
-    → c.is_at_or_after.result ≡ is_at_or_after c.loop-at.above c.in-Hull.seconds
-seconds c =
-    let above = c.loop-at.above in
-    c.is_at_or_after.ensures ∙ ap (is_at_or_after above) (back w64 _ c.known_told-1.given.0.1)
+-- the test of the next line's seconds, which are what the machine holds of them
+seconds : (above : Integer) (z : ℤ) {t r : Bool} → SFits w64 z → t ≡ is_at_or_after above (to_z w64 (of_z w64 z)) → t ≡ r → is_at_or_after above z ≡ r
+seconds above z fits e tested = sym (e ∙ ap (is_at_or_after above) (to_z-of_z w64 z fits)) ∙ tested
 
 -- it is no good `hull` line
 pub returns-in_default : goal.returns-in_default
-returns-in_default c =
-    checking_bad c.loop-at.invariant _ c.from.ensures c.loop-at-test.true (sym c.next_hull-next.ensures ∙ c.in_default.is)
+returns-in_default c = checking_bad c.loop-at.invariant _ c.from.ensures c.loop-at-test.true (sym c.next_hull-next.ensures ∙ c.in_default.is)
 
 pub overflow_add-at : goal.overflow_add-at
-overflow_add-at c =
-    record { fits = omega (arith, size_within c.loop-at.invariant _ c.from.ensures _ _ (line c.before.before.before)) }
+overflow_add-at c = record { fits = omega (arith, size_within c.loop-at.invariant _ c.from.ensures _ _ (sym c.in-Hull.ensures)) }
 
 pub loop-at-smaller : goal.loop-at-smaller
-loop-at-smaller c =
-    let j = c.loop-at.invariant in
-    omega (arith, size-pos j _ c.from.ensures _ _ (line c.before.before.before), c.loop-at-test.true)
+loop-at-smaller c = omega (arith, size-pos c.loop-at.invariant _ c.from.ensures _ _ (sym c.in-Hull.ensures), c.loop-at-test.true)
 
 pub loop-at-preserved : goal.loop-at-preserved
 loop-at-preserved c =
-    rw (back w64 _ c.known_told-1.given.0.1) (checking_again c.loop-at.invariant _ c.from.ensures _ _ (line c.before.before.before) (sym (seconds c.before) ∙ c.if-is_at_or_after.true))
+    let fits : SFits w64 c.in-Hull.seconds = search rules in
+    rw (to_z-of_z w64 _ fits)
+    (checking_again c.loop-at.invariant _ c.from.ensures _ _ (sym c.in-Hull.ensures) (seconds c.loop-at.above _ fits c.is_at_or_after.ensures c.if-is_at_or_after.true))
 
 -- a step back
 pub returns-else-is_at_or_after : goal.returns-else-is_at_or_after
 returns-else-is_at_or_after c =
-    checking-step-back c.loop-at.invariant _ c.from.ensures _ _ (line c.before.before.before) (sym (seconds c.before) ∙ c.if-is_at_or_after.false)
+    let fits : SFits w64 c.in-Hull.seconds = search rules in
+    checking-step-back c.loop-at.invariant _ c.from.ensures _ _ (sym c.in-Hull.ensures) (seconds c.loop-at.above _ fits c.is_at_or_after.ensures c.if-is_at_or_after.false)
 
 pub loop-at-init : goal.loop-at-init
 loop-at-init c = checking_start max_pairs _ _
