@@ -4,10 +4,9 @@
 ghost use Rattle.std.specs.Prelude.{◌≤◌, ◌≡◌, length};
 
 use crate::write_out;
-use libc::STDERR_FILENO;
 use stamps::book;
 use stamps::book::Copied;
-use streams::files;
+use streams::{files, say, say_number};
 use text::{bytes, places};
 
 const ROOM: usize = book::MAX_BOOK + 1;
@@ -20,47 +19,52 @@ enum Compacted {
 }
 
 // Replaces the book in a file by its compacted book. A book that is compact already is left as it is.
-pub fn compact_in_place(path: &[u8]) {
+pub fn compact_in_place(rt: &HostRuntime, path: &[u8]) {
     let mut room = book_room();
-    let reading = files::read_regular(b"stampcompact", path, &mut room);
+    let reading = files::read_regular(rt, b"stampcompact", path, &mut room);
     if reading.failed {
         return;
     }
     let book = places::up_to(&room, reading.length);
-    let mut out = io::large_buffer();
-    let Compacted::Length(n) = compact_into(path, book, &mut out) else {
+    let mut out = [0u8; book::MAX_BOOK];
+    let Compacted::Length(n) = compact_into(rt, path, book, &mut out) else {
         return;
     };
     let compacted = places::up_to(&out, n);
-    if replace(path, book, compacted) {
-        report(path, book, compacted);
+    if replace(rt, path, book, compacted) {
+        report(rt, path, book, compacted);
     }
 }
 
 // No line is changed, so a compacted book that is as long as the book is the book.
-fn replace(path: &[u8], book: &[u8], compacted: &[u8]) -> bool {
+fn replace(rt: &HostRuntime, path: &[u8], book: &[u8], compacted: &[u8]) -> bool {
     if compacted.len() == book.len() {
         return true;
     }
-    files::replace_file(b"stampcompact", path, compacted)
+    files::replace_file(rt, b"stampcompact", path, compacted)
 }
 
 // Writes the compacted book of the book in a file to another file. `-` is standard input or output.
-pub fn compact_to(path: &[u8], out: &[u8]) {
+pub fn compact_to(rt: &HostRuntime, path: &[u8], out: &[u8]) {
     let mut room = book_room();
     if bytes::same(path, b"-") {
-        let reading = streams::read_input(b"stampcompact", &mut room);
+        let reading = streams::read_input(rt, b"stampcompact", &mut room);
         if reading.failed {
             return;
         }
-        write_compacted(b"standard input", places::up_to(&room, reading.length), out);
+        write_compacted(
+            rt,
+            b"standard input",
+            places::up_to(&room, reading.length),
+            out,
+        );
         return;
     }
-    let reading = streams::read_file(b"stampcompact", path, &mut room);
+    let reading = streams::read_file(rt, b"stampcompact", path, &mut room);
     if reading.failed {
         return;
     }
-    write_compacted(path, places::up_to(&room, reading.length), out);
+    write_compacted(rt, path, places::up_to(&room, reading.length), out);
 }
 
 fn book_room() -> [u8; ROOM]
@@ -69,60 +73,60 @@ fn book_room() -> [u8; ROOM]
     [0; ROOM]
 }
 
-fn write_compacted(name: &[u8], book: &[u8], path: &[u8]) {
-    let mut out = io::large_buffer();
-    let Compacted::Length(n) = compact_into(name, book, &mut out) else {
+fn write_compacted(rt: &HostRuntime, name: &[u8], book: &[u8], path: &[u8]) {
+    let mut out = [0u8; book::MAX_BOOK];
+    let Compacted::Length(n) = compact_into(rt, name, book, &mut out) else {
         return;
     };
     let compacted = places::up_to(&out, n);
-    if write_to(path, compacted) {
-        report(name, book, compacted);
+    if write_to(rt, path, compacted) {
+        report(rt, name, book, compacted);
     }
 }
 
-fn write_to(path: &[u8], compacted: &[u8]) -> bool {
+fn write_to(rt: &HostRuntime, path: &[u8], compacted: &[u8]) -> bool {
     if bytes::same(path, b"-") {
-        return write_out(compacted);
+        return write_out(rt, compacted);
     }
-    files::write_file(b"stampcompact", path, compacted)
+    files::write_file(rt, b"stampcompact", path, compacted)
 }
 
 // Compacts a book into `out`. A bad book is reported by its name. No compacted book is longer than its
 // book (`length-compacted-le`), so a buffer of 65,536 bytes has room for it, and a refusal at line 0 says that the book is too
 // long.
-fn compact_into(name: &[u8], book: &[u8], out: &mut [u8]) -> Compacted {
+fn compact_into(rt: &HostRuntime, name: &[u8], book: &[u8], out: &mut [u8]) -> Compacted {
     let months = calendar::months();
     let copied = compact::compact_with(&months, book, out);
     match copied {
         Copied::Length(n) => Compacted::Length(n),
         Copied::Refused(_, line) => {
-            streams::bad_book(name, line);
+            streams::bad_book(rt, name, line);
             Compacted::Nothing
         }
     }
 }
 
 // Says on standard error how many lines and bytes there were before and after.
-fn report(name: &[u8], book: &[u8], compacted: &[u8]) {
-    io::write_all(STDERR_FILENO, b"stampcompact: ");
-    io::write_all(STDERR_FILENO, name);
-    io::write_all(STDERR_FILENO, b": ");
-    print_size(book);
-    io::write_all(STDERR_FILENO, b" before; ");
-    print_size(compacted);
-    io::write_all(STDERR_FILENO, b" after\n");
+fn report(rt: &HostRuntime, name: &[u8], book: &[u8], compacted: &[u8]) {
+    say(rt, b"stampcompact: ");
+    say(rt, name);
+    say(rt, b": ");
+    print_size(rt, book);
+    say(rt, b" before; ");
+    print_size(rt, compacted);
+    say(rt, b" after\n");
 }
 
-fn print_size(book: &[u8]) {
+fn print_size(rt: &HostRuntime, book: &[u8]) {
     let lines = count_lines(book);
-    io::print_decimal(STDERR_FILENO, lines as u64);
+    say_number(rt, lines);
     if lines == 1 {
-        io::write_all(STDERR_FILENO, b" line, ");
+        say(rt, b" line, ");
     } else {
-        io::write_all(STDERR_FILENO, b" lines, ");
+        say(rt, b" lines, ");
     }
-    io::print_decimal(STDERR_FILENO, book.len() as u64);
-    io::write_all(STDERR_FILENO, b" bytes");
+    say_number(rt, book.len());
+    say(rt, b" bytes");
 }
 
 // How many newlines a book has. Each line of a good book ends in one.

@@ -2,8 +2,9 @@
 // lines.
 use crate::write_out;
 
-pub fn write_help() {
+pub fn write_help(rt: &HostRuntime) {
     write_out(
+        rt,
         b"Usage: stampcompact BOOK [OUT]
        stampcompact -h | --help
        stampcompact --version

@@ -5,78 +5,74 @@
 // `compact::compact_with`; this crate only reads and writes. No contract can say which bytes are read or
 // written.
 //
-// The exit status is always 0: a Rattle program has no other. A bad book, and a call of the system that
-// fails, is reported on standard error.
+// The exit status is always 0. A bad book, and a call of the system that fails, is reported on standard
+// error.
 #![tactic(auto)]
 
 mod compacting;
 mod help;
 
-use libc::STDERR_FILENO;
+use std::env::FillError;
+use std::rt::Env;
+use streams::{MAX_ARGUMENT, has_argument, say};
 use text::bytes;
 
 // Only the first argument may be an option.
-fn main() {
-    if os::arg_count() < 2 {
-        complain(b"no book");
-        return;
+fn main(rt: HostRuntime) {
+    let mut room = [0u8; MAX_ARGUMENT];
+    match rt.arg(1, &mut room) {
+        Ok(n) => answer(&rt, &room[..n]),
+        Err(FillError::NotPresent) => complain(&rt, b"no book"),
+        Err(FillError::TooLong) => complain(&rt, b"argument of more than 4,096 bytes"),
     }
-    let mut room = io::buffer();
-    let n = os::arg(1, &mut room);
-    if os::errno() != 0 {
-        complain(b"argument of more than 4,096 bytes");
-        return;
-    }
-    answer(&room[..n]);
 }
 
-fn answer(word: &[u8]) {
+fn answer(rt: &HostRuntime, word: &[u8]) {
     if bytes::same(word, b"-h") | bytes::same(word, b"--help") {
-        help::write_help();
+        help::write_help(rt);
         return;
     }
     if bytes::same(word, b"--version") {
-        write_out(b"stampcompact 0.1.0\n");
+        write_out(rt, b"stampcompact 0.1.0\n");
         return;
     }
     if is_option(word) {
-        complain_of(b"unknown option", word);
+        complain_of(rt, b"unknown option", word);
         return;
     }
-    compact_book(word);
+    compact_book(rt, word);
 }
 
 // Compacts the book in a file, or on standard input if its name is `-`.
-fn compact_book(book: &[u8]) {
-    if os::arg_count() > 3 {
-        complain(b"more than BOOK and OUT");
+fn compact_book(rt: &HostRuntime, book: &[u8]) {
+    if has_argument(rt, 3) {
+        complain(rt, b"more than BOOK and OUT");
         return;
     }
-    if os::arg_count() == 3 {
-        compact_to_second(book);
+    if has_argument(rt, 2) {
+        compact_to_second(rt, book);
         return;
     }
     if bytes::same(book, b"-") {
-        complain(b"OUT is missing: standard input cannot be replaced");
+        complain(rt, b"OUT is missing: standard input cannot be replaced");
         return;
     }
-    compacting::compact_in_place(book);
+    compacting::compact_in_place(rt, book);
 }
 
 // Compacts a book to the file that the second argument names.
-fn compact_to_second(book: &[u8]) {
-    let mut room = io::buffer();
-    let n = os::arg(2, &mut room);
-    if os::errno() != 0 {
-        complain(b"argument of more than 4,096 bytes");
+fn compact_to_second(rt: &HostRuntime, book: &[u8]) {
+    let mut room = [0u8; MAX_ARGUMENT];
+    let Ok(n) = rt.arg(2, &mut room) else {
+        complain(rt, b"argument of more than 4,096 bytes");
         return;
-    }
+    };
     let out = &room[..n];
     if is_option(out) {
-        complain_of(b"option behind BOOK", out);
+        complain_of(rt, b"option behind BOOK", out);
         return;
     }
-    compacting::compact_to(book, out);
+    compacting::compact_to(rt, book, out);
 }
 
 // Whether an argument is an option: `-` alone names standard input or output.
@@ -88,22 +84,22 @@ fn is_option(word: &[u8]) -> bool {
 }
 
 // Says what is wrong with the arguments.
-fn complain(what: &[u8]) {
-    io::write_all(STDERR_FILENO, b"stampcompact: ");
-    io::write_all(STDERR_FILENO, what);
-    io::write_all(STDERR_FILENO, b"; try --help\n");
+fn complain(rt: &HostRuntime, what: &[u8]) {
+    say(rt, b"stampcompact: ");
+    say(rt, what);
+    say(rt, b"; try --help\n");
 }
 
 // Says what is wrong with one argument.
-fn complain_of(what: &[u8], word: &[u8]) {
-    io::write_all(STDERR_FILENO, b"stampcompact: ");
-    io::write_all(STDERR_FILENO, what);
-    io::write_all(STDERR_FILENO, b" '");
-    io::write_all(STDERR_FILENO, word);
-    io::write_all(STDERR_FILENO, b"'; try --help\n");
+fn complain_of(rt: &HostRuntime, what: &[u8], word: &[u8]) {
+    say(rt, b"stampcompact: ");
+    say(rt, what);
+    say(rt, b" '");
+    say(rt, word);
+    say(rt, b"'; try --help\n");
 }
 
 // Writes all of `s` to standard output and returns true, or false if a write fails.
-fn write_out(s: &[u8]) -> bool {
-    streams::write_out(b"stampcompact", s)
+fn write_out(rt: &HostRuntime, s: &[u8]) -> bool {
+    streams::write_out(rt, b"stampcompact", s)
 }

@@ -1,8 +1,9 @@
 // The text that `stamplist --help` writes. `.ci/help` tests that docs/stamplist.1 has each of its lines.
 use crate::write_out;
 
-pub fn write_help() {
+pub fn write_help(rt: &HostRuntime) {
     write_out(
+        rt,
         b"Usage: stamplist [BOOK]
        stamplist -h | --help
        stamplist --version

@@ -5,57 +5,51 @@
 // `stamps::book::list_with`; this crate only reads and writes. No contract can say which bytes are
 // read or written.
 //
-// The exit status is always 0: a Rattle program has no other. A bad book, and a read or a write that
-// fails, is reported on standard error.
+// The exit status is always 0. A bad book, and a read or a write that fails, is reported on standard
+// error.
 #![tactic(auto)]
 
 mod help;
 mod listing;
 
-use libc::STDERR_FILENO;
+use std::env::FillError;
+use std::rt::Env;
+use streams::{MAX_ARGUMENT, say};
 use text::bytes;
 
 // Only the first argument may be an option.
-fn main() {
-    if os::arg_count() < 2 {
-        listing::list_input();
-        return;
-    }
-    let mut room = io::buffer();
-    let n = os::arg(1, &mut room);
-    if os::errno() != 0 {
-        io::write_all(
-            STDERR_FILENO,
+fn main(rt: HostRuntime) {
+    let mut room = [0u8; MAX_ARGUMENT];
+    match rt.arg(1, &mut room) {
+        Ok(n) => answer(&rt, &room[..n]),
+        Err(FillError::NotPresent) => listing::list_input(&rt),
+        Err(FillError::TooLong) => say(
+            &rt,
             b"stamplist: argument of more than 4,096 bytes; try --help\n",
-        );
-        return;
+        ),
     }
-    answer(&room[..n]);
 }
 
-fn answer(word: &[u8]) {
+fn answer(rt: &HostRuntime, word: &[u8]) {
     if bytes::same(word, b"-h") | bytes::same(word, b"--help") {
-        help::write_help();
+        help::write_help(rt);
         return;
     }
     if bytes::same(word, b"--version") {
-        write_out(b"stamplist 0.1.0\n");
+        write_out(rt, b"stamplist 0.1.0\n");
         return;
     }
     if is_option(word) {
-        io::write_all(STDERR_FILENO, b"stamplist: unknown option '");
-        io::write_all(STDERR_FILENO, word);
-        io::write_all(STDERR_FILENO, b"'; try --help\n");
+        say(rt, b"stamplist: unknown option '");
+        say(rt, word);
+        say(rt, b"'; try --help\n");
         return;
     }
-    if os::arg_count() > 2 {
-        io::write_all(
-            STDERR_FILENO,
-            b"stamplist: more than one book; try --help\n",
-        );
+    if streams::has_argument(rt, 2) {
+        say(rt, b"stamplist: more than one book; try --help\n");
         return;
     }
-    listing::list_file(word);
+    listing::list_file(rt, word);
 }
 
 // Whether an argument is an option: `-` alone names standard input.
@@ -67,6 +61,6 @@ fn is_option(word: &[u8]) -> bool {
 }
 
 // Writes all of `s` to standard output and returns true, or false if a write fails.
-fn write_out(s: &[u8]) -> bool {
-    streams::write_out(b"stamplist", s)
+fn write_out(rt: &HostRuntime, s: &[u8]) -> bool {
+    streams::write_out(rt, b"stamplist", s)
 }

@@ -1,8 +1,9 @@
 // The text that `stampmerge --help` writes. `.ci/help` tests that docs/stampmerge.1 has each of its lines.
 use crate::write_out;
 
-pub fn write_help() {
+pub fn write_help(rt: &HostRuntime) {
     write_out(
+        rt,
         b"Usage: stampmerge FIRST SECOND OUT
        stampmerge -h | --help
        stampmerge --version

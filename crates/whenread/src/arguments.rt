@@ -1,31 +1,30 @@
 // The arguments: `-h`, `--help` and `--version`. Only the first one is looked at.
 use crate::{help, write_out};
-use libc::STDERR_FILENO;
+use std::rt::Env;
+use streams::{MAX_ARGUMENT, say};
 use text::bytes;
 
-pub fn answer_first() {
-    let mut room = io::buffer();
-    let n = os::arg(1, &mut room);
-    if os::errno() != 0 {
-        io::write_all(
-            STDERR_FILENO,
+pub fn answer_first(rt: &HostRuntime) {
+    let mut room = [0u8; MAX_ARGUMENT];
+    match rt.arg(1, &mut room) {
+        Ok(n) => answer(rt, &room[..n]),
+        Err(_) => say(
+            rt,
             b"whenread: unknown argument of more than 4,096 bytes; try --help\n",
-        );
-        return;
+        ),
     }
-    answer(&room[..n]);
 }
 
-fn answer(word: &[u8]) {
+fn answer(rt: &HostRuntime, word: &[u8]) {
     if bytes::same(word, b"-h") | bytes::same(word, b"--help") {
-        help::write_help();
+        help::write_help(rt);
         return;
     }
     if bytes::same(word, b"--version") {
-        write_out(b"whenread 0.1.0\n");
+        write_out(rt, b"whenread 0.1.0\n");
         return;
     }
-    io::write_all(STDERR_FILENO, b"whenread: unknown argument '");
-    io::write_all(STDERR_FILENO, word);
-    io::write_all(STDERR_FILENO, b"'; try --help\n");
+    say(rt, b"whenread: unknown argument '");
+    say(rt, word);
+    say(rt, b"'; try --help\n");
 }
