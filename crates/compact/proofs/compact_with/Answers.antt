@@ -1,6 +1,5 @@
 -- `compact::compact_with` meets its contract.
 use mathlib.Core.Path.{sym, ◌∙◌}
-use borrow.Author.Rules.{rules}
 use Rattle.relative.specs.Relative.{max_pairs}
 use Rattle.stamps.proofs.Copies.{copies_refused}
 use Rattle.compact.specs.Compact.{compacted}

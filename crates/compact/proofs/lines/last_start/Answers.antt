@@ -1,9 +1,8 @@
 -- `compact::lines::last_start` meets its contract. The invariant: no newline is at i or behind it, so the text up to i has the same lines. The measure is i.
 use mathlib.Core.Path.{◌≡◌, sym, ap, ◌∙◌}
 use mathlib.Core.List.{[], ◌∷◌, ◌++◌}
-use Prim.Native.Nat.{ℕ, suc, ◌-◌, ◌≤◌, ◌<◌}
+use Prim.Native.Nat.{ℕ, suc, ◌-◌, ◌<◌}
 use native.Mathlib.Omega.{arith}
-use borrow.Author.Rules.{rules}
 use borrow.Author.Tests.{ne_eqb}
 use lib.ListN.{length, take, get_or, length-take}
 use lib.Seq.{take-length}

@@ -1,15 +1,7 @@
-use mathlib.Core.Path.{◌≡◌, sym, ap, ◌∙◌}
-use mathlib.Core.List.{[], ◌∷◌, ◌++◌}
-use Prim.Native.Nat.{ℕ, suc, ◌-◌, ◌≤◌, ◌<◌}
-use native.Mathlib.Omega.{arith}
-use borrow.Author.Rules.{rules}
-use borrow.Author.Tests.{ne_eqb}
-use lib.ListN.{length, take, get_or, length-take}
-use lib.Seq.{take-length}
-use Rattle.text.specs.Lines.{newline, ended_lines, taken_by}
-use Rattle.text.proofs.Lists.{take_snoc}
-use Rattle.stamps.proofs.Books.{ended_lines-nil}
-use Rattle.compact.proofs.LastLines.{ended_lines-snoc, taken_by-newline}
+use mathlib.Core.Path.{◌≡◌}
+use Prim.Native.Nat.{◌≤◌}
+use lib.ListN.{length, take}
+use Rattle.text.specs.Lines.{ended_lines}
 use Rattle.compact.proofs.lines.last_start.Given as goal
 
 abbrev pub invariant-loop-i : goal.invariant-loop-i

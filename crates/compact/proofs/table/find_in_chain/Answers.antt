@@ -1,12 +1,11 @@
 -- `compact::table::find_in_chain` meets its contract. The invariant: the chain from k on answers as the whole chain does. The measure is k, since a chain goes
 -- down.
-use mathlib.Core.Path.{◌≡◌, refl, sym, ap, ◌∙◌}
+use mathlib.Core.Path.{◌≡◌, sym, ap, ◌∙◌}
 use mathlib.Core.Bool.{true, false, cond}
 use mathlib.Core.List.{List}
 use Prim.Native.Nat.{ℕ, suc, ◌-◌, ◌≤◌, ◌<◌}
 use native.Mathlib.Nat.{le_refl}
 use native.Mathlib.Omega.{arith}
-use borrow.Author.Rules.{rules}
 use lib.ListN.{drop, get_or}
 use Rattle.text.specs.Bytes.{same}
 use Rattle.compact.specs.Held.{path_at, number_in}

@@ -1,14 +1,6 @@
-use mathlib.Core.Path.{◌≡◌, refl, sym, ap, ◌∙◌}
-use mathlib.Core.Bool.{true, false, cond}
-use mathlib.Core.List.{List}
-use Prim.Native.Nat.{ℕ, suc, ◌-◌, ◌≤◌, ◌<◌}
-use native.Mathlib.Nat.{le_refl}
-use native.Mathlib.Omega.{arith}
-use borrow.Author.Rules.{rules}
-use lib.ListN.{drop, get_or}
-use Rattle.text.specs.Bytes.{same}
-use Rattle.compact.specs.Held.{path_at, number_in}
-use Rattle.compact.proofs.Chains.{Down, number_in-most}
+use mathlib.Core.Path.{◌≡◌}
+use Prim.Native.Nat.{◌≤◌}
+use Rattle.compact.specs.Held.{number_in}
 use Rattle.compact.proofs.table.find_in_chain.Given as goal
 
 abbrev pub invariant-loop-k : goal.invariant-loop-k

@@ -1,9 +1,7 @@
 -- `compact::table::mix` meets its contract. The invariant: mixing what is left at i into h gives what mixing the whole gives. The measure is what is left.
-use mathlib.Core.Path.{◌≡◌, refl, sym, ap, ◌∙◌}
-use Prim.Native.Nat.{◌-◌, ◌<◌}
+use mathlib.Core.Path.{sym, ap, ◌∙◌}
 use native.Mathlib.Omega.{arith}
-use borrow.Author.Rules.{rules}
-use lib.ListN.{length, drop, get_or, drop_of_length-le}
+use lib.ListN.{drop_of_length-le}
 use Rattle.text.proofs.Lists.{drop-cons-add-one}
 use Rattle.compact.specs.Held.{mixed}
 use Rattle.compact.proofs.table.mix.Goals as goal

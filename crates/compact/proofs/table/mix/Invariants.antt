@@ -1,9 +1,6 @@
-use mathlib.Core.Path.{◌≡◌, refl, sym, ap, ◌∙◌}
+use mathlib.Core.Path.{◌≡◌}
 use Prim.Native.Nat.{◌-◌, ◌<◌}
-use native.Mathlib.Omega.{arith}
-use borrow.Author.Rules.{rules}
-use lib.ListN.{length, drop, get_or, drop_of_length-le}
-use Rattle.text.proofs.Lists.{drop-cons-add-one}
+use lib.ListN.{length, drop}
 use Rattle.compact.specs.Held.{mixed}
 use Rattle.compact.proofs.table.mix.Given as goal
 

@@ -1,6 +1,5 @@
 -- `compact::table::path_at` meets its contract.
 use mathlib.Core.Path.{ap, ◌∙◌}
-use borrow.Author.Rules.{rules}
 use Rattle.text.specs.Places.{before}
 use Rattle.text.specs.Lines.{tab}
 use Rattle.compact.specs.Held.{path_at}

@@ -1,6 +1,5 @@
 -- `merge::fronts::whose` meets its contract.
 use mathlib.Core.Path.{refl, sym, ◌∙◌}
-use borrow.Author.Rules.{rules}
 use borrow.Author.Tests.{eq-eqb, ne_eqb}
 use lib.ListN.{length}
 use Rattle.merge.specs.Held.{whose_of}

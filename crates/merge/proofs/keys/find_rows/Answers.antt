@@ -3,16 +3,13 @@
 use mathlib.Core.Path.{◌≡◌, refl, ap, ◌∙◌}
 use mathlib.Core.Bool.{cond}
 use mathlib.Core.List.{List}
-use Prim.Native.Nat.{ℕ, ◌+◌, ◌-◌}
+use Prim.Native.Nat.{ℕ, ◌+◌}
 use native.Mathlib.Omega.{arith}
-use borrow.Author.Rules.{rules}
 use lib.Dec.{eqb}
 use lib.ListN.{length as size, length-set}
 use Rattle.relative.specs.Relative.{max_pairs}
 use Rattle.compact.specs.Held.{path_at}
-use Rattle.merge.specs.Lists.{lists_of}
-use Rattle.merge.specs.declared.lists.Verdict.TheVariants.{Good}
-use Rattle.merge.proofs.WaitingRows.{Finding, finding_start, finding_end, row_small, finding_again}
+use Rattle.merge.proofs.WaitingRows.{finding_start, finding_end, row_small, finding_again}
 use Rattle.merge.proofs.keys.find_rows.Goals as goal
 
 -- the length of the row of the line at k

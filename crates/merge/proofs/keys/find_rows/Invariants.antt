@@ -1,16 +1,10 @@
-use mathlib.Core.Path.{◌≡◌, refl, ap, ◌∙◌}
-use mathlib.Core.Bool.{cond}
-use mathlib.Core.List.{List}
-use Prim.Native.Nat.{ℕ, ◌+◌, ◌-◌}
-use native.Mathlib.Omega.{arith}
-use borrow.Author.Rules.{rules}
-use lib.Dec.{eqb}
-use lib.ListN.{length as size, length-set}
+use mathlib.Core.Path.{◌≡◌}
+use Prim.Native.Nat.{◌-◌}
+use lib.ListN.{length as size}
 use Rattle.relative.specs.Relative.{max_pairs}
-use Rattle.compact.specs.Held.{path_at}
 use Rattle.merge.specs.Lists.{lists_of}
 use Rattle.merge.specs.declared.lists.Verdict.TheVariants.{Good}
-use Rattle.merge.proofs.WaitingRows.{Finding, finding_start, finding_end, row_small, finding_again}
+use Rattle.merge.proofs.WaitingRows.{Finding}
 use Rattle.merge.proofs.keys.find_rows.Given as goal
 
 abbrev pub invariant-loop-k : goal.invariant-loop-k

@@ -2,13 +2,12 @@
 use mathlib.Core.Path.{◌≡◌, sym, ap, ◌∙◌}
 use mathlib.Core.Bool.{Bool}
 use mathlib.Core.List.{List}
-use Prim.Native.Nat.{ℕ, ◌-◌, ◌≤◌}
+use Prim.Native.Nat.{ℕ, ◌≤◌}
 use native.Mathlib.Omega.{arith}
-use lib.ListN.{length, drop, get_or}
+use lib.ListN.{length}
 use Rattle.text.specs.Bytes.{same}
 use Rattle.relative.specs.Relative.{max_pairs}
 use Rattle.compact.specs.Held.{path_at, found_number, IsTable}
-use Rattle.merge.specs.Held.{key_at}
 use Rattle.merge.proofs.LastKeys.{number-le}
 use Rattle.merge.proofs.WaitingRows.{other_none, other_same, other_differs}
 use Rattle.merge.proofs.keys.other_of.Goals as goal

@@ -1,6 +1,5 @@
 -- `merge::lists::check` meets its contract: both lengths first, then the lines of the first machine, then those of the second.
 use mathlib.Core.Path.{sym, ap, ◌∙◌}
-use borrow.Author.Rules.{rules}
 use Rattle.relative.specs.Relative.{max_pairs}
 use Rattle.merge.specs.Lists.{lines_fault, or_else}
 use Rattle.merge.specs.declared.lists.Machine.TheVariants.{Second}

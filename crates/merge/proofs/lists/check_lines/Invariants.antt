@@ -1,15 +1,7 @@
-use mathlib.Core.Path.{◌≡◌, sym, ap, ◌∙◌}
-use mir.Syntax.{w64}
 use Prim.Native.Nat.{◌-◌}
-use native.Mathlib.Omega.{arith}
-use borrow.Author.Rules.{rules}
 use lib.ListN.{length}
-use Rattle.ints.proofs.Machine.{back}
 use Rattle.relative.specs.Relative.{max_pairs}
-use Rattle.stamps.specs.Listing.{is_at_or_after}
-use Rattle.merge.specs.Held.{next_of}
-use Rattle.merge.specs.declared.lists.Next.TheVariants.{Hull as NextHull}
-use Rattle.merge.proofs.ListLines.{Checking, checking_start, checking_end, checking_bad, checking-step-back, size-pos, size_within, checking_again}
+use Rattle.merge.proofs.ListLines.{Checking}
 use Rattle.merge.proofs.lists.check_lines.Given as goal
 
 abbrev pub invariant-loop-at : goal.invariant-loop-at

@@ -1,7 +1,6 @@
 -- `merge::taking::front_at` meets its contract.
 use mathlib.Core.Path.{ap, ◌∙◌}
 use Prim.Native.Nat.{◌+◌}
-use borrow.Author.Rules.{rules}
 use lib.ListN.{take}
 use Rattle.text.specs.Places.{first_place}
 use Rattle.text.specs.Lines.{newline}
