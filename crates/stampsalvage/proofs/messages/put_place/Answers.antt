@@ -21,8 +21,8 @@ pub returns : goal.returns
 returns c =
     let number = c.args.number.now in
     let colon-put = c.put_part-next.ensures in
-    let number_put = c.put_part-next-2.ensures in
+    let number-put = c.put_part-next-2.ensures in
     let blank-put = c.put_part.ensures in record {
-      value = omega (arith, colon-put.0, number_put.0, blank-put.0, length-place_words number);
-      room_after = three_put (bytes ":") number (bytes ": ") c.args.room.now _ _ _ c.args.at _ _ (omega (arith, c.requires)) colon-put.0 colon-put.1 number_put.0 number_put.1 blank-put.1;
+      value = omega (arith, colon-put.value, number-put.value, blank-put.value, length-place_words number);
+      room_after = three_put (bytes ":") number (bytes ": ") c.args.room.now _ _ _ c.args.at _ _ (omega (arith, c.requires)) colon-put.value colon-put.room_after number-put.value number-put.room_after blank-put.room_after;
     }

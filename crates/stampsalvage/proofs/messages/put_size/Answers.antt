@@ -30,11 +30,11 @@ returns-then-same c =
     let size = c.args.size.now in
     let put = c.put_part-next.ensures in
     let words-put = c.put_part.ensures in
-    let all = size_put size (bytes " byte dropped\n") c.args.room.now _ _ c.args.at _ _ (omega (arith, c.requires)) (size_words-one size _ c.same.ensures c.if-same.true) put.0 put.1 words-put.0 words-put.1 in record { value = all.0; room_after = all.1 }
+    let all = size_put size (bytes " byte dropped\n") c.args.room.now _ _ c.args.at _ _ (omega (arith, c.requires)) (size_words-one size _ c.same.ensures c.if-same.true) put.value put.room_after words-put.value words-put.room_after in record { value = all.0; room_after = all.1 }
 
 pub returns : goal.returns
 returns c =
     let size = c.args.size.now in
     let put = c.put_part-next.ensures in
     let words-put = c.put_part-2.ensures in
-    let all = size_put size (bytes " bytes dropped\n") c.args.room.now _ _ c.args.at _ _ (omega (arith, c.requires)) (size_words-more size _ c.same.ensures c.if-same.false) put.0 put.1 words-put.0 words-put.1 in record { value = all.0; room_after = all.1 }
+    let all = size_put size (bytes " bytes dropped\n") c.args.room.now _ _ c.args.at _ _ (omega (arith, c.requires)) (size_words-more size _ c.same.ensures c.if-same.false) put.value put.room_after words-put.value words-put.room_after in record { value = all.0; room_after = all.1 }

@@ -19,7 +19,7 @@ returns c =
     let place = place_words c.args.number.now in
     let size = size_words c.args.size.now in
     let place-put = c.put_place-next.ensures in
-    let size_put = c.put_size.ensures in record {
-      value = omega (arith, place-put.0, size_put.0, length-append place size);
-      room_after = put_at-behind place size c.args.room.now _ _ c.args.at _ (omega (arith, c.requires)) place-put.0 place-put.1 size_put.1;
+    let size-put = c.put_size.ensures in record {
+      value = omega (arith, place-put.value, size-put.value, length-append place size);
+      room_after = put_at-behind place size c.args.room.now _ _ c.args.at _ (omega (arith, c.requires)) place-put.value place-put.room_after size-put.room_after;
     }

@@ -1,5 +1,4 @@
--- `stampsalvage::salvaging::say_rows` is safe and ends. The invariant: the room keeps its length, and no more bytes are gathered in it than it
--- has. The measure is what is left of the report.
+-- `stampsalvage::salvaging::say_rows` is safe and ends: a row ends within the report, and so each turn leaves less of it.
 use mathlib.Core.Path.{◌≡◌, refl, ap}
 use mathlib.Core.List.{List}
 use Prim.Native.Nat.{ℕ, ◌-◌, ◌≤◌}
@@ -19,9 +18,7 @@ cut-le : (row cut : List ℕ) → cut ≡ take 32 row → length cut ≤ 32
 cut-le row cut e = omega (arith, ap length e, length-take 32 row, min-le_left 32 (length row))
 
 pub make_room-next-requires : goal.make_room-next-requires
-make_room-next-requires c =
-    let start = c.before in
-    (c.loop.invariant.1, omega (arith, c.loop.invariant.0, start.requires))
+make_room-next-requires c = (c.loop-at.invariant, omega (arith, c.requires))
 
 pub put_message-held-requires : goal.put_message-held-requires
 put_message-held-requires c = record {
@@ -31,20 +28,11 @@ put_message-held-requires c = record {
 
 pub overflow_add-at : goal.overflow_add-at
 overflow_add-at c =
-    let start = c.before in
-    record { fits = omega (arith, row-le c.loop.at start.args.report.now c.from.result.now c.before-row.result.now c.from.ensures c.before-row.ensures) }
+    record { fits = omega (arith, row-le c.loop-at.at c.args.report.now c.from.result.now c.before-row.result.now c.from.ensures c.before-row.ensures) }
 
 pub overflow_add-at-in-loop-at : goal.overflow_add-at-in-loop-at
 overflow_add-at-in-loop-at c =
-    let start = c.before in
-    record { fits = omega (arith, row-le c.loop.at start.args.report.now c.from.result.now c.before-row.result.now c.from.ensures c.before-row.ensures) }
-
-pub loop-at-smaller : goal.loop-at-smaller
-loop-at-smaller c = omega arith
+    record { fits = omega (arith, row-le c.loop-at.at c.args.report.now c.from.result.now c.before-row.result.now c.from.ensures c.before-row.ensures) }
 
 pub loop-at-preserved : goal.loop-at-preserved
-loop-at-preserved c =
-    (omega arith, omega (arith, c.put_message-held.ensures.upper_bound, c.make_room-next.ensures))
-
-pub loop-at-init : goal.loop-at-init
-loop-at-init c = (refl, omega arith)
+loop-at-preserved c = omega (arith, c.put_message-held.ensures.upper_bound, c.make_room-next.ensures)
