@@ -61,7 +61,14 @@ fn book_room() -> [u8; ROOM]
 fn report_room() -> [u8; REPORT]
     ensures { 524288 ≡ length result }
 {
-    [0; REPORT]
+    zeros::<REPORT>()
+}
+
+// An array of zeros. It has any length, because a proof about so many zeros would count them one by one.
+fn zeros<const N: usize>() -> [u8; N]
+    ensures { N ≡ length result }
+{
+    [0; N]
 }
 
 fn read_book(rt: &HostRuntime, path: &[u8], room: &mut [u8]) -> Reading {
