@@ -21,7 +21,7 @@ use Rattle.time.proofs.Time.smallest.Reads as smallest
 use Rattle.time.proofs.Time.largest.Reads as largest
 use Rattle.time.proofs.Time.size.Reads as time-size
 use Rattle.time.proofs.Time.count_positive_digits.Reads as count-positive-digits
-use Rattle.time.proofs.number_of.Reads as number_of_lem
+use Rattle.time.proofs.number_of.Reads as number-of
 use Rattle.time.proofs.buf.widest.Reads as widest
 use Rattle.time.proofs.buf.to_str.Reads as to-str
 use Rattle.time.proofs.range.instant_of.Reads as instant-of
@@ -49,7 +49,7 @@ use Rattle.dates.proofs.parse.Reads as dates-parse
 use Rattle.dates.proofs.parse_with.Reads as dates-parse-with
 use Rattle.dates.proofs.parse_by.Reads as dates-parse-by
 use Rattle.dates.proofs.parse_by_with.Reads as dates-parse-by-with
-use Rattle.stamps.proofs.line.read.Reads as Line-read
+use Rattle.stamps.proofs.line.read.Reads as line-read
 use Rattle.stamps.proofs.line.read_with.Reads as line-read-with
 use Rattle.stamps.proofs.write.write_hull.Reads as write-hull
 use Rattle.stamps.proofs.write.write_since.Reads as write-since
@@ -122,7 +122,7 @@ time_size_unique κ a r s e f p q = one_answer p.0 q.0
 pub count_positive_digits_unique : OneAnswer count-positive-digits.Post
 count_positive_digits_unique κ a r s e f p q = one_answer p.0 q.0
 
-pub number_of_unique : OneAnswer number_of_lem.Post
+pub number_of_unique : OneAnswer number-of.Post
 number_of_unique κ a r s e f = one_answer
 
 pub widest_unique : OneAnswer widest.Post
@@ -209,7 +209,7 @@ pub dates_parse_by_with_unique : OneAnswer dates-parse-by-with.Post
 dates_parse_by_with_unique κ a r s e f = one_answer
 
 -- ---- books of stamps: a line read, a line written with every byte of the room, a book checked, a book listed with every byte of the room
-pub line_read_unique : OneAnswer Line-read.Post
+pub line_read_unique : OneAnswer line-read.Post
 line_read_unique κ a r s e f = one_answer
 
 pub line_read_with_unique : OneAnswer line-read-with.Post
@@ -395,8 +395,8 @@ months_unique κ a r s e f p q = IsMonths-unique (one_answer p.1 q.1) p.0 q.0
 pub first_day_unique : OneAnswer first-day.Post
 first_day_unique κ a r s e f p q = one_answer p.0 q.0
 
-pub month-length-unique : OneAnswer month-length.Post
-month-length-unique κ a r s e f p q = one_answer p.0 q.0
+pub month_length_unique : OneAnswer month-length.Post
+month_length_unique κ a r s e f p q = one_answer p.0 q.0
 
 pub date_of_unique : OneAnswer date-of.Post
 date_of_unique κ a r s e f p q = one_answer p.0 q.0

@@ -8,7 +8,6 @@ use mir.Facts.{to_z-of_z}
 use Rattle.ints.specs.Equal.{eq_z}
 use Rattle.chowderbell.specs.Entries.{is_set}
 use Rattle.chowderbell.proofs.Marks.{header_bytes_of_mark, header_written_of_mark}
-use borrow.Author.Rules.{rules}
 use Rattle.chowderbell.proofs.times.chowderbell_write_header_marked.Goals as goal
 
 -- the offset that is passed on is one of 32 bits
@@ -25,4 +24,7 @@ returns c =
       to_z-of_z {w = w32} o-fits,
       to_z-of_z {w = w32} (cond-fits (is_set c.args.mark && eq_z c.args.offset (pos 0)) o-fits),
     ) at c.chowderbell_write_header.ensures in
-    let all = rw (header_written_of_mark, header_bytes_of_mark) e in record { length = all.0; room = all.1 }
+    record {
+      length = rw header_written_of_mark e.length;
+      room = rw (header_written_of_mark, header_bytes_of_mark) e.room;
+    }
