@@ -1,9 +1,9 @@
 -- Chains of kept lines. In order: how far a chain may go does not matter if it goes down; the number that is found in it; a line that is entered behind the others changes
--- nothing about them; the kept lines, with one more; what the entry of a line does to the chains of all paths.
+-- nothing about them; the kept lines, with one more; what the entry of a line does to the chains of all paths; whether a chain overtakes a line.
 -- Assumes nothing.
 use mathlib.Core.Path.{◌≡◌, refl, sym, ap, ◌∙◌}
 use mathlib.Core.Bool.{Bool, false, cond}
-use mathlib.Core.List.{List, ◌∷◌}
+use mathlib.Core.List.{List, [], ◌∷◌}
 use Prim.Native.Nat.{ℕ, zero, suc, ◌+◌, ◌≤◌, ◌<◌}
 use native.Mathlib.Nat.{le_refl}
 use native.Mathlib.Omega.{arith}
@@ -15,7 +15,7 @@ use lib.Seq.{get_or-set_same, get_or-set_other}
 use Rattle.text.specs.Bytes.{same}
 use Rattle.text.proofs.Lists.{by_test}
 use Rattle.stamps.proofs.Printed.{eq_of_same}
-use Rattle.compact.specs.Held.{path_at, bucket_of, line_at, lines_down, number_in, found_number}
+use Rattle.compact.specs.Held.{path_at, bucket_of, line_at, lines_down, number_in, found_number, is_overtaken}
 
 -- the first n links go down
 abbrev pub Down : List ℕ → ℕ → Type 0
@@ -87,7 +87,7 @@ lines_down-enter book places n a h = rw add-one (λ i. line_at book (get_or-set_
 
 -- ---- a line entered in the bucket of its path
 module _ (book heads links places : List ℕ) (n start : ℕ) (heads_le : (b : ℕ) → get_or heads b 0 ≤ n) (down : Down links n)
-    (head_in : (p : List ℕ) → bucket_of p < length heads) (link-in : n < length links) (IsPlace-in : n < length places) where
+    (head_in : (p : List ℕ) → bucket_of p < length heads) (link-in : n < length links) (place-in : n < length places) where
   abbrev path : List ℕ
   path = path_at (drop start book)
 
@@ -111,7 +111,7 @@ module _ (book heads links places : List ℕ) (n start : ℕ) (heads_le : (b : �
       ∙ number_in-most book links places p n head head (heads_le (bucket_of path)) (le_refl head) (λ k lt. down k (omega (arith, heads_le (bucket_of path))))
       ∙ ap (λ (b : ℕ). number_in book links places p (get_or heads b 0) (get_or heads b 0)) (sym e) in
       ap (λ (k : ℕ). number_in book links' places' p k k) first
-      ∙ (λ i. cond (same (path_at (drop (get_or-set_same places n start 0 IsPlace-in i) book)) p) (suc n) (below i))
+      ∙ (λ i. cond (same (path_at (drop (get_or-set_same places n start 0 place-in i) book)) p) (suc n) (below i))
 
   -- a path in another bucket is another path
   enter_other : (p : List ℕ) → (bucket_of p ≡ bucket_of path → ⊥) → found_number book heads' links' places' p ≡ cond (same path p) (suc n) (found_number book heads links places p)
@@ -146,3 +146,15 @@ module _ (book heads links places : List ℕ) (n start : ℕ) (heads_le : (b : �
     where
       lt_of_ne : (k ≡ n → ⊥) → k < n
       lt_of_ne ne = by_test (ltb k n) (λ y. ltb-true k n y) (λ y. absurd (ne (omega (arith, ltb-false k n y))))
+
+-- ---- a line is overtaken exactly if it has a path and its chain has it
+module _ (book links places : List ℕ) where
+  pub overtaken_no_path : (p : List ℕ) (first : ℕ) → length p ≤ 0 → is_overtaken book links places p first ≡ false
+  unfolding is_overtaken
+  overtaken_no_path [] first h = refl
+  overtaken_no_path (b ∷ p) first h = absurd (omega arith)
+
+  pub overtaken_path : (p : List ℕ) (first : ℕ) → 0 < length p → is_overtaken book links places p first ≡ ltb 0 (number_in book links places p first first)
+  unfolding is_overtaken
+  overtaken_path [] first h = absurd (omega arith)
+  overtaken_path (b ∷ p) first h = refl

@@ -92,6 +92,7 @@ pub fn find(book: &[u8], path: &[u8], heads: &[u16], links: &[u16], places: &[u1
 
 // Whether a line with this path is overtaken by one in the chain that begins with number `first`. A line
 // without a path never is.
+#[tactic(auto, using(crate::proofs::Chains::overtaken_no_path, crate::proofs::Chains::overtaken_path))]
 pub fn is_overtaken(book: &[u8], path: &[u8], first: u16, links: &[u16], places: &[u16]) -> bool
     requires { (first ≤ length links.now) × (length links.now ≡ length places.now) × ((k : ℕ) → k < first → get_or links.now k 0 ≤ k) }
     ensures { result ≡ is_overtaken book.now links.now places.now path.now first }

@@ -104,8 +104,8 @@ module _ (bound : ℕ) (first second : List ℕ) (good : lists_of bound first se
   abbrev ms : List (List ℕ)
   ms = ended_lines second
 
-  is_first_lem : IsList bound first
-  is_first_lem = (lists_good bound first second good).0
+  is_first : IsList bound first
+  is_first = (lists_good bound first second good).0
 
   is_second : IsList bound second
   is_second = (lists_good bound first second good).1
@@ -158,14 +158,14 @@ module _ (bound : ℕ) (first second : List ℕ) (good : lists_of bound first se
     finding_end h =
         let e : k ≡ count = omega (arith, j.few) in (
           j.size_is ∙ ap (λ (m : ℕ). total (weight bound ls ms) (paths_in bound (lines_down first places m))) e ∙ ap (λ (ks : List (List ℕ)). total (weight bound ls ms) (paths_in bound ks)) lines
-              ∙ sym (length-rows bound ls ms is_first_lem.hulls is_second.hulls),
+              ∙ sym (length-rows bound ls ms is_first.hulls is_second.hulls),
           record { few = j.room; stored = λ i lt. j.stored i (omega (arith, e)) },
         )
 
     module _ (heads links : List ℕ) (n : ℕ) (table : IsTable bound second heads links others n) (lt : k < count) (s : List ℕ) (is : s ≡ drop (get_or places k 0) first)
         (other : ℕ) (other-is : other ≡ other_of s second heads links others) (r : ℕ) (r-is : r ≡ cond (eqb other 0) 0 (length (path_at s) + 35)) where
       line : KeptLine bound ls (line_at first (get_or places k 0)) s
-      line = rw is (kept_line bound first places count is_first_lem.hulls lines k lt)
+      line = rw is (kept_line bound first places count is_first.hulls lines k lt)
 
       stored_here : Stored bound second others (path_at s) (is_differing bound ls ms (path_at s)) other
       stored_here = rw other-is (stored_other heads links others n table (line_at first (get_or places k 0)) s line)
@@ -184,7 +184,7 @@ module _ (bound : ℕ) (first second : List ℕ) (good : lists_of bound first se
 
       pub row_small : r ≤ 32803
       row_small =
-          let path-small : length (path_at s) ≤ 32768 = omega (arith, length-path_at-le s, ap length is, length-drop (get_or places k 0) first, is_first_lem.short) in
+          let path-small : length (path_at s) ≤ 32768 = omega (arith, length-path_at-le s, ap length is, length-drop (get_or places k 0) first, is_first.short) in
           by_test (eqb other 0) (λ y. let e : r ≡ 0 = rw y at r-is in omega arith) (λ f. let e : r ≡ length (path_at s) + 35 = rw f at r-is in omega (arith, path-small))
 
       pub finding_again : (waiting' : List ℕ) → waiting' ≡ set waiting k other → Finding places others count waiting' (k + 1) (size + r)
@@ -228,7 +228,7 @@ module _ (bound : ℕ) (first second : List ℕ) (good : lists_of bound first se
       where
         start : (q : List ℕ) → 0 < length q → (n : ℕ) → found_number first heads links places q ≡ suc n → Stored bound second others q (is_differing bound ls ms q && true) (get_or waiting n 0)
         start q some n e =
-            let path_is = found_path bound first heads links places count is_first_lem.hulls table q some n e in
+            let path_is = found_path bound first heads links places count is_first.hulls table q some n e in
             let here = all.stored n (omega (arith, e, number-le bound first heads links places count table q)) in
             rw and-true (rw path_is at here)
 
@@ -245,7 +245,7 @@ module _ (bound : ℕ) (first second : List ℕ) (good : lists_of bound first se
       stored_value = by_number number refl
         where
           by_number : (m : ℕ) → number ≡ m → Stored bound second others q (is_waiting above q) (stored_for waiting m)
-          by_number zero z = rw (not-held bound first heads links places count is_first_lem.hulls table q some (sym number_is ∙ z)) refl
+          by_number zero z = rw (not-held bound first heads links places count is_first.hulls table q some (sym number_is ∙ z)) refl
           by_number (suc m) z =
               let back : suc m - 1 ≡ m = omega arith in
               let value_is : stored_for waiting (suc m) ≡ get_or waiting m 0 = rw (ne_eqb (suc m) 0 (λ y. omega arith), back) in
@@ -269,7 +269,7 @@ module _ (bound : ℕ) (first second : List ℕ) (good : lists_of bound first se
           by_number (suc m) z h =
               let back : number - 1 ≡ m = omega (arith, z) in
               let key_is : key_at (drop (get_or places (number - 1) 0) first) ≡ last_key bound q ls =
-              ap (λ (k : ℕ). key_at (drop (get_or places k 0) first)) back ∙ sym (found_key bound first heads links places count is_first_lem.hulls table q some m (sym number_is ∙ z)) in
+              ap (λ (k : ℕ). key_at (drop (get_or places k 0) first)) back ∙ sym (found_key bound first heads links places count is_first.hulls table q some m (sym number_is ∙ z)) in
               λ i. row_with (sym path_is i) (key_is i) (h.2 i)
 
           by_waiting : (b : Bool) → Stored bound second others q b value → row_for line first places second others number value ≡ cond b (row_of bound ls ms q ++ newline ∷ []) []
@@ -299,8 +299,8 @@ module _ (bound : ℕ) (first second : List ℕ) (good : lists_of bound first se
                 let back : number - 1 ≡ m = omega (arith, z) in
                 let is : waiting' ≡ set waiting m 0 = set_is ∙ rw (ne_eqb number 0 (λ y. omega (arith, z)), back) in
                 let ne : n ≡ m → ⊥ = λ y.
-                let r-is : path_at (drop (get_or places n 0) first) ≡ r = found_path bound first heads links places count is_first_lem.hulls table r r_some n e in
-                let q-is : path_at (drop (get_or places m 0) first) ≡ q = found_path bound first heads links places count is_first_lem.hulls table q some m (sym number_is ∙ z) in
+                let r-is : path_at (drop (get_or places n 0) first) ≡ r = found_path bound first heads links places count is_first.hulls table r r_some n e in
+                let q-is : path_at (drop (get_or places m 0) first) ≡ q = found_path bound first heads links places count is_first.hulls table q some m (sym number_is ∙ z) in
                 let alike : q ≡ r = sym q-is ∙ ap (λ (i : ℕ). path_at (drop (get_or places i 0) first)) (sym y) ∙ r-is in
                 false≢true (sym differs ∙ ap (same q) (sym alike) ∙ same_self q) in
                 ap (λ (v : List ℕ). get_or v n 0) is ∙ get_or-set_other waiting m n 0 0 ne

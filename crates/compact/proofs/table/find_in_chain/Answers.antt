@@ -13,11 +13,11 @@ use Rattle.compact.proofs.Chains.{Down, number_in-most}
 use Rattle.compact.proofs.table.find_in_chain.Goals as goal
 
 -- the line of number k, and the chain below it
-numberIn-step : (book links places path : List ℕ) (k : ℕ) → 0 < k → Down links k
+number_in-step : (book links places path : List ℕ) (k : ℕ) → 0 < k → Down links k
     → number_in book links places path k k
     ≡ cond (same (path_at (drop (get_or places (k - 1) 0) book)) path) k (number_in book links places path (get_or links (k - 1) 0) (get_or links (k - 1) 0))
 unfolding number_in
-numberIn-step book links places path k some down =
+number_in-step book links places path k some down =
     let n = k - 1 in
     let e : k ≡ suc n = omega arith in
     let d : get_or links n 0 ≤ n = down n (omega arith) in
@@ -30,7 +30,7 @@ returns-then-same c =
     let same-is : true ≡ same (path_at (drop (get_or c.args.places.now (c.loop-k.k - 1) 0) c.args.book.now)) c.args.path.now =
     sym c.if-same.true ∙ c.same.ensures
     ∙ ap (λ (q : List ℕ). same q c.args.path.now) (c.path_at-other.ensures ∙ ap path_at c.from.ensures) in
-    sym (c.loop-k.invariant.1 ∙ numberIn-step _ _ _ _ c.loop-k.k c.loop-k-test.true (λ j lt. c.requires.2 j (omega (arith, c.loop-k.invariant.0))) ∙ rw (← same-is))
+    sym (c.loop-k.invariant.1 ∙ number_in-step _ _ _ _ c.loop-k.k c.loop-k-test.true (λ j lt. c.requires.2 j (omega (arith, c.loop-k.invariant.0))) ∙ rw (← same-is))
 
 pub loop-k-preserved : goal.loop-k-preserved
 loop-k-preserved c =
@@ -39,7 +39,7 @@ loop-k-preserved c =
     let same-is : same (path_at (drop (get_or c.args.places.now (k - 1) 0) c.args.book.now)) c.args.path.now ≡ false =
     sym (c.same.ensures ∙ ap (λ (q : List ℕ). same q c.args.path.now) (c.path_at-other.ensures ∙ ap path_at c.from.ensures)) ∙ c.if-same.false in (
       omega (arith, c.requires.2 (k - 1) (omega (arith, c.loop-k.invariant.0)), c.loop-k.invariant.0),
-      c.loop-k.invariant.1 ∙ numberIn-step _ _ _ _ k some (λ j lt. c.requires.2 j (omega (arith, c.loop-k.invariant.0))) ∙ rw same-is,
+      c.loop-k.invariant.1 ∙ number_in-step _ _ _ _ k some (λ j lt. c.requires.2 j (omega (arith, c.loop-k.invariant.0))) ∙ rw same-is,
     )
 
 pub returns : goal.returns
