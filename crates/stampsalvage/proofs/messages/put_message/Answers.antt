@@ -8,7 +8,6 @@ use Rattle.text.specs.Lines.{field, rest}
 use Rattle.text.specs.Room.{put_at}
 use Rattle.stampsalvage.specs.Messages.{place_words, size_words}
 use Rattle.stampsalvage.proofs.Putting.{length-name-le, length-words-le, length-message_of, message_put}
-use borrow.Author.Rules.{rules}
 use Rattle.stampsalvage.proofs.messages.put_message.Goals as goal
 
 -- how long the words behind the name are

@@ -2,7 +2,6 @@
 use native.Mathlib.Omega.{arith}
 use Rattle.text.specs.Quote.{bytes}
 use Rattle.stampsalvage.proofs.Putting.{length-place_words, three_put}
-use borrow.Author.Rules.{rules}
 use Rattle.stampsalvage.proofs.messages.put_place.Goals as goal
 
 pub put_part-next-requires : goal.put_part-next-requires

@@ -5,7 +5,6 @@ use lib.ListN.{length, length-append}
 use Rattle.text.specs.Quote.{bytes}
 use Rattle.stampsalvage.specs.Messages.{dropped_words}
 use Rattle.stampsalvage.proofs.Putting.{size_words-one, size_words-more, size_put}
-use borrow.Author.Rules.{rules}
 use Rattle.stampsalvage.proofs.messages.put_size.Goals as goal
 
 pub put_part-next-requires : goal.put_part-next-requires

@@ -3,7 +3,6 @@ use native.Mathlib.Omega.{arith}
 use lib.ListN.{length-append}
 use Rattle.text.proofs.Behind.{put_at-behind}
 use Rattle.stampsalvage.specs.Messages.{place_words, size_words}
-use borrow.Author.Rules.{rules}
 use Rattle.stampsalvage.proofs.messages.put_words.Goals as goal
 
 pub put_place-next-requires : goal.put_place-next-requires

@@ -1,10 +1,9 @@
 -- `stampsalvage::salvaging::say_rows` is safe and ends: a row ends within the report, and so each turn leaves less of it.
-use mathlib.Core.Path.{◌≡◌, refl, ap}
+use mathlib.Core.Path.{◌≡◌, ap}
 use mathlib.Core.List.{List}
 use Prim.Native.Nat.{ℕ, ◌-◌, ◌≤◌}
 use native.Mathlib.Omega.{arith}
 use native.Mathlib.Nat.{min-le_left}
-use borrow.Author.Rules.{rules}
 use lib.ListN.{length, take, drop, length-take, length-drop}
 use Rattle.text.specs.Lines.{newline}
 use Rattle.text.specs.Places.{first_place, before as before_of}
