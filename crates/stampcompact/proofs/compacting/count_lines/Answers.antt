@@ -1,9 +1,6 @@
 -- `stampcompact::compacting::count_lines` is safe and ends. The invariant: no more newlines are counted than bytes are passed. The
 -- measure is the number of bytes that are left.
-use Prim.Native.Nat.{◌-◌, ◌≤◌}
 use native.Mathlib.Omega.{arith}
-use borrow.Author.Rules.{rules}
-use lib.ListN.{length}
 use Rattle.stampcompact.proofs.compacting.count_lines.Goals as goal
 
 pub loop-i-init : goal.loop-i-init

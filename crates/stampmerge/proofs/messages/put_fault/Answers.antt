@@ -1,7 +1,6 @@
 -- `stampmerge::messages::put_fault` meets its contract: no words are longer than the 30 bytes of the longest, and with a colon and a number
 -- of 20 digits in front they have 51.
 use native.Mathlib.Omega.{arith}
-use borrow.Author.Rules.{rules}
 use Rattle.stampmerge.proofs.messages.put_fault.Goals as goal
 
 -- too long

@@ -1,7 +1,6 @@
 -- `stampmerge::messages::put_line` meets its contract: the words, then the number, then a colon.
 use native.Mathlib.Omega.{arith}
 use Rattle.stampmerge.proofs.Putting.{line_put}
-use borrow.Author.Rules.{rules}
 use Rattle.stampmerge.proofs.messages.put_line.Goals as goal
 
 pub returns : goal.returns

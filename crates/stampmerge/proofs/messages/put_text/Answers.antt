@@ -1,7 +1,6 @@
 -- `stampmerge::messages::put_text` meets its contract.
 use native.Mathlib.Omega.{arith}
 use Rattle.text.proofs.Behind.{drop-put_at}
-use borrow.Author.Rules.{rules}
 use Rattle.stampmerge.proofs.messages.put_text.Goals as goal
 
 pub returns : goal.returns
