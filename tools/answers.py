@@ -2,19 +2,20 @@
 """Turns the Proof.antt files of a crate, written for an older Rattle, to Invariants.antt and Answers.antt.
 
 usage: answers.py CRATE_FOLDER NAMES.json [FUNCTION_PATH..]
-NAMES.json is what `rt check --generated DIR --old-names` writes in the crate. What it cannot turn it says, and leaves in
-/tmp/answers-left/CRATE/.
+NAMES.json is what `rt check --generated DIR --old-names` writes in the crate. What it cannot turn it says, and leaves with the old
+file in answers-left/CRATE of the system's folder for temporary files.
 """
 import json
 import os
 import re
 import sys
+import tempfile
 
 crate = os.path.abspath(sys.argv[1])
 name = os.path.basename(crate)
 names = json.load(open(sys.argv[2]))
 only = set(sys.argv[3:])
-LEFT = f"/tmp/answers-left/{name}"
+LEFT = os.path.join(tempfile.gettempdir(), "answers-left", name)
 
 
 def norm(s):
