@@ -14,5 +14,5 @@ returns-then-week-eq0 c = record {
 pub returns : goal.returns
 returns c = record {
   upper_bound = (omega arith, omega arith);
-  page_after = row_put _ _ _ _ _ _ c.if-week-eq0.false c.put_text-at.ensures.page_after c.put_cells-at.ensures.page_after c.put_cell.ensures.page_after;
+  page_after = row_put _ _ _ _ _ _ (omega arith) c.put_text-at.ensures.page_after c.put_cells-at.ensures.page_after c.put_cell.ensures.page_after;
 }
