@@ -372,7 +372,7 @@ uint8_t chowderbell_lists_merge(const uint8_t *first, size_t first_len, const ui
      6   The year is not -9999 to 9999, or the month is not 1 to 12. *length is set to 0, and every byte of the room is as it was.
      8   The room has fewer than 50 bytes. *length and the room are as for 6.
 
-   A call builds the table of 4,800 months that the library reads first days from, which takes 19 KB of stack. */
+   A call reads the table of 4,800 months, which stands in the archive once. */
 uint8_t chowderbell_strip(int64_t year, int64_t month, uint8_t *room, size_t len, size_t *length);
 
 #ifdef __cplusplus

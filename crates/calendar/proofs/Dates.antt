@@ -3,6 +3,7 @@
 -- `IsDate-lt`; `lt_of_Below` of an answer). Last the estimate of a day's month: right, or one month late (`IsDate-estimate`,
 -- `IsDate-estimate_pred`).
 -- Assumes nothing.
+use Rattle.std.specs.Prelude.{Option, Some}
 use mathlib.Core.Path.{◌≡◌, ap, subst}
 use Prim.Native.Nat.{ℕ, zero, suc, ◌+◌, ◌*◌, ◌-◌, ◌/◌, ◌%◌, ◌≤◌, ◌<◌}
 use native.Mathlib.Nat.{zero-add, le_antisymm}
@@ -12,8 +13,6 @@ use borrow.Author.Tests.{lt-ltb, le-ltb}
 use Rattle.calendar.specs.Calendar.{month_length, year_length, year_start, first_day, IsDate, span_of, year_of, month_of}
 use Rattle.calendar.specs.Dates.{date_of, Below}
 use Rattle.calendar.specs.declared.Date.{Date}
-use Rattle.calendar.specs.declared.Found.{Found}
-use Rattle.calendar.specs.declared.Found.TheVariants.{At}
 use Rattle.calendar.proofs.Lengths.{year_start-suc, first_day-year, first_day-suc, month_length-le}
 use Rattle.calendar.proofs.Cycle.{year_start-mul-400, year_start-add-400, first_day-lower, first_day-upper, first_day-le, le_of_first_day, lt_of_first_day_in_range, pos_of_lt-first_day}
 
@@ -109,7 +108,7 @@ IsDate_of_date_of {x} {d} e = rw e (IsDate-month_of d)
 -- ---- ranges
 
 -- what a caller learns of a day, or a time, that was found
-pub lt_of_Below : {n x : ℕ} {f : Found} → f ≡ At x → Below n f → x < n
+pub lt_of_Below : {n x : ℕ} {f : Option ℕ} → f ≡ Some x → Below n f → x < n
 lt_of_Below {n} e b = subst (Below n) e b
 
 pub IsDate-day-lt : {d m k : ℕ} → IsDate d m k → k < 31

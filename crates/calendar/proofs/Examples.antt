@@ -1,6 +1,7 @@
 -- What RULES 3 says of the calendar at single years, days and months, each under its words: antt computes the definitions
 -- there. Days and months are counted as in Calendar. A time is its seconds from 1 January 1970, and 377,736,739,200 more.
 -- Assumes nothing.
+use Rattle.std.specs.Prelude.{None, Some}
 use mathlib.Core.Path.{◌≡◌, refl}
 use mathlib.Core.Bool.{true, false}
 use Prim.Native.Nat.{◌+◌, ◌*◌}
@@ -9,7 +10,6 @@ use Rattle.calendar.specs.Calendar.{leap, lengths, month_length, year_length, ye
 use Rattle.calendar.specs.Dates.{exists, day_number}
 use Rattle.calendar.specs.Back.{months_back, back_of}
 use Rattle.calendar.specs.Civil.{year_count, civil_day, civil_date}
-use Rattle.calendar.specs.declared.Found.TheVariants.{At, Nothing}
 
 -- "Leap years divide by 4, not by 100 unless by 400; year 0 is one"
 leap_year_0 : leap (year_count (pos 0)) ≡ true
@@ -73,38 +73,38 @@ unfolding civil_date month_of year_of span_of month_length first_day year_start 
 date_of_last = refl
 
 -- dates that there are, and that there are not
-day_of_last : day_number 19999 12 31 ≡ At 7304849
+day_of_last : day_number 19999 12 31 ≡ Some 7304849
 unfolding day_number exists month_length first_day year_start year_length total lengths leap
 day_of_last = refl
 
-no_year_10000 : day_number 20000 1 1 ≡ Nothing
+no_year_10000 : day_number 20000 1 1 ≡ None
 unfolding day_number exists
 no_year_10000 = refl
 
-no_leap_day_1900 : day_number 11900 2 29 ≡ Nothing
+no_leap_day_1900 : day_number 11900 2 29 ≡ None
 unfolding day_number exists month_length lengths leap
 no_leap_day_1900 = refl
 
-no_month_13 : day_number 12021 13 1 ≡ Nothing
+no_month_13 : day_number 12021 13 1 ≡ None
 unfolding day_number exists
 no_month_13 = refl
 
 -- "surplus days run into the next month": 31 May 2021, noon, one month earlier is 1 May, noon, and not 30 April; two months, 31
 -- March
-may_31_back_1 : back_of (1622462400 + 377736739200) 1 ≡ At (1619870400 + 377736739200)
+may_31_back_1 : back_of (1622462400 + 377736739200) 1 ≡ Some (1619870400 + 377736739200)
 unfolding back_of months_back month_of year_of span_of month_length first_day year_start year_length total lengths leap
 may_31_back_1 = refl
 
-may_31_back_2 : back_of (1622462400 + 377736739200) 2 ≡ At (1617192000 + 377736739200)
+may_31_back_2 : back_of (1622462400 + 377736739200) 2 ≡ Some (1617192000 + 377736739200)
 unfolding back_of months_back month_of year_of span_of month_length first_day year_start year_length total lengths leap
 may_31_back_2 = refl
 
 -- 29 February 2020, a year earlier: "29 February 2019" is 1 March
-leap_day_back_12 : back_of (1582934400 + 377736739200) 12 ≡ At (1551398400 + 377736739200)
+leap_day_back_12 : back_of (1582934400 + 377736739200) 12 ≡ Some (1551398400 + 377736739200)
 unfolding back_of months_back month_of year_of span_of month_length first_day year_start year_length total lengths leap
 leap_day_back_12 = refl
 
 -- there is no month before January of year -10000
-no_month_before_first : back_of 0 1 ≡ Nothing
+no_month_before_first : back_of 0 1 ≡ None
 unfolding back_of month_of year_of span_of month_length year_start year_length lengths leap
 no_month_before_first = refl

@@ -3,6 +3,7 @@
 -- day and day to date undo each other over the years -9999 to 9999; a day has exactly one date. Last, that the counts which the
 -- code answers with are those of the signed definitions.
 -- Assumes nothing.
+use Rattle.std.specs.Prelude.{Some}
 use mathlib.Core.Path.{◌≡◌, ◌∙◌, refl, sym, ap}
 use Prim.Native.Nat.{ℕ, zero, suc, ◌+◌, ◌-◌, ◌/◌, ◌%◌}
 use native.Mathlib.Omega.{arith}
@@ -14,7 +15,6 @@ use Rattle.ints.proofs.Parts.{ints, add_parts}
 use Rattle.calendar.specs.Calendar.{leap, lengths, year_length, year_start, total, first_day, IsDate, month_of}
 use Rattle.calendar.specs.Dates.{date_of, day_number}
 use Rattle.calendar.specs.Civil.{Civil, year_count, month_count, IsCivil, civil_day, civil_date}
-use Rattle.calendar.specs.declared.Found.TheVariants.{At}
 use Rattle.calendar.proofs.Cycle.{first_day-add-4800}
 use Rattle.calendar.proofs.Dates.{IsDate-month_unique, IsDate-day_unique, month_of_of_IsDate}
 use Rattle.ints.proofs.Parts.{nat_abs-add-sub, nat_abs-sub-add}
@@ -91,9 +91,9 @@ one-date p q = (IsDate-month_unique p q, IsDate-day_unique p q)
 -- ---- the code's counts
 
 -- `day_number` answers a date's signed day, moved up by 4,371,953
-pub day_number_signed : (c : Civil) → IsCivil c → day_number (year_count c.year) c.month c.day ≡ At (nat_abs (civil_day c +ℤ pos 4371953))
+pub day_number_signed : (c : Civil) → IsCivil c → day_number (year_count c.year) c.month c.day ≡ Some (nat_abs (civil_day c +ℤ pos 4371953))
 unfolding day_number civil_day
-day_number_signed c p = rw (exists_of_IsCivil p) (ap At (sym (nat_abs-sub-add (first_day (month_count c) + (c.day - 1)) 4371953)))
+day_number_signed c p = rw (exists_of_IsCivil p) (ap Some (sym (nat_abs-sub-add (first_day (month_count c) + (c.day - 1)) 4371953)))
 
 -- `date_of` answers a signed day's date, given the day moved up by as much: the year and the month from 1 as one count of months
 pub date_of_signed : (d : ℕ) → civil_date (pos d -ℤ pos 4371953) ≡ record { year = pos ((date_of d).month / 12) -ℤ pos 10000; month = (date_of d).month % 12 + 1; day = (date_of d).day + 1 }

@@ -1,11 +1,9 @@
 -- RULES 3.4: the date of a day, the day of a date, and which dates there are. Counts are those of Calendar: day 0
 -- is 1 January of year -10000; 1 January 1970 is day 4,371,953. There are dates to the end of year 9999, year 19999 by count.
 -- Assumes nothing.
-use Rattle.std.specs.Prelude.{Bool, cond, ◌&&◌, ℕ, ◌+◌, ◌*◌, ◌-◌, ◌<◌, leb, ltb}
+use Rattle.std.specs.Prelude.{Bool, cond, ◌&&◌, ℕ, ◌+◌, ◌*◌, ◌-◌, ◌<◌, leb, ltb, None, Option, Some}
 use Rattle.calendar.specs.Calendar.{first_day, month_length, month_of}
 use Rattle.calendar.specs.declared.Date.{Date}
-use Rattle.calendar.specs.declared.Found.{Found}
-use Rattle.calendar.specs.declared.Found.TheVariants.{At, Nothing}
 
 -- the date of day d: its month, and the day of it from 0
 unfoldable pub date_of : ℕ → Date
@@ -20,10 +18,10 @@ unfoldable pub exists : ℕ → ℕ → ℕ → Bool
 exists y m k = ltb y 20000 && (leb 1 m && (leb m 12 && (leb 1 k && leb k (month_length (month_number y m)))))
 
 -- the day of year y, month m and day k, if there is such a date
-unfoldable pub day_number : ℕ → ℕ → ℕ → Found
-day_number y m k = cond (exists y m k) (At (first_day (month_number y m) + (k - 1))) Nothing
+unfoldable pub day_number : ℕ → ℕ → ℕ → Option ℕ
+day_number y m k = cond (exists y m k) (Some (first_day (month_number y m) + (k - 1))) None
 
 -- a day or a time that was found is below n
-abbrev pub Below : ℕ → Found → Type 0
-Below n (At x) = x < n
-Below n Nothing = Unit {0}
+abbrev pub Below : ℕ → Option ℕ → Type 0
+Below n (Some x) = x < n
+Below n None = Unit {0}

@@ -4,20 +4,19 @@
 // day 4,371,953, of month 143,640. Days end with year 9999, before day 7,304,850. No function here takes
 // a signed number: a caller with a signed year adds `YEAR_0` to it, and 4,371,953 to a signed day.
 //
-// `months` builds a table of some 19 KB. Build it once if you make many calls. Every other function
-// borrows it: the whole table, any leading part of it, or `&[]`; beyond its end, first days are
-// computed by the leap rule. `IsMonths` says that the entries are right as far as they go.
+// Every answer comes from `MonthTable`, which gives the first day of each month: `MonthTable::whole()` by
+// the table, `MonthTable::none()` by the leap rule alone. The answers are the same; callers that make many
+// calls take the table.
 #![tactic(auto)]
 
 mod table;
 
 ghost use Rattle.std.specs.Prelude.{◌≡◌, ◌+◌, ◌*◌, ◌≤◌, ◌<◌};
 ghost use Rattle.calendar.specs.Calendar.{first_day, month_length};
-ghost use Rattle.calendar.specs.Table.{IsMonths};
 ghost use Rattle.calendar.specs.Dates.{date_of, day_number, Below};
 ghost use Rattle.calendar.specs.Back.{back_of};
 
-pub use table::months;
+pub use table::{MonthTable, months};
 
 // The months that are counted, up to the end of year 9999, and their days.
 pub const MONTHS_COUNTED: u64 = 240000;
@@ -48,40 +47,106 @@ pub struct Date {
     pub day: u64,
 }
 
-// A day, or a time in seconds, that may not exist.
-#[derive(Clone, Copy)]
-pub enum Found {
-    At(u64),
-    Nothing,
-}
-
-// The first day of month m: the days of the whole cycles before it, and its first day in its own cycle.
-pub fn first_day(t: &[u32], m: u64) -> u64
-    requires table { IsMonths t.now }
-    requires month { m ≤ 240000 }
-    ensures is { result ≡ first_day m }
-    ensures range { result ≤ 7304850 }
-{
-    m / MONTHS_PER_CYCLE * DAYS_PER_CYCLE + first_day_in_cycle(t, m % MONTHS_PER_CYCLE)
-}
-
-// The first day of month k of a cycle: from the table as far as it goes, beyond it by the leap rule.
-fn first_day_in_cycle(t: &[u32], k: u64) -> u64
-    requires table { IsMonths t.now }
-    requires month { k < 4800 }
-    ensures { result ≡ first_day k }
-{
-    let i = k as usize;
-    if i < t.len() {
-        return t[i] as u64;
+impl<'a> MonthTable<'a> {
+    // The first day of month m: the days of the whole cycles before it, and its first day in its own cycle.
+    pub fn first_day(self, m: u64) -> u64
+        requires month { m ≤ 240000 }
+        ensures is { result ≡ first_day m }
+        ensures range { result ≤ 7304850 }
+    {
+        m / MONTHS_PER_CYCLE * DAYS_PER_CYCLE + self.first_day_in_cycle(m % MONTHS_PER_CYCLE)
     }
-    by_rule(k)
+
+    // The first day of month k of a cycle: from the table as far as it goes, beyond it by the leap rule.
+    fn first_day_in_cycle(self, k: u64) -> u64
+        requires month { k < 4800 }
+        ensures { result ≡ first_day k }
+    {
+        match self.table.get(k as usize) {
+            Some(&day) => u64::from(day),
+            None => by_rule(k),
+        }
+    }
+
+    // The length of month m: the days from its first day to that of the next month.
+    pub fn month_length(self, m: u64) -> u64
+        requires month { m < 240000 }
+        ensures is { result ≡ month_length m }
+        ensures least { 28 ≤ result }
+        ensures most { result ≤ 31 }
+    {
+        self.first_day(m + 1) - self.first_day(m)
+    }
+
+    // The date of day d. A month has 48699 / 1600 days on average, and no first day is more than three
+    // days away from what that gives. So the month of d + 3 by the average is d's month or the one after.
+    pub fn date_of(self, d: u64) -> Date
+        requires day { d < 7304850 }
+        ensures is { result ≡ date_of d }
+        ensures months { result.month < 240000 }
+        ensures days { result.day < 31 }
+    {
+        let e = (d + 3) * 1600 / 48699;
+        let f = self.first_day(e);
+        if d < f {
+            let p = self.first_day(e - 1);
+            Date {
+                month: e - 1,
+                day: d - p,
+            }
+        } else {
+            Date {
+                month: e,
+                day: d - f,
+            }
+        }
+    }
+
+    // The day of a date. The month must have such a day.
+    pub fn day_of(self, x: Date) -> u64
+        requires month { x.month < 240000 }
+        requires day { x.day < month_length x.month }
+        ensures is { result ≡ first_day x.month + x.day }
+        ensures range { result < 7304850 }
+    {
+        self.first_day(x.month) + x.day
+    }
+
+    // The day of year y (counted from -10000), month m from 1 and day k from 1. `None` if no such date
+    // exists, as 29 February 1900, or if it lies beyond year 9999.
+    pub fn day_number(self, y: u64, m: u64, k: u64) -> Option<u64>
+        ensures is { result ≡ day_number y m k }
+        ensures range { Below 7304850 result }
+    {
+        if YEARS_COUNTED <= y || m < 1 || 12 < m || k < 1 {
+            return None;
+        }
+        let n = y * 12 + (m - 1);
+        let f = self.first_day(n);
+        if self.first_day(n + 1) - f < k {
+            return None;
+        }
+        Some(f + (k - 1))
+    }
+
+    // A local time, in seconds from day 0, n months earlier: on the same day of the month at the same
+    // clock time. Not 30 April for 31 May: surplus days run on into the next month, to 1 May. `None` if
+    // that is before month 0. The result is never later than the time it starts from.
+    pub fn months_back(self, local: u64, n: u64) -> Option<u64>
+        requires time { local < 7304850 * 86400 }
+        ensures is { result ≡ back_of local n }
+        ensures range { Below (local + 1) result }
+    {
+        let x = self.date_of(local / SECONDS_PER_DAY);
+        let month = x.month.checked_sub(n)?;
+        Some((self.first_day(month) + x.day) * SECONDS_PER_DAY + local % SECONDS_PER_DAY)
+    }
 }
 
-// The same by the leap rule alone, for single calls: building the table would take longer than the
-// rest of the answer. Years are counted from the March of 400 years before, so that a leap day is the
-// last of its year: y years have 365 days each and one more for each leap year, and the first m months
-// from March on have (153 * m + 2) / 5. From that March to the cycle's first day are 146,037 days.
+// The same by the leap rule alone, where there is no table. Years are counted from the March of 400
+// years before, so that a leap day is the last of its year: y years have 365 days each and one more for
+// each leap year, and the first m months from March on have (153 * m + 2) / 5. From that March to the
+// cycle's first day are 146,037 days.
 fn by_rule(k: u64) -> u64
     requires { k < 4800 }
     ensures { result ≡ first_day k }
@@ -90,94 +155,4 @@ fn by_rule(k: u64) -> u64
     let y = j / 12;
     let m = j % 12;
     y * 365 + y / 4 - y / 100 + y / 400 + (153 * m + 2) / 5 - 146037
-}
-
-// The length of month m: the days from its first day to that of the next month.
-pub fn month_length(t: &[u32], m: u64) -> u64
-    requires table { IsMonths t.now }
-    requires month { m < 240000 }
-    ensures is { result ≡ month_length m }
-    ensures least { 28 ≤ result }
-    ensures most { result ≤ 31 }
-{
-    first_day(t, m + 1) - first_day(t, m)
-}
-
-// The date of day d. A month has 48699 / 1600 days on average, and no first day is more than three
-// days away from what that gives. So the month of d + 3 by the average is d's month or the one after.
-pub fn date_of(t: &[u32], d: u64) -> Date
-    requires table { IsMonths t.now }
-    requires day { d < 7304850 }
-    ensures is { result ≡ date_of d }
-    ensures months { result.month < 240000 }
-    ensures days { result.day < 31 }
-{
-    let e = (d + 3) * 1600 / 48699;
-    let f = first_day(t, e);
-    if d < f {
-        let p = first_day(t, e - 1);
-        Date {
-            month: e - 1,
-            day: d - p,
-        }
-    } else {
-        Date {
-            month: e,
-            day: d - f,
-        }
-    }
-}
-
-// The day of a date. The month must have such a day.
-pub fn day_of(t: &[u32], x: Date) -> u64
-    requires table { IsMonths t.now }
-    requires month { x.month < 240000 }
-    requires day { x.day < month_length x.month }
-    ensures is { result ≡ first_day x.month + x.day }
-    ensures range { result < 7304850 }
-{
-    first_day(t, x.month) + x.day
-}
-
-// The day of year y (counted from -10000), month m from 1 and day k from 1. Nothing if no such date
-// exists, as 29 February 1900, or if it lies beyond year 9999.
-pub fn day_number(t: &[u32], y: u64, m: u64, k: u64) -> Found
-    requires { IsMonths t.now }
-    ensures is { result ≡ day_number y m k }
-    ensures range { Below 7304850 result }
-{
-    if YEARS_COUNTED <= y {
-        return Found::Nothing;
-    }
-    if m < 1 {
-        return Found::Nothing;
-    }
-    if 12 < m {
-        return Found::Nothing;
-    }
-    if k < 1 {
-        return Found::Nothing;
-    }
-    let n = y * 12 + (m - 1);
-    let f = first_day(t, n);
-    if first_day(t, n + 1) - f < k {
-        return Found::Nothing;
-    }
-    Found::At(f + (k - 1))
-}
-
-// A local time, in seconds from day 0, n months earlier: on the same day of the month at the same
-// clock time. Not 30 April for 31 May: surplus days run on into the next month, to 1 May. Nothing if
-// that is before month 0. The result is never later than the time it starts from.
-pub fn months_back(t: &[u32], local: u64, n: u64) -> Found
-    requires table { IsMonths t.now }
-    requires time { local < 7304850 * 86400 }
-    ensures is { result ≡ back_of local n }
-    ensures range { Below (local + 1) result }
-{
-    let x = date_of(t, local / SECONDS_PER_DAY);
-    if x.month < n {
-        return Found::Nothing;
-    }
-    Found::At((first_day(t, x.month - n) + x.day) * SECONDS_PER_DAY + local % SECONDS_PER_DAY)
 }

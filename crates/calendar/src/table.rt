@@ -1,10 +1,10 @@
 // The month table: the first days of the 4,800 months of four hundred years, from a January of a
-// year that divides by 400. Only `months` names it, because a constant array is built on the stack
-// wherever it is named. A caller that makes many calls builds the table once and passes it to them.
-ghost use Rattle.std.specs.Prelude.{◌≡◌, length};
+// year that divides by 400. It is a `static`, so it stands in the program once, and naming it builds
+// nothing. `MonthTable` is what every other function takes of it.
+ghost use Rattle.std.specs.Prelude.{◌≡◌, [], length};
 ghost use Rattle.calendar.specs.Table.{IsMonths};
 
-const MONTHS: [u32; 4800] = [
+static MONTHS: [u32; 4800] = [
     0, 31, 60, 91, 121, 152, 182, 213, 244, 274, 305, 335, 366, 397, 425, 456, 486, 517, 547, 578,
     609, 639, 670, 700, 731, 762, 790, 821, 851, 882, 912, 943, 974, 1004, 1035, 1065, 1096, 1127,
     1155, 1186, 1216, 1247, 1277, 1308, 1339, 1369, 1400, 1430, 1461, 1492, 1521, 1552, 1582, 1613,
@@ -381,10 +381,43 @@ const MONTHS: [u32; 4800] = [
     145822, 145852, 145883, 145913, 145944, 145975, 146005, 146036, 146066,
 ];
 
-// The table: entry k is the first day of month k.
+// A copy of the table: entry k is the first day of month k.
 pub fn months() -> [u32; 4800]
     ensures entries { IsMonths result }
     ensures length { length result ≡ 4800 }
 {
     MONTHS
+}
+
+// The first days of months, for every function that asks for them: from a table as far as it goes, and
+// by the leap rule beyond its end. So any table, also an empty one, gives the same answers, and a long
+// one gives them sooner.
+#[derive(Clone, Copy)]
+pub struct MonthTable<'a> {
+    pub table: &'a [u32],
+    ghost right: { IsMonths table.now },
+}
+
+impl<'a> MonthTable<'a> {
+    // No table: every first day by the leap rule. The calls that take no table use it.
+    pub fn none() -> MonthTable<'a>
+        ensures { result.table.now ≡ [] }
+    {
+        MonthTable { table: &[] }
+    }
+
+    // The whole table.
+    pub fn whole() -> MonthTable<'static>
+        ensures { length result.table.now ≡ 4800 }
+    {
+        MonthTable { table: &MONTHS }
+    }
+
+    // A table of the caller's: what `months` returns, or any leading part of it.
+    pub fn of(table: &'a [u32]) -> MonthTable<'a>
+        requires { IsMonths table.now }
+        ensures { result.table.now ≡ table.now }
+    {
+        MonthTable { table }
+    }
 }

@@ -1,15 +1,17 @@
 -- RULES 5.8: what the number of a rule gives: 1 the answer by rule 1, 2 that by rule 2, any other number the refusal 2, or 1
 -- for a text with a byte of 128 or more.
 -- Assumes nothing.
+use Rattle.std.specs.Prelude.{Result}
 use mathlib.Core.Path.{◌≡◌, refl}
 use mathlib.Core.List.{List}
 use Prim.Native.Nat.{ℕ}
 use borrow.Author.Tests.{ne_eqb}
-use Rattle.time.specs.declared.Answer.{Answer}
 use Rattle.header.specs.Raw.{Limits, rule1, rule2}
 use Rattle.chowderbell.specs.Entries.{rule_of, no_rule, ruled}
+use Rattle.time.specs.declared.Refusal.{Refusal}
+use Rattle.time.specs.declared.Time.{Time}
 
-module _ (by : Limits → Answer) (s : List ℕ) where
+module _ (by : Limits → Result Time Refusal) (s : List ℕ) where
   pub by_number_1 : ruled (rule_of 1) by s ≡ by rule1
   by_number_1 = refl
 

@@ -2,6 +2,7 @@
 -- for a header of the commit's own form, written again with its mark, gives the same bytes (`own_form_again_through-C`). A header with a
 -- mark is the header of another offset without one (`header_bytes_of_mark`), and is refused as that is (`header_written_of_mark`).
 -- Assumes nothing.
+use Rattle.std.specs.Prelude.{Result}
 use mathlib.Core.Path.{◌≡◌, refl, ap, ◌∙◌}
 use mathlib.Core.Bool.{Bool, true, false, cond, ◌&&◌}
 use mathlib.Core.List.{List}
@@ -12,11 +13,12 @@ use native.Mathlib.Omega.{arith}
 use Rattle.ints.specs.Equal.{eq_z}
 use Rattle.time.specs.Answers.{time_at, time_marked, answer_time}
 use Rattle.time.specs.Header.{header_bytes, header_sign, header_written, sign_byte, whole_minutes}
-use Rattle.time.specs.declared.Answer.{Answer}
 use Rattle.header.specs.Header.{header_of}
 use Rattle.header.specs.Theorems.{OwnForm}
 use Rattle.header.proofs.OwnForm.{time, own_form_read, own_form_again}
 use Rattle.chowderbell.specs.Entries.{mark_byte, is_set, HandedMarked}
+use Rattle.time.specs.declared.Refusal.{Refusal}
+use Rattle.time.specs.declared.Time.{Time}
 
 pub is_set-mark_byte : (m : Bool) → is_set (mark_byte m) ≡ m
 is_set-mark_byte true = refl
@@ -26,16 +28,16 @@ pub own_form_again_through-C : (s : List ℕ) → OwnForm s → {number mark : �
     → header_bytes (time_marked seconds offset (is_set mark)) ≡ s
 own_form_again_through-C s o {mark = mark} h =
     let e = own_form_read s o in
-    let z = h.handed_out.seconds_is ∙ ap (λ (a : Answer). (answer_time a).seconds) e in
-    let f = h.handed_out.offset_is ∙ ap (λ (a : Answer). (answer_time a).offset) e in
-    let m = ap is_set h.mark_is ∙ is_set-mark_byte (answer_time (header_of s)).mark ∙ ap (λ (a : Answer). (answer_time a).mark) e in
+    let z = h.handed_out.seconds_is ∙ ap (λ (a : Result Time Refusal). (answer_time a).seconds) e in
+    let f = h.handed_out.offset_is ∙ ap (λ (a : Result Time Refusal). (answer_time a).offset) e in
+    let m = ap is_set h.mark_is ∙ is_set-mark_byte (answer_time (header_of s)).mark ∙ ap (λ (a : Result Time Refusal). (answer_time a).mark) e in
     (λ i. header_bytes (time_marked (z i) (f i) (m i))) ∙ (own_form_again s o (time s o) e).1
 
 mark_byte-small : (m : Bool) → mark_byte m < 256
 mark_byte-small true = omega arith
 mark_byte-small false = omega arith
 
-pub mark_small : {a : Answer} {number mark : ℕ} {seconds offset : ℤ} → HandedMarked a number seconds offset mark → mark < 256
+pub mark_small : {a : Result Time Refusal} {number mark : ℕ} {seconds offset : ℤ} → HandedMarked a number seconds offset mark → mark < 256
 mark_small {a = a} h = rw h.mark_is (mark_byte-small (answer_time a).mark)
 
 -- the offset without a mark that has the same header

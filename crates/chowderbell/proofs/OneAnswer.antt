@@ -3,25 +3,26 @@
 -- second, `e.1.1.0` the third. In order: times; writers; readers; books of stamps; a month's strip; the entries for C; lists of two machines; the calendar; the number at the
 -- start of a text. Not here: the other calls of `text`, each of which has an equation for its result, and `lines`.
 -- Assumes nothing.
+use Rattle.std.specs.Prelude.{Result}
 use mathlib.Core.Path.{◌≡◌}
 use mathlib.Core.List.{List}
 use Prim.Native.Nat.{ℕ}
 use lib.IntN.{ℤ}
 use Rattle.calendar.proofs.Walk.{IsMonths-unique}
-use Rattle.time.specs.declared.Answer.{Answer}
-use Rattle.time.specs.declared.Written.{Written}
-use Rattle.stamps.specs.declared.book.Checked.{Checked}
-use Rattle.stamps.specs.declared.book.Copied.{Copied}
 use Rattle.dates.specs.OneAnswer.{OneAnswer, OneAnswerAnd}
 use Rattle.dates.proofs.Contracts.{one_answer}
 use Rattle.chowderbell.specs.Entries.{HandedOut, HandedMarked, HandedLength, HandedCheck, HandedCopy}
+use Rattle.time.specs.declared.Refusal.{Refusal}
+use Rattle.time.specs.declared.Time.{Time}
+use Rattle.time.specs.declared.buf.TimeBuf.{TimeBuf}
+use Rattle.stamps.specs.declared.book.BookError.{BookError}
 use Rattle.time.proofs.Time.new.Reads as time-new
 use Rattle.time.proofs.Time.with_mark.Reads as time-with-mark
 use Rattle.time.proofs.Time.smallest.Reads as smallest
 use Rattle.time.proofs.Time.largest.Reads as largest
 use Rattle.time.proofs.Time.size.Reads as time-size
 use Rattle.time.proofs.Time.count_positive_digits.Reads as count-positive-digits
-use Rattle.time.proofs.number_of.Reads as number-of
+use Rattle.time.proofs.U8FromRefusal.from.Reads as number-of
 use Rattle.time.proofs.buf.widest.Reads as widest
 use Rattle.time.proofs.buf.to_str.Reads as to-str
 use Rattle.time.proofs.range.instant_of.Reads as instant-of
@@ -40,6 +41,7 @@ use Rattle.iso.proofs.parse_git_date_format.Reads as parse-git-date-format
 use Rattle.iso.proofs.parse_git_date_format_with.Reads as parse-git-date-format-with
 use Rattle.relative.proofs.parse.Reads as relative-parse
 use Rattle.relative.proofs.parse_with.Reads as relative-parse-with
+use Rattle.relative.proofs.parse_named.Reads as relative-parse-named
 use Rattle.relative.proofs.pair_before.Reads as relative-pair-before
 use Rattle.relative.proofs.is_known.Reads as relative-is-known
 use Rattle.relative.proofs.words.count.Reads as relative-count
@@ -95,12 +97,14 @@ use Rattle.chowderbell.proofs.book.chowderbell_book_salvage.Reads as chowderbell
 use Rattle.chowderbell.proofs.lists.chowderbell_lists_merge.Reads as chowderbell-lists-merge
 use Rattle.chowderbell.proofs.month.chowderbell_strip.Reads as chowderbell-strip
 use Rattle.calendar.proofs.months.Reads as months
-use Rattle.calendar.proofs.first_day.Reads as first-day
-use Rattle.calendar.proofs.month_length.Reads as month-length
-use Rattle.calendar.proofs.date_of.Reads as date-of
-use Rattle.calendar.proofs.day_of.Reads as day-of
-use Rattle.calendar.proofs.day_number.Reads as day-number
-use Rattle.calendar.proofs.months_back.Reads as months-back
+use Rattle.calendar.proofs.MonthTable.none.Reads as month-table-none
+use Rattle.calendar.proofs.MonthTable.of.Reads as month-table-of
+use Rattle.calendar.proofs.MonthTable.first_day.Reads as first-day
+use Rattle.calendar.proofs.MonthTable.month_length.Reads as month-length
+use Rattle.calendar.proofs.MonthTable.date_of.Reads as date-of
+use Rattle.calendar.proofs.MonthTable.day_of.Reads as day-of
+use Rattle.calendar.proofs.MonthTable.day_number.Reads as day-number
+use Rattle.calendar.proofs.MonthTable.months_back.Reads as months-back
 use Rattle.text.proofs.number.leading_integer.Reads as leading-integer
 
 -- ---- a time, its size, the number of a refusal, a buffer by value, the range
@@ -128,8 +132,8 @@ number_of_unique κ a r s e f = one_answer
 pub widest_unique : OneAnswer widest.Post
 widest_unique κ a r s e f = one_answer
 
-pub to_str_unique : OneAnswer to-str.Post
-to_str_unique κ a r s e f = one_answer
+pub to_str_unique : OneAnswerAnd to-str.Post TimeBuf (λ κ e. e.1.0.now)
+to_str_unique κ a r s e f p q = (one_answer p.0 q.0, one_answer p.1 q.1)
 
 pub instant_of_unique : OneAnswer instant-of.Post
 instant_of_unique κ a r s e f p q = one_answer p.0 q.0
@@ -180,6 +184,9 @@ relative_parse_unique κ a r s e f = one_answer
 
 pub relative_parse_with_unique : OneAnswer relative-parse-with.Post
 relative_parse_with_unique κ a r s e f = one_answer
+
+pub relative_parse_named_unique : OneAnswer relative-parse-named.Post
+relative_parse_named_unique κ a r s e f = one_answer
 
 pub relative_pair_before_unique : OneAnswer relative-pair-before.Post
 relative_pair_before_unique κ a r s e f = one_answer
@@ -256,7 +263,7 @@ pub write_month_with_unique : OneAnswerAnd write-month-with.Post (List ℕ) (λ 
 write_month_with_unique κ a r s e f p q = (one_answer p.0 q.0, one_answer p.1 q.1)
 
 -- ---- the readers for C: the number returned, and the seconds and the offset stored
-HandedOut-unique : {a : Answer} {n m : ℕ} {s t o u : ℤ} → HandedOut a n s o → HandedOut a m t u → (n ≡ m) × ◌≡◌ {A = ℤ × ℤ} (s, o) (t, u)
+HandedOut-unique : {a : Result Time Refusal} {n m : ℕ} {s t o u : ℤ} → HandedOut a n s o → HandedOut a m t u → (n ≡ m) × ◌≡◌ {A = ℤ × ℤ} (s, o) (t, u)
 HandedOut-unique p q =
     (one_answer p.number_is q.number_is, λ i. (one_answer p.seconds_is q.seconds_is i, one_answer p.offset_is q.offset_is i))
 
@@ -285,7 +292,7 @@ pub chowderbell_any_by_unique : OneAnswerAnd chowderbell-any-by.Post (ℤ × ℤ
 chowderbell_any_by_unique κ a r s e f = HandedOut-unique
 
 -- with the mark stored too
-HandedMarked-unique : {a : Answer} {n m k l : ℕ} {s t o u : ℤ} → HandedMarked a n s o k → HandedMarked a m t u l → (n ≡ m) × ◌≡◌ {A = (ℤ × ℤ) × ℕ} ((s, o), k) ((t, u), l)
+HandedMarked-unique : {a : Result Time Refusal} {n m k l : ℕ} {s t o u : ℤ} → HandedMarked a n s o k → HandedMarked a m t u l → (n ≡ m) × ◌≡◌ {A = (ℤ × ℤ) × ℕ} ((s, o), k) ((t, u), l)
 HandedMarked-unique p q =
     let h = HandedOut-unique p.handed_out q.handed_out in
     (h.0, λ i. (h.1 i, one_answer p.mark_is q.mark_is i))
@@ -300,7 +307,7 @@ pub chowderbell_any_marked_unique : OneAnswerAnd chowderbell-any-marked.Post ((�
 chowderbell_any_marked_unique κ a r s e f = HandedMarked-unique
 
 -- ---- the size and the writers for C: the number returned, the length stored, and every byte of the room
-written_unique : {w : Written} {n m k l : ℕ} {t u b : List ℕ} → HandedLength w n k × (t ≡ b) → HandedLength w m l × (u ≡ b) → (n ≡ m) × ◌≡◌ {A = ℕ × List ℕ} (k, t) (l, u)
+written_unique : {w : Result ℕ Refusal} {n m k l : ℕ} {t u b : List ℕ} → HandedLength w n k × (t ≡ b) → HandedLength w m l × (u ≡ b) → (n ≡ m) × ◌≡◌ {A = ℕ × List ℕ} (k, t) (l, u)
 written_unique p q =
     (one_answer p.0.number_is q.0.number_is, λ i. (one_answer p.0.length_is q.0.length_is i, one_answer p.1 q.1 i))
 
@@ -320,10 +327,10 @@ pub chowderbell_strip_unique : OneAnswerAnd chowderbell-strip.Post (ℕ × List 
 chowderbell_strip_unique κ a r s e f = written_unique
 
 -- ---- a book for C: the number returned, the length and the line stored, and every byte of the room
-HandedCheck-unique : {c : Checked} {n m k l : ℕ} → HandedCheck c n k → HandedCheck c m l → (n ≡ m) × (k ≡ l)
+HandedCheck-unique : {c : Result (Unit {0}) BookError} {n m k l : ℕ} → HandedCheck c n k → HandedCheck c m l → (n ≡ m) × (k ≡ l)
 HandedCheck-unique p q = (one_answer p.number_is q.number_is, one_answer p.line_is q.line_is)
 
-HandedCopy-unique : {w : Copied} {n m k l i j : ℕ} {t u b : List ℕ} → HandedCopy w n k i × (t ≡ b) → HandedCopy w m l j × (u ≡ b) → (n ≡ m) × ◌≡◌ {A = (ℕ × ℕ) × List ℕ} ((k, i), t) ((l, j), u)
+HandedCopy-unique : {w : Result ℕ BookError} {n m k l i j : ℕ} {t u b : List ℕ} → HandedCopy w n k i × (t ≡ b) → HandedCopy w m l j × (u ≡ b) → (n ≡ m) × ◌≡◌ {A = (ℕ × ℕ) × List ℕ} ((k, i), t) ((l, j), u)
 HandedCopy-unique p q =
     (one_answer p.0.number_is q.0.number_is, λ i. ((one_answer p.0.length_is q.0.length_is i, one_answer p.0.line_is q.0.line_is i), one_answer p.1 q.1 i))
 
@@ -391,6 +398,13 @@ chowderbell_lists_merge_unique κ a r s e f p q = (
 -- ---- the calendar
 pub months_unique : OneAnswer months.Post
 months_unique κ a r s e f p q = IsMonths-unique (one_answer p.1 q.1) p.0 q.0
+
+-- a table of months is fixed by its entries
+pub month_table_none_unique : (κ : _) (a : _) (r s : _) (e f : _) → month-table-none.Post κ a r e → month-table-none.Post κ a s f → r.table.now ≡ s.table.now
+month_table_none_unique κ a r s e f = one_answer
+
+pub month_table_of_unique : (κ : _) (a : _) (r s : _) (e f : _) → month-table-of.Post κ a r e → month-table-of.Post κ a s f → r.table.now ≡ s.table.now
+month_table_of_unique κ a r s e f = one_answer
 
 pub first_day_unique : OneAnswer first-day.Post
 first_day_unique κ a r s e f p q = one_answer p.0 q.0

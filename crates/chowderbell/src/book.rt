@@ -16,7 +16,8 @@ ghost use Rattle.chowderbell.specs.Entries.{HandedCheck, HandedCopy, HandedSalva
 use crate::times::SUCCESS;
 use salvage::Salvaged;
 use stamps::book;
-use stamps::book::{Checked, Copied};
+use stamps::book::BookError;
+use time::Refusal;
 
 #[unsafe(no_mangle)]
 pub extern "C" fn chowderbell_book_check(book: &[u8], line: &mut usize) -> u8
@@ -70,36 +71,34 @@ pub extern "C" fn chowderbell_book_salvage(
 
 // Returns the number of a check and stores the number of the first bad line. It is 0 for a good book,
 // and for one that is too long.
-fn hand_check(c: Checked, line: &mut usize) -> u8
-    ensures { HandedCheck c result line.new }
+fn hand_check(checked: Result<(), BookError>, line: &mut usize) -> u8
+    ensures { HandedCheck checked result line.new }
 {
-    match c {
-        Checked::Good => {
+    match checked {
+        Ok(()) => {
             *line = 0;
             SUCCESS
         }
-        Checked::Refused(r, n) => {
-            *line = n;
-            time::number_of(r)
+        Err(error) => {
+            *line = error.line;
+            u8::from(error.refusal)
         }
     }
 }
 
 // Returns the number of a copy and stores its length, which is 0 for a refusal, and the number of the
-// first bad line. That is 0 for a good book, and for one that is too long.
-fn hand_copy(l: Copied, length: &mut usize, line: &mut usize) -> u8
-    ensures { HandedCopy l result length.new line.new }
+// first bad line, as a check does.
+fn hand_copy(copied: Result<usize, BookError>, length: &mut usize, line: &mut usize) -> u8
+    ensures { HandedCopy copied result length.new line.new }
 {
-    match l {
-        Copied::Length(n) => {
+    match copied {
+        Ok(n) => {
             *length = n;
-            *line = 0;
-            SUCCESS
+            hand_check(Ok(()), line)
         }
-        Copied::Refused(r, at) => {
+        Err(error) => {
             *length = 0;
-            *line = at;
-            time::number_of(r)
+            hand_check(Err(error), line)
         }
     }
 }
@@ -107,25 +106,25 @@ fn hand_copy(l: Copied, length: &mut usize, line: &mut usize) -> u8
 // Returns the number of a salvage and stores both lengths and the number of the last bad line, which are
 // all 0 for a refusal.
 fn hand_salvage(
-    s: Salvaged,
+    answer: Result<Salvaged, Refusal>,
     length: &mut usize,
     report_length: &mut usize,
     last_bad: &mut usize,
 ) -> u8
-    ensures { HandedSalvage s result length.new report_length.new last_bad.new }
+    ensures { HandedSalvage answer result length.new report_length.new last_bad.new }
 {
-    match s {
-        Salvaged::Lengths(kept, told, last) => {
-            *length = kept;
-            *report_length = told;
-            *last_bad = last;
+    match answer {
+        Ok(salvaged) => {
+            *length = salvaged.length;
+            *report_length = salvaged.report_length;
+            *last_bad = salvaged.last_bad;
             SUCCESS
         }
-        Salvaged::Refused(r) => {
+        Err(refusal) => {
             *length = 0;
             *report_length = 0;
             *last_bad = 0;
-            time::number_of(r)
+            u8::from(refusal)
         }
     }
 }

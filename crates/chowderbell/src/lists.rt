@@ -1,7 +1,7 @@
 // The entries for the lists of two machines (RULES 15): one checks two front lines, one tells which of
 // them is the earlier, and one merges two lists to a book. They return 0, 8 or 12 (RULES 2), except for
-// the one that returns a length. They keep no pointer and no state. `include/chowderbell.h` is the
-// manual for callers.
+// the one that returns a length. Each list is a parameter of its own, as C passes it. They keep no pointer
+// and no state. `include/chowderbell.h` is the manual for callers.
 ghost use Rattle.std.specs.Prelude.{◌≡◌, length};
 ghost use Rattle.text.specs.Room.{room_after};
 ghost use Rattle.relative.specs.Relative.{max_pairs};
@@ -11,8 +11,8 @@ ghost use Rattle.merge.specs.Merge.{merged, report as report_of, merge_of, is_wr
 ghost use Rattle.chowderbell.specs.Entries.{HandedVerdict, HandedMerge};
 
 use crate::times::SUCCESS;
-use merge::lists::Verdict;
-use merge::{Merged, fronts, lists};
+use merge::lists::{ListError, Machine};
+use merge::{Lengths, MergeError, fronts};
 use time::Refusal;
 
 #[unsafe(no_mangle)]
@@ -38,7 +38,7 @@ pub extern "C" fn chowderbell_fronts_earlier<'a>(
     ensures machine_after { machine.new ≡ machine_number (earlier_machine max_pairs first.now second.now) }
 {
     let line = fronts::earlier(first, second);
-    *machine = lists::machine_number(fronts::whose(line, first));
+    *machine = machine_number(fronts::whose(line, first));
     line.len()
 }
 
@@ -61,20 +61,30 @@ pub extern "C" fn chowderbell_lists_merge<'a>(
     hand_merge(answer, book_length, report_length, machine, line)
 }
 
-// Returns the number of a check and stores whose front line is bad, and its line: 0 if none is.
-fn hand_verdict(v: Verdict, machine: &mut u8, line: &mut usize) -> u8
-    ensures { HandedVerdict v result machine.new line.new }
+// The number by which C names a machine: 0 if there is none.
+fn machine_number(machine: Option<Machine>) -> u8
+    ensures { result ≡ machine_number machine }
 {
-    match v {
-        Verdict::Good => {
+    match machine {
+        Some(machine) => u8::from(machine),
+        None => 0,
+    }
+}
+
+// Returns the number of a check and stores whose front line is bad, and its line: 0 if none is.
+fn hand_verdict(checked: Result<(), ListError>, machine: &mut u8, line: &mut usize) -> u8
+    ensures { HandedVerdict checked result machine.new line.new }
+{
+    match checked {
+        Ok(()) => {
             *machine = 0;
             *line = 0;
             SUCCESS
         }
-        Verdict::Faulty(whose, fault) => {
-            *machine = lists::machine_number(whose);
-            *line = lists::line_of(fault);
-            time::number_of(Refusal::Lists)
+        Err(error) => {
+            *machine = u8::from(error.machine);
+            *line = error.fault.line();
+            u8::from(Refusal::Lists)
         }
     }
 }
@@ -82,31 +92,31 @@ fn hand_verdict(v: Verdict, machine: &mut u8, line: &mut usize) -> u8
 // Returns the number of a merge and stores both lengths, which are 0 for a refusal, and the machine and
 // the line at fault, which are 0 for good lists.
 fn hand_merge(
-    m: Merged,
+    merged: Result<Lengths, MergeError>,
     book_length: &mut usize,
     report_length: &mut usize,
     machine: &mut u8,
     line: &mut usize,
 ) -> u8
-    ensures { HandedMerge m result book_length.new report_length.new machine.new line.new }
+    ensures { HandedMerge merged result book_length.new report_length.new machine.new line.new }
 {
-    match m {
-        Merged::Lengths(book, report) => {
-            *book_length = book;
-            *report_length = report;
-            hand_verdict(Verdict::Good, machine, line)
+    match merged {
+        Ok(lengths) => {
+            *book_length = lengths.book;
+            *report_length = lengths.report;
+            hand_verdict(Ok(()), machine, line)
         }
-        Merged::Faulty(whose, fault) => {
+        Err(MergeError::Lists(error)) => {
             *book_length = 0;
             *report_length = 0;
-            hand_verdict(Verdict::Faulty(whose, fault), machine, line)
+            hand_verdict(Err(error), machine, line)
         }
-        Merged::NoRoom => {
+        Err(MergeError::NoRoom) => {
             *book_length = 0;
             *report_length = 0;
             *machine = 0;
             *line = 0;
-            time::number_of(Refusal::Room)
+            u8::from(Refusal::Room)
         }
     }
 }

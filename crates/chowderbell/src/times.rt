@@ -21,29 +21,20 @@ ghost use Rattle.chowderbell.specs.Entries.{now_of, rule_of, no_rule, ruled, mar
 use header::raw;
 use header::raw::Rule;
 use text::bytes;
-use time::{Answer, Now, Refusal, Time, Written};
+use time::{Refusal, Time};
 
 pub(crate) const SUCCESS: u8 = 0;
 
-// The numbers by which callers name a rule.
+// The numbers by which callers name a rule: C has no enum that a caller could not fill with another number.
 const RULE_1: u32 = 1;
 
 const RULE_2: u32 = 2;
 
-// A mark that is clear, and one that is set, as bytes.
+// The byte of a mark that is clear. Any other one is set.
 const CLEAR: u8 = 0;
-
-const SET: u8 = 1;
 
 // What `packed` adds to a number for a mark that is set.
 const MARKED: u32 = 256;
-
-// The rule that a number names, or that it names none.
-#[derive(Clone, Copy)]
-enum Named {
-    By(Rule),
-    Nothing,
-}
 
 #[unsafe(no_mangle)]
 pub extern "C" fn chowderbell_header(text: &[u8], seconds: &mut i64, offset: &mut i32) -> u8
@@ -95,9 +86,10 @@ pub extern "C" fn chowderbell_raw_marked(
     ensures { HandedMarked (ruled (rule_of rule) (λ l. raw_of l text.now) text.now) result seconds.new offset.new mark.new }
 {
     if rule == RULE_1 {
-        return hand_marked(raw::parse_raw_marked(text), seconds, offset, mark);
+        hand_marked(raw::parse_raw_marked(text), seconds, offset, mark)
+    } else {
+        hand_marked(raw_by(rule_of(rule), text), seconds, offset, mark)
     }
-    hand_marked(raw_by(rule_of(rule), text), seconds, offset, mark)
 }
 
 #[unsafe(no_mangle)]
@@ -107,7 +99,8 @@ pub extern "C" fn chowderbell_iso(text: &[u8], seconds: &mut i64, offset: &mut i
     hand_out(iso::parse_git_date_format(text), seconds, offset)
 }
 
-// The current time is missing if `has_now` is 0, and is the next two numbers otherwise.
+// The current time is missing if `has_now` is 0, and is the next two numbers otherwise. C has no Option, so
+// it is three parameters in each entry.
 #[unsafe(no_mangle)]
 pub extern "C" fn chowderbell_relative(
     text: &[u8],
@@ -264,7 +257,7 @@ pub extern "C" fn chowderbell_write_header(
     hand_length(t.write_to(room), length)
 }
 
-// Any mark but 0 is set.
+// Any mark but 0 is set, so C passes a byte and no `bool`.
 #[unsafe(no_mangle)]
 pub extern "C" fn chowderbell_write_header_marked(
     seconds: i64,
@@ -284,9 +277,10 @@ fn shown_offset(offset: i32, mark: u8) -> i32
     ensures { result ≡ cond (is_set mark && eq_z offset (pos 0)) (negsuc 0) offset }
 {
     if (mark != CLEAR) & (offset == 0) {
-        return -1;
+        -1
+    } else {
+        offset
     }
-    offset
 }
 
 #[unsafe(no_mangle)]
@@ -303,77 +297,80 @@ pub extern "C" fn chowderbell_write_iso(
     hand_length(t.write_iso(room), length)
 }
 
-fn now_of(has_now: u8, now_seconds: i64, now_offset: i32) -> Now
+fn now_of(has_now: u8, now_seconds: i64, now_offset: i32) -> Option<Time>
     ensures { result ≡ now_of has_now now_seconds now_offset }
 {
     if has_now == 0 {
-        return Now::Missing;
+        None
+    } else {
+        Some(Time::new(now_seconds, now_offset))
     }
-    Now::At(Time::new(now_seconds, now_offset))
 }
 
-fn rule_of(number: u32) -> Named
+// The rule that C names by this number. No TryFrom: the numbers are those of C alone, and no error would say more.
+fn rule_of(number: u32) -> Option<Rule>
     ensures { result ≡ rule_of number }
 {
-    if number == RULE_1 {
-        return Named::By(Rule::One);
+    match number {
+        RULE_1 => Some(Rule::One),
+        RULE_2 => Some(Rule::Two),
+        _ => None,
     }
-    if number == RULE_2 {
-        return Named::By(Rule::Two);
-    }
-    Named::Nothing
 }
 
-fn raw_by(named: Named, text: &[u8]) -> Answer
+// The answer by a rule, if one is named. This and `any_by` differ in the call alone: passing it as a closure
+// would be no plainer. It is put into both entries: called, it takes 24 instructions more of some 330.
+#[inline(always)]
+fn raw_by(named: Option<Rule>, text: &[u8]) -> Result<Time, Refusal>
     ensures { result ≡ ruled named (λ l. raw_of l text.now) text.now }
 {
-    let Named::By(rule) = named else {
-        return without_rule(text);
-    };
-    raw::parse_raw_by(text, rule)
+    match named {
+        Some(rule) => raw::parse_raw_by(text, rule),
+        None => without_rule(text),
+    }
 }
 
-fn any_by(named: Named, text: &[u8], current: Now) -> Answer
+fn any_by(named: Option<Rule>, text: &[u8], current: Option<Time>) -> Result<Time, Refusal>
     ensures { result ≡ ruled named (λ l. any_of max_pairs l text.now current) text.now }
 {
-    let Named::By(rule) = named else {
-        return without_rule(text);
-    };
-    dates::parse_by(text, rule, current)
+    match named {
+        Some(rule) => dates::parse_by(text, rule, current),
+        None => without_rule(text),
+    }
 }
 
 // Without a rule every text is refused: by 1 if it holds a byte of 128 or more, and by 2 otherwise.
-fn without_rule(text: &[u8]) -> Answer
+fn without_rule(text: &[u8]) -> Result<Time, Refusal>
     ensures { result ≡ no_rule text.now }
 {
     if bytes::is_ascii(text) {
-        return Answer::Refused(Refusal::Form);
+        Err(Refusal::Form)
+    } else {
+        Err(Refusal::NotAscii)
     }
-    Answer::Refused(Refusal::NotAscii)
 }
 
-// Returns the number of a reader's answer and stores its time, which is 0 at offset 0 for a refusal.
-fn hand_out(a: Answer, seconds: &mut i64, offset: &mut i32) -> u8
+// Returns the number of a reader's answer and stores its time, which is 0 at offset 0 for a refusal. A Result
+// cannot be passed to C, so the entries return a number and store the rest.
+fn hand_out(a: Result<Time, Refusal>, seconds: &mut i64, offset: &mut i32) -> u8
     ensures { HandedOut a result seconds.new offset.new }
 {
     match a {
-        Answer::Time(t) => {
-            let s = t.seconds;
-            let o = t.offset;
-            *seconds = s;
-            *offset = o;
+        Ok(t) => {
+            *seconds = t.seconds;
+            *offset = t.offset;
             SUCCESS
         }
-        Answer::Refused(r) => {
+        Err(refusal) => {
             *seconds = 0;
             *offset = 0;
-            time::number_of(r)
+            u8::from(refusal)
         }
     }
 }
 
 // The same, and stores the mark of the time too, which is clear for a refusal.
-fn hand_marked(a: Answer, seconds: &mut i64, offset: &mut i32, mark: &mut u8) -> u8
+fn hand_marked(a: Result<Time, Refusal>, seconds: &mut i64, offset: &mut i32, mark: &mut u8) -> u8
     ensures { HandedMarked a result seconds.new offset.new mark.new }
 {
     let number = hand_out(a, seconds, offset);
@@ -382,36 +379,27 @@ fn hand_marked(a: Answer, seconds: &mut i64, offset: &mut i32, mark: &mut u8) ->
 }
 
 // The mark of an answer, as a byte.
-fn mark_of(a: Answer) -> u8
+fn mark_of(a: Result<Time, Refusal>) -> u8
     ensures { result ≡ mark_byte (answer_time a).mark }
 {
     match a {
-        Answer::Time(t) => mark_byte(t.mark),
-        Answer::Refused(_) => CLEAR,
+        Ok(t) => u8::from(t.mark),
+        Err(_) => CLEAR,
     }
-}
-
-fn mark_byte(mark: bool) -> u8
-    ensures { result ≡ mark_byte mark }
-{
-    if mark {
-        return SET;
-    }
-    CLEAR
 }
 
 // Returns the number of a writer's answer and stores its length, which is 0 for a refusal.
-pub(crate) fn hand_length(w: Written, length: &mut usize) -> u8
+pub(crate) fn hand_length(w: Result<usize, Refusal>, length: &mut usize) -> u8
     ensures { HandedLength w result length.new }
 {
     match w {
-        Written::Length(n) => {
+        Ok(n) => {
             *length = n;
             SUCCESS
         }
-        Written::Refused(r) => {
+        Err(refusal) => {
             *length = 0;
-            time::number_of(r)
+            u8::from(refusal)
         }
     }
 }
@@ -420,7 +408,7 @@ pub(crate) fn hand_length(w: Written, length: &mut usize) -> u8
 fn packed(number: u8, mark: u8) -> u32
     ensures { (result % 256 ≡ number) × (result / 256 ≡ mark) }
 {
-    number as u32 + MARKED * (mark as u32)
+    u32::from(number) + MARKED * u32::from(mark)
 }
 
 fn low_byte(n: u32) -> u8

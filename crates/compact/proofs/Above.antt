@@ -2,6 +2,7 @@
 -- `since` lines that it was below (`same_since_lines_above`) and below no more `hull` lines (`fewer_hull_lines_above`); every `since` line stays
 -- (`all_since_lines_kept`).
 -- Assumes nothing.
+use Rattle.std.specs.Prelude.{None, Option, Some}
 use mathlib.Core.Path.{◌≡◌, refl, sym, ap, ◌∙◌}
 use mathlib.Core.Bool.{true, false, cond, false≢true}
 use mathlib.Core.List.{List, [], ◌∷◌, ◌++◌, append-nil}
@@ -12,22 +13,22 @@ use Rattle.text.proofs.Lists.{by_test}
 use Rattle.stamps.specs.Lines.{line_of}
 use Rattle.stamps.specs.Theorems.{is_hull_line, is_since_line, hulls_of}
 use Rattle.stamps.specs.declared.line.Line.{Line}
-use Rattle.stamps.specs.declared.line.Line.TheVariants.{Hull, Since, Bad}
+use Rattle.stamps.specs.declared.line.Line.TheVariants.{Hull, Since}
 use Rattle.compact.specs.Compact.{is_kept, kept}
 use Rattle.compact.specs.Theorems.{kept_above, sinces_of}
 
 module _ (bound : ℕ) where
   -- ---- `since` lines
   -- a line that goes is one of `hull`
-  pub hull_of_gone : (l : List ℕ) (x : Line) (ls : List (List ℕ)) → is_kept bound l x ls ≡ false → is_hull_line x ≡ true
-  hull_of_gone l (Hull h) ls e = refl
-  hull_of_gone l (Since x) ls e = absurd (false≢true (sym e))
-  hull_of_gone l Bad ls e = absurd (false≢true (sym e))
+  pub hull_of_gone : (l : List ℕ) (x : Option Line) (ls : List (List ℕ)) → is_kept bound l x ls ≡ false → is_hull_line x ≡ true
+  hull_of_gone l (Some (Hull h)) ls e = refl
+  hull_of_gone l (Some (Since x)) ls e = absurd (false≢true (sym e))
+  hull_of_gone l None ls e = absurd (false≢true (sym e))
 
-  not-since_of_hull : (x : Line) → is_hull_line x ≡ true → is_since_line x ≡ false
-  not-since_of_hull (Hull h) e = refl
-  not-since_of_hull (Since x) e = absurd (false≢true e)
-  not-since_of_hull Bad e = absurd (false≢true e)
+  not-since_of_hull : (x : Option Line) → is_hull_line x ≡ true → is_since_line x ≡ false
+  not-since_of_hull (Some (Hull h)) e = refl
+  not-since_of_hull (Some (Since x)) e = absurd (false≢true e)
+  not-since_of_hull None e = absurd (false≢true e)
 
   not-since_of_gone : (l : List ℕ) (ls : List (List ℕ)) → is_kept bound l (line_of bound l) ls ≡ false → is_since_line (line_of bound l) ≡ false
   not-since_of_gone l ls e = not-since_of_hull (line_of bound l) (hull_of_gone l (line_of bound l) ls e)

@@ -1,12 +1,13 @@
--- Kept lines that are copied one after the other, from the first to the last. In order: a line and its newline; the state of the copy from
+-- Kept lines that are copied one after the other, from the first to the last. In order: the lines of the first places; a line and its newline; the state of the copy from
 -- the start, by one line more, and at its end.
 -- Assumes nothing.
 use mathlib.Core.Path.{◌≡◌, refl, sym, ap, ◌∙◌}
 use mathlib.Core.List.{List, [], ◌∷◌, ◌++◌}
-use Prim.Native.Nat.{ℕ, suc, ◌+◌, ◌-◌, ◌≤◌, ◌<◌}
+use Prim.Native.Nat.{ℕ, zero, suc, ◌+◌, ◌-◌, ◌≤◌, ◌<◌}
 use native.Mathlib.Nat.{le_refl, zero-add}
 use native.Mathlib.Omega.{arith}
-use lib.ListN.{length, drop, get_or, length-append}
+use Rattle.std.proofs.lemmas.List.{get_or-take}
+use lib.ListN.{length, take, drop, get_or, length-append, length-take}
 use lib.Seq.{sets, sets-eq, length-sets}
 use Rattle.text.specs.Lines.{newline}
 use Rattle.text.specs.Room.{put_at}
@@ -21,6 +22,15 @@ bytes_down book places k = joined (lines_down book places k)
 bytes_down-step : (book places : List ℕ) (k : ℕ) → 0 < k → bytes_down book places k ≡ line_at book (get_or places (k - 1) 0) ++ newline ∷ bytes_down book places (k - 1)
 unfolding joined lines_down
 bytes_down-step book places k some = let e : k ≡ suc (k - 1) = omega arith in ap (bytes_down book places) e
+
+-- of a longer list of places, the first n give the same lines
+lines_down-front : (book places : List ℕ) (n k : ℕ) → k ≤ n → lines_down book (take n places) k ≡ lines_down book places k
+unfolding lines_down
+lines_down-front book places n zero h = refl
+lines_down-front book places n (suc k) h = λ i. line_at book (get_or-take n places k 0 h i) ∷ lines_down-front book places n k (omega arith) i
+
+pub lines_down-take : (book places : List ℕ) (n : ℕ) → n ≤ length places → lines_down book (take n places) (length (take n places)) ≡ lines_down book places n
+lines_down-take book places n h = ap (lines_down book (take n places)) (omega (arith, length-take n places)) ∙ lines_down-front book places n n (le_refl n)
 
 -- the lines from number k + 1 on are written: the first w bytes of the room
 pub record Copying (book places was room : List ℕ) (count k w : ℕ) : Type 0 where

@@ -1,6 +1,7 @@
 -- A good book, from its last line to its first. In order: a line of it is good, and its lines are few; a line that is overtaken, and one that is
 -- kept; the state of the walk from the start, by one line more, and at its end.
 -- Assumes nothing.
+use Rattle.std.specs.Prelude.{Ok}
 use mathlib.Core.Path.{◌≡◌, refl, sym, ap, ◌∙◌}
 use mathlib.Core.Bool.{Bool, true, false, cond, not, ◌||◌, false≢true}
 use mathlib.Core.List.{List, [], ◌∷◌, ◌++◌}
@@ -18,7 +19,6 @@ use Rattle.stamps.specs.Lines.{line_of, is_good}
 use Rattle.stamps.specs.Book.{judged, check_of}
 use Rattle.stamps.specs.Copies.{joined}
 use Rattle.stamps.specs.Theorems.{are_good}
-use Rattle.stamps.specs.declared.book.Checked.TheVariants.{Good}
 use Rattle.stamps.proofs.Printed.{eq_of_same}
 use Rattle.stamps.proofs.Books.{are_good-append, taken_by-le, ended_lines-nil}
 use Rattle.stamps.proofs.Marks.{lines_fit}
@@ -36,7 +36,7 @@ use Rattle.compact.proofs.Chains.{Down, lines_down-enter, found_number-enter, he
 cut_lines : (book : List ℕ) (at : ℕ) → left (take at book) ≡ [] → ended_lines book ≡ ended_lines (take at book) ++ ended_lines (drop at book)
 cut_lines book at e = ap ended_lines (sym (take-append-drop at book)) ∙ ended_lines-append (take at book) (drop at book) e
 
-module _ (bound : ℕ) (book : List ℕ) (good : check_of bound book ≡ Good) where
+module _ (bound : ℕ) (book : List ℕ) (good : check_of bound book ≡ Ok tt) where
   are_good-drop : (at : ℕ) → left (take at book) ≡ [] → are_good (judged bound (ended_lines (drop at book))) ≡ true
   are_good-drop at e =
       let above = judged bound (ended_lines (take at book)) in
@@ -72,7 +72,7 @@ pub record Keeping (bound : ℕ) (book heads links places : List ℕ) (at count 
   pub link_places : length links ≡ 5957
   pub place_places : length places ≡ 5957
 
-pub keeping_start : (bound : ℕ) (book heads links places : List ℕ) → check_of bound book ≡ Good → ((b : ℕ) → get_or heads b 0 ≡ 0)
+pub keeping_start : (bound : ℕ) (book heads links places : List ℕ) → check_of bound book ≡ Ok tt → ((b : ℕ) → get_or heads b 0 ≡ 0)
     → length heads ≡ 2049 → length links ≡ 5957 → length places ≡ 5957 → Keeping bound book heads links places (length book) 0 0
 unfolding lines_down kept joined holds_path number_in
 keeping_start bound book heads links places good none h l p =
@@ -113,11 +113,11 @@ or_of_true false b h = refl
 
 module _ {bound : ℕ} {book heads links places : List ℕ} {at count size : ℕ} (j : Keeping bound book heads links places at count size) where
   -- each kept line has a place
-  pub count-le : check_of bound book ≡ Good → count ≤ 5957
+  pub count-le : check_of bound book ≡ Ok tt → count ≤ 5957
   count-le good = omega (arith, j.few, few_lines bound book good at j.whole)
 
   -- the walk is at its end
-  pub keeping_end : check_of bound book ≡ Good → at ≤ 0 → IsTable bound book heads links places count × (size ≡ length (compacted bound book))
+  pub keeping_end : check_of bound book ≡ Ok tt → at ≤ 0 → IsTable bound book heads links places count × (size ≡ length (compacted bound book))
   unfolding compacted
   keeping_end good h =
       let z : at ≡ 0 = omega arith in
@@ -135,7 +135,7 @@ module _ {bound : ℕ} {book heads links places : List ℕ} {at count size : ℕ
         j.size_is ∙ ap (λ (s : List ℕ). length (joined (kept bound (ended_lines s)))) e,
       )
 
-  module _ (good : check_of bound book ≡ Good) (start : ℕ) (back : LineBack book at start) where
+  module _ (good : check_of bound book ≡ Ok tt) (start : ℕ) (back : LineBack book at start) where
     abbrev l : List ℕ
     l = line_at book start
 

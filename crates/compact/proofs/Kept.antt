@@ -2,6 +2,7 @@
 -- kept exactly if it was there (`same_paths`); the paths of the kept lines are the different paths of the book (`paths_kept`), as many as there are
 -- kept `hull` lines (`as_many_hulls_as_paths`), and each once (`different_is_each_once`).
 -- Assumes nothing.
+use Rattle.std.specs.Prelude.{None, Option, Some}
 use mathlib.Core.Path.{◌≡◌, refl, sym, ap, ◌∙◌}
 use mathlib.Core.Bool.{Bool, true, false, cond, not, ◌||◌, false≢true}
 use mathlib.Core.List.{List, [], ◌∷◌, ◌++◌}
@@ -14,7 +15,7 @@ use Rattle.stamps.specs.Lines.{line_of}
 use Rattle.stamps.specs.Theorems.{is_hull_line, hulls_of}
 use Rattle.stamps.specs.Held.{picked}
 use Rattle.stamps.specs.declared.line.Line.{Line}
-use Rattle.stamps.specs.declared.line.Line.TheVariants.{Hull, Since, Bad}
+use Rattle.stamps.specs.declared.line.Line.TheVariants.{Hull, Since}
 use Rattle.stamps.proofs.Printed.{eq_of_same}
 use Rattle.compact.specs.Compact.{has_path, holds_path, is_kept, kept}
 use Rattle.compact.specs.Theorems.{kept_marks, with_path, paths_in, is_in, times_in, different}
@@ -43,12 +44,12 @@ module _ (bound : ℕ) where
   holds_path-append p (l ∷ a) b = by_test (has_path p l (line_of bound l)) (λ y. rw y) (λ n. rw (n, holds_path-append p a b))
 
   -- a line that goes has a path that a later line has too
-  path_of_gone : (p l : List ℕ) (x : Line) (ls : List (List ℕ)) → is_kept bound l x ls ≡ false → has_path p l x ≡ true → holds_path bound p ls ≡ true
-  path_of_gone p l (Hull h) ls g e =
+  path_of_gone : (p l : List ℕ) (x : Option Line) (ls : List (List ℕ)) → is_kept bound l x ls ≡ false → has_path p l x ≡ true → holds_path bound p ls ≡ true
+  path_of_gone p l (Some (Hull h)) ls g e =
       ap (λ (q : List ℕ). holds_path bound q ls) (sym (eq_of_same (part l h.path) p e))
       ∙ by_test (holds_path bound (part l h.path) ls) (λ y. y) (λ n. absurd (false≢true (sym g ∙ ap not n)))
-  path_of_gone p l (Since x) ls g e = absurd (false≢true e)
-  path_of_gone p l Bad ls g e = absurd (false≢true e)
+  path_of_gone p l (Some (Since x)) ls g e = absurd (false≢true e)
+  path_of_gone p l None ls g e = absurd (false≢true e)
 
   or_of_gone : (p l : List ℕ) (ls : List (List ℕ)) → is_kept bound l (line_of bound l) ls ≡ false → holds_path bound p (l ∷ ls) ≡ holds_path bound p ls
   unfolding holds_path
@@ -63,11 +64,11 @@ module _ (bound : ℕ) where
       (λ n. ap (holds_path bound p) (kept_dropped bound l ls n) ∙ same_paths p ls ∙ sym (or_of_gone p l ls n))
 
   -- ---- different paths
-  pub is_in-with_path : (p l : List ℕ) (ps ls : List (List ℕ)) → is_in p ps ≡ holds_path bound p ls → (x : Line) → is_in p (with_path l x ps) ≡ (has_path p l x || holds_path bound p ls)
+  pub is_in-with_path : (p l : List ℕ) (ps ls : List (List ℕ)) → is_in p ps ≡ holds_path bound p ls → (x : Option Line) → is_in p (with_path l x ps) ≡ (has_path p l x || holds_path bound p ls)
   unfolding is_in
-  is_in-with_path p l ps ls e (Hull h) = ap (λ (t : Bool). same (part l h.path) p || t) e
-  is_in-with_path p l ps ls e (Since x) = e
-  is_in-with_path p l ps ls e Bad = e
+  is_in-with_path p l ps ls e (Some (Hull h)) = ap (λ (t : Bool). same (part l h.path) p || t) e
+  is_in-with_path p l ps ls e (Some (Since x)) = e
+  is_in-with_path p l ps ls e None = e
 
   pub is_in-paths_in : (p : List ℕ) (ls : List (List ℕ)) → is_in p (paths_in bound ls) ≡ holds_path bound p ls
   unfolding is_in paths_in holds_path
@@ -75,19 +76,19 @@ module _ (bound : ℕ) where
   is_in-paths_in p (l ∷ ls) = is_in-with_path p l (paths_in bound ls) ls (is_in-paths_in p ls) (line_of bound l)
 
   -- the paths of the kept lines are the different paths of the book
-  paths_of_line : (l : List ℕ) (ls : List (List ℕ)) → paths_in bound (kept bound ls) ≡ different (paths_in bound ls) → (x : Line) → line_of bound l ≡ x
+  paths_of_line : (l : List ℕ) (ls : List (List ℕ)) → paths_in bound (kept bound ls) ≡ different (paths_in bound ls) → (x : Option Line) → line_of bound l ≡ x
       → paths_in bound (kept bound (l ∷ ls)) ≡ different (with_path l x (paths_in bound ls))
   unfolding paths_in different
-  paths_of_line l ls below (Hull h) e =
+  paths_of_line l ls below (Some (Hull h)) e =
       let p = part l h.path in
-      let keeps : is_kept bound l (line_of bound l) ls ≡ not (holds_path bound p ls) = ap (λ (x : Line). is_kept bound l x ls) e in
+      let keeps : is_kept bound l (line_of bound l) ls ≡ not (holds_path bound p ls) = ap (λ (x : Option Line). is_kept bound l x ls) e in
       by_test (holds_path bound p ls)
       (λ y. rw (is_in-paths_in p ls, y) (ap (paths_in bound) (kept_dropped bound l ls (keeps ∙ ap not y)) ∙ below))
       (λ n. rw (is_in-paths_in p ls, n) (ap (paths_in bound) (kept_taken bound l ls (keeps ∙ ap not n)) ∙ (λ i. with_path l (e i) (below i))))
-  paths_of_line l ls below (Since x) e =
-      ap (paths_in bound) (kept_taken bound l ls (ap (λ (x : Line). is_kept bound l x ls) e)) ∙ (λ i. with_path l (e i) (below i))
-  paths_of_line l ls below Bad e =
-      ap (paths_in bound) (kept_taken bound l ls (ap (λ (x : Line). is_kept bound l x ls) e)) ∙ (λ i. with_path l (e i) (below i))
+  paths_of_line l ls below (Some (Since x)) e =
+      ap (paths_in bound) (kept_taken bound l ls (ap (λ (x : Option Line). is_kept bound l x ls) e)) ∙ (λ i. with_path l (e i) (below i))
+  paths_of_line l ls below None e =
+      ap (paths_in bound) (kept_taken bound l ls (ap (λ (x : Option Line). is_kept bound l x ls) e)) ∙ (λ i. with_path l (e i) (below i))
 
   pub paths_kept : (ls : List (List ℕ)) → paths_in bound (kept bound ls) ≡ different (paths_in bound ls)
   unfolding paths_in different kept
@@ -95,10 +96,10 @@ module _ (bound : ℕ) where
   paths_kept (l ∷ ls) = paths_of_line l ls (paths_kept ls) (line_of bound l) refl
 
   -- each `hull` line has one path
-  length-with_path : (l : List ℕ) (ps ls : List (List ℕ)) → length ps ≡ length ls → (x : Line) → length (with_path l x ps) ≡ length (cond (is_hull_line x) (l ∷ ls) ls)
-  length-with_path l ps ls e (Hull h) = ap suc e
-  length-with_path l ps ls e (Since x) = e
-  length-with_path l ps ls e Bad = e
+  length-with_path : (l : List ℕ) (ps ls : List (List ℕ)) → length ps ≡ length ls → (x : Option Line) → length (with_path l x ps) ≡ length (cond (is_hull_line x) (l ∷ ls) ls)
+  length-with_path l ps ls e (Some (Hull h)) = ap suc e
+  length-with_path l ps ls e (Some (Since x)) = e
+  length-with_path l ps ls e None = e
 
   length-paths_in : (ls : List (List ℕ)) → length (paths_in bound ls) ≡ length (hulls_of bound ls)
   unfolding paths_in hulls_of

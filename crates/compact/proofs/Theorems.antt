@@ -3,6 +3,7 @@
 -- (`freed_room_is_usable`), which stays if it is new (`new_line_stays`); compacting before lines are added changes nothing (`compacting_in_between`); its
 -- listing is that of the book without the lines that went (`listing_of_compacted`).
 -- Assumes nothing.
+use Rattle.std.specs.Prelude.{None, Option, Some, ℤ, Ok}
 use mathlib.Core.Path.{◌≡◌, refl, sym, ap, ◌∙◌}
 use mathlib.Core.Bool.{true, false≢true, and-false}
 use mathlib.Core.List.{List, [], ◌∷◌, ◌++◌}
@@ -10,8 +11,6 @@ use Prim.Native.Nat.{ℕ, ◌≤◌}
 use native.Mathlib.Omega.{arith}
 use lib.ListN.{length}
 use Rattle.text.specs.Lines.{newline, ended_lines, left}
-use Rattle.text.specs.declared.number.Integer.{Integer}
-use Rattle.text.specs.declared.number.Integer.TheVariants.{Nothing}
 use Rattle.text.proofs.Lists.{by_test}
 use Rattle.text.proofs.Texts.{Lacking}
 use Rattle.stamps.specs.Lines.{line_of, is_good}
@@ -21,8 +20,7 @@ use Rattle.stamps.specs.Copies.{joined}
 use Rattle.stamps.specs.Listing.{is_listed, cut_off_below, listed, listing}
 use Rattle.stamps.specs.Theorems.{are_good, is_hull_line}
 use Rattle.stamps.specs.declared.line.Line.{Line}
-use Rattle.stamps.specs.declared.line.Line.TheVariants.{Hull, Since, Bad}
-use Rattle.stamps.specs.declared.book.Checked.TheVariants.{Good}
+use Rattle.stamps.specs.declared.line.Line.TheVariants.{Hull, Since}
 use Rattle.stamps.proofs.Books.{are_good-append, length-joined, taken_by-le, ended_lines-nil}
 use Rattle.stamps.proofs.Listings.{good_book_iff, judged-append, joined_good_iff, lacking_of_good, ended_lines-joined, left_joined, not_has_newline_of_good, ended_lines-line}
 use Rattle.compact.specs.Compact.{is_kept, kept, compacted}
@@ -67,7 +65,7 @@ module _ (bound : ℕ) where
   are_good-kept : (ls : List (List ℕ)) → are_good (judged bound ls) ≡ true → are_good (judged bound (kept bound ls)) ≡ true
   are_good-kept ls g = rw kept_lines_in_order (are_good-picked bound (kept_marks bound ls) ls g)
 
-  pub compacted_is_a_good_book : (book : List ℕ) → check_of bound book ≡ Good → check_of bound (compacted bound book) ≡ Good
+  pub compacted_is_a_good_book : (book : List ℕ) → check_of bound book ≡ Ok tt → check_of bound (compacted bound book) ≡ Ok tt
   compacted_is_a_good_book book good =
       let p = (good_book_iff bound book).0 good in
       (good_book_iff bound (compacted bound book)).1 (
@@ -81,8 +79,8 @@ module _ (bound : ℕ) where
   unfolding joined
   joined_added ls m = joined-append ls (m ∷ [])
 
-  pub freed_room_is_usable : (book m : List ℕ) → check_of bound book ≡ Good → is_good (line_of bound m) ≡ true → length (compacted bound book ++ ended m) ≤ max_book
-      → check_of bound (compacted bound book ++ ended m) ≡ Good
+  pub freed_room_is_usable : (book m : List ℕ) → check_of bound book ≡ Ok tt → is_good (line_of bound m) ≡ true → length (compacted bound book ++ ended m) ≤ max_book
+      → check_of bound (compacted bound book ++ ended m) ≡ Ok tt
   unfolding compacted judged are_good
   freed_room_is_usable book m good g h =
       let ls = kept bound (ended_lines book) in
@@ -105,7 +103,7 @@ module _ (bound : ℕ) where
       one_line = ended_lines-line m [] (not_has_newline_of_good bound m g) ∙ ap (λ (v : List (List ℕ)). m ∷ v) ended_lines-nil
 
   -- compacting a book before more is added changes nothing
-  pub compacting_in_between : (book more : List ℕ) → check_of bound book ≡ Good → compacted bound (compacted bound book ++ more) ≡ compacted bound (book ++ more)
+  pub compacting_in_between : (book more : List ℕ) → check_of bound book ≡ Ok tt → compacted bound (compacted bound book ++ more) ≡ compacted bound (book ++ more)
   unfolding compacted
   compacting_in_between book more good =
       ap (λ (v : List (List ℕ)). joined (kept bound v))
@@ -114,20 +112,20 @@ module _ (bound : ℕ) where
       ∙ ap (λ (v : List (List ℕ)). joined (kept bound v)) (sym (ended_lines-append book more ((good_book_iff bound book).0 good).1))
 
   -- ---- listings
-  listed_kept : (c : Integer) (ls : List (List ℕ)) → listed bound c (kept bound ls) ≡ listed_of_kept bound c ls
+  listed_kept : (c : Option ℤ) (ls : List (List ℕ)) → listed bound c (kept bound ls) ≡ listed_of_kept bound c ls
   unfolding kept listed listed_of_kept
   listed_kept c [] = refl
   listed_kept c (l ∷ ls) =
       let x = line_of bound l in
       by_test (is_kept bound l x ls)
       (λ y. by_test (is_listed c x) (λ t. rw (y, t, listed_kept (cut_off_below c x) ls)) (λ t. rw (y, t, listed_kept (cut_off_below c x) ls)))
-      (λ n. rw (n, and-false (is_listed c x)) (listed_kept c ls ∙ ap (λ (d : Integer). listed_of_kept bound d ls) (sym (cut_off_below-hull c x (hull_of_gone bound l x ls n)))))
+      (λ n. rw (n, and-false (is_listed c x)) (listed_kept c ls ∙ ap (λ (d : Option ℤ). listed_of_kept bound d ls) (sym (cut_off_below-hull c x (hull_of_gone bound l x ls n)))))
     where
-      cut_off_below-hull : (c : Integer) (x : Line) → is_hull_line x ≡ true → cut_off_below c x ≡ c
-      cut_off_below-hull c (Hull h) e = refl
-      cut_off_below-hull c (Since x) e = absurd (false≢true e)
-      cut_off_below-hull c Bad e = absurd (false≢true e)
+      cut_off_below-hull : (c : Option ℤ) (x : Option Line) → is_hull_line x ≡ true → cut_off_below c x ≡ c
+      cut_off_below-hull c (Some (Hull h)) e = refl
+      cut_off_below-hull c (Some (Since x)) e = absurd (false≢true e)
+      cut_off_below-hull c None e = absurd (false≢true e)
 
-  pub listing_of_compacted : (book : List ℕ) → listing bound (compacted bound book) ≡ joined (listed_of_kept bound Nothing (ended_lines book))
+  pub listing_of_compacted : (book : List ℕ) → listing bound (compacted bound book) ≡ joined (listed_of_kept bound None (ended_lines book))
   unfolding listing
-  listing_of_compacted book = ap (λ (ls : List (List ℕ)). joined (listed bound Nothing ls)) (ended_lines-compacted book) ∙ ap joined (listed_kept Nothing (ended_lines book))
+  listing_of_compacted book = ap (λ (ls : List (List ℕ)). joined (listed bound None ls)) (ended_lines-compacted book) ∙ ap joined (listed_kept None (ended_lines book))

@@ -1,15 +1,14 @@
 -- What the theorems about compacting speak of (docs/PROMISES.md). No contract cites these.
 -- Assumes nothing.
-use Rattle.std.specs.Prelude.{ℕ, suc, ◌≡◌, Bool, true, false, cond, ◌&&◌, ◌||◌, List, [], ◌∷◌, ◌++◌}
+use Rattle.std.specs.Prelude.{ℕ, suc, ◌≡◌, Bool, true, false, cond, ◌&&◌, ◌||◌, List, [], ◌∷◌, ◌++◌, None, Option, Some, ℤ}
 use Rattle.text.specs.Bytes.{same}
 use Rattle.text.specs.Places.{part}
-use Rattle.text.specs.declared.number.Integer.{Integer}
 use Rattle.stamps.specs.Lines.{line_of}
 use Rattle.stamps.specs.Listing.{is_listed, cut_off_below}
 use Rattle.stamps.specs.Theorems.{is_since_line}
 use Rattle.stamps.specs.Held.{mark_of}
 use Rattle.stamps.specs.declared.line.Line.{Line}
-use Rattle.stamps.specs.declared.line.Line.TheVariants.{Hull, Since, Bad}
+use Rattle.stamps.specs.declared.line.Line.TheVariants.{Hull, Since}
 use Rattle.compact.specs.Compact.{has_path, holds_path, is_kept}
 
 -- the mark of each line: 1 if it is kept, 0 if it goes
@@ -19,10 +18,10 @@ kept_marks bound (l ∷ ls) = mark_of (is_kept bound l (line_of bound l) ls) ∷
 
 -- ---- different paths
 -- the path of a line, if it is one of `hull`, in front of others
-abbrev pub with_path : List ℕ → Line → List (List ℕ) → List (List ℕ)
-with_path l (Hull h) ps = part l h.path ∷ ps
-with_path l (Since x) ps = ps
-with_path l Bad ps = ps
+abbrev pub with_path : List ℕ → Option Line → List (List ℕ) → List (List ℕ)
+with_path l (Some (Hull h)) ps = part l h.path ∷ ps
+with_path l (Some (Since x)) ps = ps
+with_path l None ps = ps
 
 -- the paths of the `hull` lines, in their order
 unfoldable pub paths_in : ℕ → List (List ℕ) → List (List ℕ)
@@ -60,7 +59,7 @@ sinces_of bound (l ∷ ls) = let below = sinces_of bound ls in cond (is_since_li
 
 -- ---- listings
 -- the lines that are listed, under a cut-off, without those that go
-unfoldable pub listed_of_kept : ℕ → Integer → List (List ℕ) → List (List ℕ)
+unfoldable pub listed_of_kept : ℕ → Option ℤ → List (List ℕ) → List (List ℕ)
 listed_of_kept bound c [] = []
 listed_of_kept bound c (l ∷ ls) =
     let below = listed_of_kept bound (cut_off_below c (line_of bound l)) ls in

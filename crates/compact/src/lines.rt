@@ -1,15 +1,15 @@
 // The lines of a good book, from the last to the first, and those that are kept, copied from the first to
 // the last.
-ghost use Rattle.std.specs.Prelude.{◌≡◌, ◌++◌, ℕ, ◌≤◌, length, get_or, drop};
+ghost use Rattle.std.specs.Prelude.{◌≡◌, ◌++◌, ℕ, ◌≤◌, length, get_or, drop, Ok};
 ghost use Rattle.relative.specs.Relative.{max_pairs};
 ghost use Rattle.text.specs.Lines.{ended_lines, taken_by};
 ghost use Rattle.stamps.specs.Book.{check_of};
 ghost use Rattle.stamps.specs.Copies.{joined};
-ghost use Rattle.stamps.specs.declared.book.Checked.TheVariants.{Good};
 ghost use Rattle.compact.specs.Compact.{compacted};
 ghost use Rattle.compact.specs.Held.{lines_down, IsTable};
 
 use crate::table;
+use crate::table::Table;
 use text::{copy, places as cut};
 
 // The lines that are kept: how many there are, and how many bytes they have with their newlines.
@@ -19,29 +19,35 @@ pub struct Kept {
     pub length: usize,
 }
 
-// Finds the lines that are kept and stores where they begin, from the last to the first. `heads` and
-// `links` hold the buckets (`table`), which are empty at first.
-pub fn keep_lines(book: &[u8], heads: &mut [u16], links: &mut [u16], places: &mut [u16]) -> Kept
-    requires book_value { check_of max_pairs book.now ≡ Good }
-    requires value { (2049 ≡ length heads.old) × ((b : ℕ) → get_or heads.old b 0 ≡ 0) }
-    requires value_2 { (5957 ≡ length links.old) × (5957 ≡ length places.old) }
-    ensures table { IsTable max_pairs book.now heads.new links.new places.new result.count }
+// Finds the lines that are kept and stores where they begin, from the last to the first. The buckets of
+// the table are empty at first.
+pub fn keep_lines(book: &[u8], table: &mut Table) -> Kept
+    requires book_value { check_of max_pairs book.now ≡ Ok tt }
+    requires empty { (b : ℕ) → get_or table.old.heads b 0 ≡ 0 }
+    ensures table { IsTable max_pairs book.now table.new.heads table.new.links table.new.places result.count }
     ensures length_value { result.length ≡ length (compacted max_pairs book.now) }
 {
     let mut at = book.len();
     let mut count: usize = 0;
     let mut length: usize = 0;
+    // No `for` over std's `split_inclusive` from the back: the table holds where a line begins, which the
+    // pieces do not say.
     while 0 < at {
         let start = last_start(cut::up_to(book, at - 1));
         let path = table::path_at(cut::from(book, start));
         let bucket = table::bucket_of(path);
-        if table::is_overtaken(book, path, heads[bucket], links, places) {
-            at = start;
-            continue;
+        if !table::is_overtaken(book, path, table.heads[bucket], &table.links, &table.places) {
+            table::enter(
+                start,
+                bucket,
+                count,
+                &mut table.heads,
+                &mut table.links,
+                &mut table.places,
+            );
+            length += at - start;
+            count += 1;
         }
-        table::enter(start, bucket, count, heads, links, places);
-        length += at - start;
-        count += 1;
         at = start;
     }
     Kept { count, length }
@@ -51,28 +57,24 @@ pub fn keep_lines(book: &[u8], heads: &mut [u16], links: &mut [u16], places: &mu
 fn last_start(s: &[u8]) -> usize
     ensures { result ≡ taken_by (ended_lines s.now) }
 {
-    let mut i = s.len();
-    while 0 < i {
-        if s[i - 1] == b'\n' {
-            return i;
+    for i in (0..s.len()).rev() {
+        if s[i] == b'\n' {
+            return i + 1;
         }
-        i -= 1;
     }
     0
 }
 
-// Copies the kept lines, each with its newline, to the front of a room that is long enough for them.
-pub fn copy_lines(book: &[u8], places: &[u16], count: usize, room: &mut [u8])
-    requires count_in_bounds { count ≤ length places.now }
-    requires count_in_bounds_2 { length (joined (lines_down book.now places.now count)) ≤ length room.old }
-    ensures { room.new ≡ joined (lines_down book.now places.now count) ++ drop (length (joined (lines_down book.now places.now count))) room.old }
+// Copies the lines that begin at these places, from the last place to the first, each with its newline,
+// to the front of a room that is long enough for them.
+pub fn copy_lines(book: &[u8], places: &[u16], room: &mut [u8])
+    requires { length (joined (lines_down book.now places.now (length places.now))) ≤ length room.old }
+    ensures { room.new ≡ joined (lines_down book.now places.now (length places.now)) ++ drop (length (joined (lines_down book.now places.now (length places.now)))) room.old }
 {
-    let mut k = count;
     let mut written: usize = 0;
-    while 0 < k {
-        let line = cut::before(cut::from(book, places[k - 1] as usize), b'\n');
+    for k in (0..places.len()).rev() {
+        let line = cut::before(cut::from(book, usize::from(places[k])), b'\n');
         written = copy::put_part(line, written, room);
         written = copy::put_part(b"\n", written, room);
-        k -= 1;
     }
 }

@@ -24,11 +24,37 @@ const GOLDEN: u64 = 2654435761;
 // How many numbers of 32 bits share a bucket: it is given by their upper 11 bits.
 const BUCKET_SIZE: u64 = 2097152;
 
-// Empty buckets.
-pub fn no_heads() -> [u16; HEADS]
-    ensures { (2049 ≡ length result) × ((b : ℕ) → get_or result b 0 ≡ 0) }
-{
-    [0; HEADS]
+// The kept lines in their buckets: the number of the line that was entered last in each bucket, and for
+// each kept line its link and the place where it begins. These are arrays of numbers and no map, since
+// nothing here uses the heap.
+#[derive(Drop)]
+pub struct Table {
+    pub heads: [u16; HEADS],
+    pub links: [u16; book::MAX_LINES],
+    pub places: [u16; book::MAX_LINES],
+}
+
+impl Table {
+    // A table with empty buckets.
+    pub fn new() -> Table
+        ensures { (b : ℕ) → get_or result.heads b 0 ≡ 0 }
+    {
+        Table {
+            heads: [0; HEADS],
+            links: no_numbers(),
+            places: no_numbers(),
+        }
+    }
+
+    // The number of the kept line with this path, or 0 if there is none. No Option: the definition
+    // `found_number` has 0 for none, as the heads and the links have.
+    pub fn find(&self, book: &[u8], path: &[u8]) -> usize
+        requires { (n : ℕ) × IsTable max_pairs book.now self.now.heads self.now.links self.now.places n }
+        ensures { result ≡ found_number book.now self.now.heads self.now.links self.now.places path.now }
+    {
+        let first = self.heads[bucket_of(path)];
+        find_in_chain(book, path, first, &self.links, &self.places)
+    }
 }
 
 // A number for each line that a book can have.
@@ -43,29 +69,33 @@ pub fn path_at(s: &[u8]) -> &[u8]
     ensures { result.now ≡ path_at s.now }
 {
     if opens_hull(s) {
-        return cut::before(cut::from(s, line::PATH_START), b'\t');
+        cut::before(cut::from(s, line::PATH_START), b'\t')
+    } else {
+        &[]
     }
-    cut::up_to(s, 0)
 }
 
 // Whether a good line is one of `hull`: its first byte tells.
+#[tactic(auto, unfolding(crate::specs::Held::opens_hull))]
 fn opens_hull(s: &[u8]) -> bool
     ensures { result ≡ opens_hull s.now }
 {
-    if s.len() == 0 {
-        return false;
+    match s {
+        [first, ..] => *first == b'h',
+        [] => false,
     }
-    s[0] == b'h'
 }
 
 // The bucket of a path.
+#[tactic(auto, unfolding(crate::specs::Held::bucket_of))]
 pub fn bucket_of(path: &[u8]) -> usize
     ensures { (result ≡ bucket_of path.now) × (result < 2049) }
 {
-    if path.len() == 0 {
-        return NO_PATH;
+    if path.is_empty() {
+        NO_PATH
+    } else {
+        (mix(path) / BUCKET_SIZE) as usize
     }
-    (mix(path) / BUCKET_SIZE) as usize
 }
 
 // The bytes of a path, mixed into a number of 32 bits.
@@ -73,34 +103,21 @@ fn mix(path: &[u8]) -> u64
     ensures { (result ≡ mixed 0 path.now) × (result < 4294967296) }
 {
     let mut h: u64 = 0;
-    let mut i = 0;
-    while i < path.len() {
-        h = (h + (path[i] as u64)) * GOLDEN % BITS_32;
-        i += 1;
+    for b in path {
+        h = (h + u64::from(*b)) * GOLDEN % BITS_32;
     }
     h
 }
 
-// The number of the kept line with this path, or 0 if there is none.
-pub fn find(book: &[u8], path: &[u8], heads: &[u16], links: &[u16], places: &[u16]) -> usize
-    requires { (n : ℕ) × IsTable max_pairs book.now heads.now links.now places.now n }
-    ensures { result ≡ found_number book.now heads.now links.now places.now path.now }
-{
-    let bucket = bucket_of(path);
-    find_in_chain(book, path, heads[bucket], links, places)
-}
-
 // Whether a line with this path is overtaken by one in the chain that begins with number `first`. A line
-// without a path never is.
+// without a path never is. The arrays are not given as a `Table`: that would ask for its lengths, and a
+// function that docs/EXCEPTIONS.md names may not ask for more than it did.
 #[tactic(auto, using(crate::proofs::Chains::overtaken_no_path, crate::proofs::Chains::overtaken_path))]
 pub fn is_overtaken(book: &[u8], path: &[u8], first: u16, links: &[u16], places: &[u16]) -> bool
     requires { (first ≤ length links.now) × (length links.now ≡ length places.now) × ((k : ℕ) → k < first → get_or links.now k 0 ≤ k) }
     ensures { result ≡ is_overtaken book.now links.now places.now path.now first }
 {
-    if 0 < path.len() {
-        return 0 < find_in_chain(book, path, first, links, places);
-    }
-    false
+    0 < path.len() && 0 < find_in_chain(book, path, first, links, places)
 }
 
 // The number of the first line with this path in the chain that begins with number `first`, or 0.
@@ -108,18 +125,21 @@ fn find_in_chain(book: &[u8], path: &[u8], first: u16, links: &[u16], places: &[
     requires { (first ≤ length links.now) × (length links.now ≡ length places.now) × ((k : ℕ) → k < first → get_or links.now k 0 ≤ k) }
     ensures { result ≡ number_in book.now links.now places.now path.now first first }
 {
-    let mut k = first as usize;
+    let mut k = usize::from(first);
+    // Not a `for`: each turn follows a link.
     while 0 < k {
-        let other = path_at(cut::from(book, places[k - 1] as usize));
+        let other = path_at(cut::from(book, usize::from(places[k - 1])));
         if bytes::same(other, path) {
             return k;
         }
-        k = links[k - 1] as usize;
+        k = usize::from(links[k - 1]);
     }
     0
 }
 
-// Enters a line that begins at `start` in a bucket. `count` lines were kept before it.
+// Enters a line that begins at `start` in a bucket. `count` lines were kept before it. The arrays are not
+// given as a `Table`: that would ask for its lengths, and a function that docs/EXCEPTIONS.md names may not
+// ask for more than it did.
 pub fn enter(
     start: usize,
     bucket: usize,

@@ -36,7 +36,7 @@ module _ (c : ℕ) (above : 57 < c) where
   not_has_of_raw : {l : Limits} {s : List ℕ} {t : Time} → RawDate l s t → has c s ≡ false
   not_has_of_raw {l} {s} {t} d =
       let number = between_of_signed_of d.first t.seconds (fitted_signed-value (2 ^ 63) (signed_of d.first) t.seconds d.number_is) in
-      let offset = between_of_fields_of d.second d.fields d.fields_are_lem in
+      let offset = between_of_fields_of d.second d.fields d.fields_are in
       not_has_of_words c is_space not-space s (rw d.words_are (not_has_of_between d.first number, (not_has_of_between d.second offset, tt)))
 
 -- no byte is above `9`

@@ -1,10 +1,8 @@
 -- What the theorems about "any" speak of (docs/PROMISES.md): when it answers 11, when 5, and where its mark comes from. No contract cites these.
 -- Assumes nothing.
-use Rattle.std.specs.Prelude.{ℕ, ◌≡◌, false, List, ◌⊎◌, get_or, drop}
+use Rattle.std.specs.Prelude.{ℕ, ◌≡◌, false, List, ◌⊎◌, get_or, drop, Ok, Option}
 use Prim.Native.Char.{code}
 use Rattle.time.specs.declared.Time.{Time}
-use Rattle.time.specs.declared.Now.{Now}
-use Rattle.time.specs.declared.Answer.TheVariants.{Time as At}
 use Rattle.header.specs.Raw.{Limits, raw_of}
 use Rattle.header.specs.Theorems.{RawTooLarge}
 use Rattle.iso.specs.Iso.{iso_of}
@@ -13,7 +11,7 @@ use Rattle.relative.specs.Bounds.{BeyondBound}
 use Rattle.dates.specs.Any.{is_settled, or_else, plain_of}
 
 -- no step before the last one ends the search, and the last one, raw, answers 11 (RULES 5.9 and 8.2)
-pub record AnyTooLarge (bound : ℕ) (l : Limits) (s : List ℕ) (now : Now) : Type 0 where
+pub record AnyTooLarge (bound : ℕ) (l : Limits) (s : List ℕ) (now : Option Time) : Type 0 where
   pub reached : is_settled (or_else (plain_of l s) (or_else (iso_of s) (relative_of bound s now))) ≡ false
   pub last : RawTooLarge s
 
@@ -24,4 +22,4 @@ pub record AnyBeyondBound (bound : ℕ) (l : Limits) (s : List ℕ) : Type 0 whe
 
 -- the raw reader reads s, or what follows the `@` that s begins with, as t
 abbrev pub ReadAsRaw : Limits → List ℕ → Time → Type 0
-ReadAsRaw l s t = (raw_of l s ≡ At t) ⊎ ((get_or s 0 0 ≡ code "@") × (raw_of l (drop 1 s) ≡ At t))
+ReadAsRaw l s t = (raw_of l s ≡ Ok t) ⊎ ((get_or s 0 0 ≡ code "@") × (raw_of l (drop 1 s) ≡ Ok t))

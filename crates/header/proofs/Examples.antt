@@ -2,6 +2,7 @@
 -- P, one table and one statement; the others, and texts that could be read in two ways, each under the words that decide; raw
 -- dates by rule 2.
 -- Assumes nothing.
+use Rattle.std.specs.Prelude.{Err, Ok}
 use mathlib.Core.Path.{refl}
 use mathlib.Core.Bool.{true}
 use mathlib.Core.List.{List, [], ◌∷◌, ◌++◌}
@@ -16,7 +17,6 @@ use Rattle.text.specs.Decimal.{digits_up_to, decimal, signed, signed_before}
 use Rattle.time.specs.Answers.{time_at, time_marked}
 use Rattle.time.specs.Header.{header_bytes, header_sign, sign_byte, whole_minutes}
 use Rattle.time.specs.Rows.{Row, reads, AllRight}
-use Rattle.time.specs.declared.Answer.TheVariants.{Time, Refused}
 use Rattle.time.specs.declared.Refusal.TheVariants.{NotAscii, Form, TooLarge}
 use Rattle.header.specs.Offset.{five_or_seven, field_of, last_field, fields_of, offset_of}
 use Rattle.header.specs.Header.{seconds_of, header_offset, header_of_words, header_of}
@@ -31,26 +31,26 @@ marked_examples = (refl, (refl, (refl, (refl, (refl, (refl, (refl, (refl, (refl,
 -- ---- the other examples
 abbrev others : List Row
 others =
-    reads (header_of (bytes "1745582210 +0200")) (Time (time_at (pos 1745582210) (pos 7200)))
+    reads (header_of (bytes "1745582210 +0200")) (Ok (time_at (pos 1745582210) (pos 7200)))
     ∷ reads (header_of (bytes "5 +9960")) (five (pos 360000))
-    ∷ reads (raw_of rule1 (bytes "5 +1500")) (Refused Form)
-    ∷ reads (raw_of rule1 (bytes "5 +0010")) (Refused Form)
-    ∷ reads (raw_of rule1 (bytes "5")) (Refused Form)
+    ∷ reads (raw_of rule1 (bytes "5 +1500")) (Err Form)
+    ∷ reads (raw_of rule1 (bytes "5 +0010")) (Err Form)
+    ∷ reads (raw_of rule1 (bytes "5")) (Err Form)
     -- ---- texts that could be read in two ways
     -- RULES 5.4 does not depend on how the first word was read
-    ∷ reads (header_of (bytes "12abc +0100")) (Time (time_at (pos 12) (pos 3600)))
+    ∷ reads (header_of (bytes "12abc +0100")) (Ok (time_at (pos 12) (pos 3600)))
     -- only white space separates words
-    ∷ reads (header_of (bytes "12+0100")) (Time (time_at (pos 12) (pos 0)))
+    ∷ reads (header_of (bytes "12+0100")) (Ok (time_at (pos 12) (pos 0)))
     -- RULES 5.5: "The sign in front belongs to the whole offset"
     ∷ reads (header_of (bytes "5 -01-5")) (five (negsuc 3299))
     -- RULES 5.2: "its leading digits are one", and not the longest prefix that fits
-    ∷ reads (header_of (bytes "99999999999999999999")) (Refused TooLarge)
+    ∷ reads (header_of (bytes "99999999999999999999")) (Err TooLarge)
     -- RULES 4.1: white space is the bytes 9 to 13 and 32, so byte 31 is not
     ∷ reads (header_of (code "5" ∷ 31 ∷ bytes "+0100")) (five (pos 0))
     -- RULES 5.4: "hours, minutes, and with 7 bytes seconds"
     ∷ reads (header_of (bytes "5 +010203")) (five (pos 3723))
     -- RULES 5.1: "a `:` anywhere", in a third word too
-    ∷ reads (header_of (bytes "5 x y:z")) (Refused Form)
+    ∷ reads (header_of (bytes "5 x y:z")) (Err Form)
     -- RULES 4.4: the value decides whether a number fits, not the count of its digits
     ∷ reads (header_of (bytes "00000000000000000000000000000000000000005")) (five (pos 0))
     -- RULES 5.7: fields "may open with `+`", the seconds too
@@ -58,24 +58,24 @@ others =
     -- RULES 5.7: the limits are those of the fields, whatever the sign in front
     ∷ reads (raw_of rule1 (bytes "5 -1445")) (five (negsuc 53099))
     -- RULES 4.3 and 5.7: `-0` is no unsigned number; RULES 5.4: it is a signed one
-    ∷ reads (raw_of rule1 (bytes "5 +01-0")) (Refused Form)
+    ∷ reads (raw_of rule1 (bytes "5 +01-0")) (Err Form)
     ∷ reads (header_of (bytes "5 +01-0")) (five (pos 3600))
     -- RULES 5.6: "exactly two words", whatever white space is around them
     ∷ reads (raw_of rule1 (code " " ∷ bytes "5 +0100" ++ 10 ∷ [])) (five (pos 3600))
     -- RULES 5.4: only in a header the byte after the sign has to be a digit
     ∷ reads (header_of (bytes "5 ++5+0")) (five (pos 0))
     -- RULES 2.2: 1 is tested before 2
-    ∷ reads (header_of (code ":" ∷ 128 ∷ [])) (Refused NotAscii)
-    ∷ reads (raw_of rule1 (128 ∷ [])) (Refused NotAscii)
+    ∷ reads (header_of (code ":" ∷ 128 ∷ [])) (Err NotAscii)
+    ∷ reads (raw_of rule1 (128 ∷ [])) (Err NotAscii)
     -- the least and the largest offset
     ∷ reads (header_of (bytes "5 -999999")) (five (negsuc 362438))
     ∷ reads (header_of (bytes "5 +999999")) (five (pos 362439))
     -- raw has no rule for a `:`, but no number and no offset holds one
-    ∷ reads (raw_of rule1 (bytes "5: +0100")) (Refused Form)
-    ∷ reads (raw_of rule1 (bytes "5 +01:0")) (Refused Form)
+    ∷ reads (raw_of rule1 (bytes "5: +0100")) (Err Form)
+    ∷ reads (raw_of rule1 (bytes "5 +01:0")) (Err Form)
     -- no word at all
-    ∷ reads (header_of []) (Refused Form)
-    ∷ reads (raw_of rule1 []) (Refused Form)
+    ∷ reads (header_of []) (Err Form)
+    ∷ reads (raw_of rule1 []) (Err Form)
     ∷ []
 
 other_examples : AllRight others
@@ -89,7 +89,7 @@ minus-zero =
     reads (header_of (bytes "5 +0000")) (five (pos 0))
     -- with a third word the second is not read as an offset
     ∷ reads (header_of (bytes "5 -0000 x")) (five (pos 0))
-    ∷ reads (header_of (bytes "12abc -0000")) (Time (time_marked (pos 12) (pos 0) true))
+    ∷ reads (header_of (bytes "12abc -0000")) (Ok (time_marked (pos 12) (pos 0) true))
     -- the sum decides, not the digits: 0 hours, -1 minute, 60 seconds
     ∷ reads (header_of (bytes "5 -00-160")) five_marked
     ∷ reads (header_of (bytes "5 -000000")) five_marked
@@ -102,7 +102,7 @@ minus-zero =
     ∷ reads (raw_of rule2 (bytes "5 -0000")) five_marked
     ∷ reads (raw_of rule1 (bytes "5 -+0+0")) five_marked
     ∷ reads (raw_of rule1 (bytes "5 +0000")) (five (pos 0))
-    ∷ reads (raw_of rule1 (bytes "5 -0000 x")) (Refused Form)
+    ∷ reads (raw_of rule1 (bytes "5 -0000 x")) (Err Form)
     ∷ []
 
 minus-zero-examples : AllRight minus-zero
@@ -113,22 +113,22 @@ minus-zero-examples = (refl, (refl, (refl, (refl, (refl, (refl, (refl, (refl, (r
 abbrev by_rule_2 : List Row
 by_rule_2 =
     reads (raw_of rule2 (bytes "5 +0520")) (five (pos 19200))
-    ∷ reads (raw_of rule1 (bytes "5 +0520")) (Refused Form)
+    ∷ reads (raw_of rule1 (bytes "5 +0520")) (Err Form)
     ∷ reads (raw_of rule2 (bytes "5 +2000")) (five (pos 72000))
-    ∷ reads (raw_of rule1 (bytes "5 +2000")) (Refused Form)
+    ∷ reads (raw_of rule1 (bytes "5 +2000")) (Err Form)
     ∷ reads (raw_of rule2 (bytes "5 -2359")) (five (negsuc 86339))
-    ∷ reads (raw_of rule1 (bytes "5 -2359")) (Refused Form)
-    ∷ reads (raw_of rule2 (bytes "5 +2400")) (Refused Form)
-    ∷ reads (raw_of rule1 (bytes "5 +2400")) (Refused Form)
-    ∷ reads (raw_of rule2 (bytes "5 +0060")) (Refused Form)
-    ∷ reads (raw_of rule1 (bytes "5 +0060")) (Refused Form)
+    ∷ reads (raw_of rule1 (bytes "5 -2359")) (Err Form)
+    ∷ reads (raw_of rule2 (bytes "5 +2400")) (Err Form)
+    ∷ reads (raw_of rule1 (bytes "5 +2400")) (Err Form)
+    ∷ reads (raw_of rule2 (bytes "5 +0060")) (Err Form)
+    ∷ reads (raw_of rule1 (bytes "5 +0060")) (Err Form)
     -- RULES 5.7: by both rules "seconds are 0"
     ∷ reads (raw_of rule2 (bytes "5 +010000")) (five (pos 3600))
-    ∷ reads (raw_of rule2 (bytes "5 +010001")) (Refused Form)
-    ∷ reads (raw_of rule1 (bytes "5 +010001")) (Refused Form)
+    ∷ reads (raw_of rule2 (bytes "5 +010001")) (Err Form)
+    ∷ reads (raw_of rule1 (bytes "5 +010001")) (Err Form)
     -- RULES 5.7: by both rules fields "may open with `+`"
     ∷ reads (raw_of rule2 (bytes "5 ++5+7")) (five (pos 18420))
-    ∷ reads (raw_of rule1 (bytes "5 ++5+7")) (Refused Form)
+    ∷ reads (raw_of rule1 (bytes "5 ++5+7")) (Err Form)
     ∷ []
 
 rule_2_examples : AllRight by_rule_2
@@ -138,26 +138,26 @@ rule_2_examples = (refl, (refl, (refl, (refl, (refl, (refl, (refl, (refl, (refl,
 -- ---- numbers that are too large (RULES 11.15 and 11.16)
 abbrev too_large : List Row
 too_large =
-    reads (header_of (bytes "-99999999999999999999")) (Refused TooLarge)
-    ∷ reads (header_of (bytes "99999999999999999999x")) (Refused TooLarge)
-    ∷ reads (header_of (bytes "99999999999999999999 +0100 x")) (Refused TooLarge)
+    reads (header_of (bytes "-99999999999999999999")) (Err TooLarge)
+    ∷ reads (header_of (bytes "99999999999999999999x")) (Err TooLarge)
+    ∷ reads (header_of (bytes "99999999999999999999 +0100 x")) (Err TooLarge)
     -- no number, and no leading digits
-    ∷ reads (header_of (bytes "-99999999999999999999x")) (Refused Form)
+    ∷ reads (header_of (bytes "-99999999999999999999x")) (Err Form)
     -- RULES 2.2: a header's `:` is tested before 11
-    ∷ reads (header_of (bytes "99999999999999999999 +01:00")) (Refused Form)
+    ∷ reads (header_of (bytes "99999999999999999999 +01:00")) (Err Form)
     -- RULES 5.9: "Later words are not looked at, nor whether there are any"
-    ∷ reads (raw_of rule1 (bytes "99999999999999999999")) (Refused TooLarge)
-    ∷ reads (raw_of rule1 (bytes "99999999999999999999 +0100")) (Refused TooLarge)
-    ∷ reads (raw_of rule1 (bytes "99999999999999999999 +0100 x")) (Refused TooLarge)
-    ∷ reads (raw_of rule1 (bytes "99999999999999999999 +01:00")) (Refused TooLarge)
+    ∷ reads (raw_of rule1 (bytes "99999999999999999999")) (Err TooLarge)
+    ∷ reads (raw_of rule1 (bytes "99999999999999999999 +0100")) (Err TooLarge)
+    ∷ reads (raw_of rule1 (bytes "99999999999999999999 +0100 x")) (Err TooLarge)
+    ∷ reads (raw_of rule1 (bytes "99999999999999999999 +01:00")) (Err TooLarge)
     -- RULES 5.6: raw does not fall back on leading digits
-    ∷ reads (raw_of rule1 (bytes "99999999999999999999x")) (Refused Form)
-    ∷ reads (raw_of rule1 (bytes "99999999999999999999:5")) (Refused Form)
+    ∷ reads (raw_of rule1 (bytes "99999999999999999999x")) (Err Form)
+    ∷ reads (raw_of rule1 (bytes "99999999999999999999:5")) (Err Form)
     -- the ends of 64 bits
-    ∷ reads (header_of (bytes "9223372036854775807")) (Time (time_at (pos 9223372036854775807) (pos 0)))
-    ∷ reads (header_of (bytes "9223372036854775808")) (Refused TooLarge)
-    ∷ reads (header_of (bytes "-9223372036854775808")) (Time (time_at (negsuc 9223372036854775807) (pos 0)))
-    ∷ reads (header_of (bytes "-9223372036854775809")) (Refused TooLarge)
+    ∷ reads (header_of (bytes "9223372036854775807")) (Ok (time_at (pos 9223372036854775807) (pos 0)))
+    ∷ reads (header_of (bytes "9223372036854775808")) (Err TooLarge)
+    ∷ reads (header_of (bytes "-9223372036854775808")) (Ok (time_at (negsuc 9223372036854775807) (pos 0)))
+    ∷ reads (header_of (bytes "-9223372036854775809")) (Err TooLarge)
     ∷ []
 
 too_large_examples : AllRight too_large

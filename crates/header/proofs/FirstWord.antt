@@ -1,6 +1,7 @@
 -- The number of the first word, from the number at its front. Both are the same if white space or the end of the text follows
 -- (`number64-first_word`). If other bytes follow, it is the number of a header only without a sign (`seconds_of-first_word`).
 -- Assumes nothing.
+use Rattle.std.specs.Prelude.{Err, Ok, Result, ℤ}
 use mathlib.Core.Path.{◌≡◌, refl, sym, ap, ◌∙◌}
 use mathlib.Core.Bool.{Bool, true, false, cond, not, ◌||◌}
 use mathlib.Core.List.{List, []}
@@ -14,8 +15,6 @@ use lib.Seq.{take_all, take-take, length-take-le, drop-drop}
 use Rattle.text.specs.Bytes.{is_space, is_digit, is_sign}
 use Rattle.text.specs.Places.{run, leading, no, past}
 use Rattle.text.specs.Number.{signed_of, numeral}
-use Rattle.text.specs.declared.number.FittedInteger.{FittedInteger}
-use Rattle.text.specs.declared.number.FittedInteger.TheVariants.{Is, TooLarge, Nothing}
 use Rattle.text.specs.declared.number.LeadingInteger.{LeadingInteger}
 use Rattle.text.proofs.Lists.{by_test, drop-cons-add-one}
 use Rattle.text.proofs.Runs.{run-le-length, run_drop}
@@ -25,18 +24,20 @@ use Rattle.text.proofs.Digits.{leading_of_is_sign}
 use Rattle.text.proofs.Plain.{no_space_of_is_sign, no_space_of_is_digit}
 use Rattle.header.specs.Header.{number64, number_or, seconds_of}
 use Rattle.header.specs.Held.{ends_at, first_word, LeadsWithNumber}
+use Rattle.text.specs.declared.number.NumberError.TheVariants.{TooLarge, NoNumber}
+use Rattle.text.specs.declared.number.NumberError.{NumberError}
 
-number_or-Nothing : (i : FittedInteger) → number_or i Nothing ≡ i
-number_or-Nothing (Is z) = refl
-number_or-Nothing TooLarge = refl
-number_or-Nothing Nothing = refl
+number_or-NoNumber : (i : Result ℤ NumberError) → number_or i (Err NoNumber) ≡ i
+number_or-NoNumber (Ok z) = refl
+number_or-NoNumber (Err TooLarge) = refl
+number_or-NoNumber (Err NoNumber) = refl
 
-number_or-self : (i : FittedInteger) → number_or i i ≡ i
-number_or-self (Is z) = refl
-number_or-self TooLarge = refl
-number_or-self Nothing = refl
+number_or-self : (i : Result ℤ NumberError) → number_or i i ≡ i
+number_or-self (Ok z) = refl
+number_or-self (Err TooLarge) = refl
+number_or-self (Err NoNumber) = refl
 
-pub number64-nil : number64 [] ≡ Nothing
+pub number64-nil : number64 [] ≡ (Err NoNumber)
 unfolding signed_of
 number64-nil = refl
 
@@ -52,29 +53,29 @@ module _ (s : List ℕ) (at : ℕ) where
 
 -- ---- of any word
 module _ (w : List ℕ) where
-  abbrev opening : FittedInteger
+  abbrev opening : Result ℤ NumberError
   opening = number64 (take (numeral w) w)
 
   abbrev Wholly : Bool → Type 0
   Wholly true = length w ≤ numeral w
   Wholly false = numeral w < length w
 
-  number64_by : (whole : Bool) → Wholly whole → number64 w ≡ cond whole opening Nothing
+  number64_by : (whole : Bool) → Wholly whole → number64 w ≡ cond whole opening (Err NoNumber)
   number64_by true h = sym (ap number64 (take_all (numeral w) w h))
   number64_by false h = rw (signed_of_of_numeral-lt w h)
 
-  seconds_of_by : (whole : Bool) → Wholly whole → seconds_of w ≡ cond (whole || not (is_sign (get_or w 0 0))) opening Nothing
+  seconds_of_by : (whole : Bool) → Wholly whole → seconds_of w ≡ cond (whole || not (is_sign (get_or w 0 0))) opening (Err NoNumber)
   unfolding seconds_of
   seconds_of_by whole h =
       by_test (is_sign (get_or w 0 0))
-      (λ e. rw (leading_of_is_sign w e, number64-nil, number_or-Nothing (number64 w), e) (signed whole h))
+      (λ e. rw (leading_of_is_sign w e, number64-nil, number_or-NoNumber (number64 w), e) (signed whole h))
       (λ e. rw (← numeral_of_digits w e, number64_by whole h, e) (unsigned whole))
     where
-      signed : (whole : Bool) → Wholly whole → number64 w ≡ cond (whole || false) opening Nothing
+      signed : (whole : Bool) → Wholly whole → number64 w ≡ cond (whole || false) opening (Err NoNumber)
       signed true k = number64_by true k
       signed false k = number64_by false k
 
-      unsigned : (whole : Bool) → number_or (cond whole opening Nothing) opening ≡ cond (whole || true) opening Nothing
+      unsigned : (whole : Bool) → number_or (cond whole opening (Err NoNumber)) opening ≡ cond (whole || true) opening (Err NoNumber)
       unsigned true = number_or-self opening
       unsigned false = refl
 
@@ -121,10 +122,10 @@ module _ (s : List ℕ) (r : LeadingInteger) (l : LeadsWithNumber s r) where
       let k : numeral (drop first s) + behind ≡ run (no is_space) (drop first s) = rw (l.end_is, ← drop-drop (numeral (drop first s)) first s) (run_drop (no is_space) (numeral (drop first s)) (drop first s) le-run) in
       by_test (eqb behind 0) (λ e. rw e (omega (arith, eqb-true behind 0 e))) (λ e. rw e (omega (arith, eqb-false behind 0 e)))
 
-  pub number64-first_word : number64 (first_word s) ≡ cond (ends_at s r.end) r.number Nothing
+  pub number64-first_word : number64 (first_word s) ≡ cond (ends_at s r.end) r.number (Err NoNumber)
   unfolding ends_at
   number64-first_word = rw (first_word_is, ← opening_is) (number64_by word (eqb behind 0) wholly)
 
-  pub seconds_of-first_word : seconds_of (first_word s) ≡ cond (ends_at s r.end || not r.signed) r.number Nothing
+  pub seconds_of-first_word : seconds_of (first_word s) ≡ cond (ends_at s r.end || not r.signed) r.number (Err NoNumber)
   unfolding ends_at
   seconds_of-first_word = rw (first_word_is, ← opening_is, ← signed_is) (seconds_of_by word (eqb behind 0) wholly)

@@ -2,6 +2,7 @@
 -- same bytes (`own_form_again`), in a room too (`own_form_again_in_room`). The raw reader reads the same time from it, within limits that
 -- allow its hours and minutes (`own_form_raw_again`). The header writer writes such headers and nothing else (`only_own_form_written`).
 -- Assumes nothing.
+use Rattle.std.specs.Prelude.{Ok}
 use mathlib.Core.Path.{◌≡◌, refl, sym, ap, ◌∙◌}
 use mathlib.Core.Bool.{Bool, true, false, cond, ◌&&◌, or-false}
 use mathlib.Core.List.{List, [], ◌∷◌}
@@ -20,8 +21,6 @@ use Rattle.text.proofs.Lists.{by_test}
 use Rattle.time.specs.Answers.{time_marked, is_written}
 use Rattle.time.specs.Header.{header_bytes, header_sign, header_written, sign_byte, whole_minutes, space}
 use Rattle.time.specs.declared.Time.{Time}
-use Rattle.time.specs.declared.Written.TheVariants.{Length}
-use Rattle.time.specs.declared.Answer.TheVariants.{Time as At}
 use Rattle.time.proofs.Theorems.{header_in_room}
 use Rattle.header.specs.Offset.{read_time}
 use Rattle.header.specs.Header.{header_of}
@@ -71,11 +70,11 @@ module _ (s : List ℕ) (o : OwnForm s) where
   read_time_is : read_time o.seconds (fields_are (eqb (sign_of o.minus) 45) o.hours o.minutes 0) ≡ time
   read_time_is = rw (eqb-sign_of o.minus, offset_of-fields_are o.minus o.hours o.minutes 0 size (omega arith))
 
-  pub own_form_read : header_of s ≡ At time
+  pub own_form_read : header_of s ≡ Ok time
   own_form_read =
       ap header_of o.bytes_are
-      ∙ header_of-word (sign_of o.minus) o.hours o.minutes (is_sign-sign_of o.minus) o.hours_lt (omega (arith, o.minutes_lt)) o.seconds o.seconds_in_lem
-      ∙ ap At read_time_is
+      ∙ header_of-word (sign_of o.minus) o.hours o.minutes (is_sign-sign_of o.minus) o.hours_lt (omega (arith, o.minutes_lt)) o.seconds o.seconds_in_range
+      ∙ ap Ok read_time_is
 
   own_form_written : header_bytes time ≡ s
   unfolding header_bytes whole_minutes
@@ -85,15 +84,15 @@ module _ (s : List ℕ) (o : OwnForm s) where
       let m : nat_abs (behind o.minus size) / 60 % 60 ≡ o.minutes = omega (arith, n, o.minutes_lt) in
       (λ i. signed_before o.seconds (space ∷ header_sign-behind o.seconds o.minus size i ∷ two_before (h i) (two_before (m i) []))) ∙ sym o.bytes_are
 
-  pub own_form_again : (t : Time) → header_of s ≡ At t → (nat_abs t.offset < 360000) × (header_bytes t ≡ s)
+  pub own_form_again : (t : Time) → header_of s ≡ Ok t → (nat_abs t.offset < 360000) × (header_bytes t ≡ s)
   own_form_again t e =
-      let k : At time ≡ At t = sym own_form_read ∙ e in
+      let k : Ok time ≡ Ok t = sym own_form_read ∙ e in
       let same : time ≡ t = cc in
       let n = nat_abs-behind o.minus size in
       (omega (arith, ap (λ (u : Time). nat_abs u.offset) same, n, o.hours_lt, o.minutes_lt), ap header_bytes (sym same) ∙ own_form_written)
 
   -- a call that writes it leaves those bytes at the front of the room
-  pub own_form_again_in_room : (t : Time) (room : List ℕ) (n : ℕ) → header_of s ≡ At t → header_written t room ≡ Length n
+  pub own_form_again_in_room : (t : Time) (room : List ℕ) (n : ℕ) → header_of s ≡ Ok t → header_written t room ≡ Ok n
       → take n (room_after (is_written (header_written t room)) (header_bytes t) room) ≡ s
   own_form_again_in_room t room n e w = header_in_room t room n w ∙ (own_form_again t e).1
 
@@ -101,8 +100,8 @@ module _ (s : List ℕ) (o : OwnForm s) where
   pub own_form_raw_again : (l : Limits) → l.hours (pos o.hours) ≡ true → l.minutes (pos o.minutes) ≡ true → raw_of l s ≡ header_of s
   own_form_raw_again l hours minutes =
       ap (raw_of l) o.bytes_are
-      ∙ raw_of-word (sign_of o.minus) o.hours o.minutes (is_sign-sign_of o.minus) o.hours_lt (omega (arith, o.minutes_lt)) l o.seconds o.seconds_in_lem hours minutes
-      ∙ ap At read_time_is
+      ∙ raw_of-word (sign_of o.minus) o.hours o.minutes (is_sign-sign_of o.minus) o.hours_lt (omega (arith, o.minutes_lt)) l o.seconds o.seconds_in_range hours minutes
+      ∙ ap Ok read_time_is
       ∙ sym own_form_read
 
 -- ---- what the writer writes
@@ -118,7 +117,7 @@ only_own_form_written t r h =
     let sign = sign_of_of_is_sign (header_sign t) (header_sign-sign t) in
     record {
       seconds = t.seconds;
-      seconds_in_lem = r;
+      seconds_in_range = r;
       minus = eqb (header_sign t) (code "-");
       hours = whole_minutes t.offset / 60;
       hours_lt = omega arith;

@@ -2,6 +2,7 @@
 -- are ASCII and no `:`; in a text without a byte that ends a scan, the places bound its words; all that the pass finds
 -- (`FirstWords_of_pass`).
 -- Assumes nothing.
+use Rattle.std.specs.Prelude.{Err, Result, ℤ}
 use mathlib.Core.Path.{◌≡◌, refl, sym, ap, ◌∙◌}
 use mathlib.Core.Bool.{Bool, true, false, cond, not, ◌||◌, false≢true}
 use mathlib.Core.List.{List, [], ◌∷◌}
@@ -14,8 +15,6 @@ use Rattle.text.specs.Bytes.{is_space, is_plain, ascii}
 use Rattle.text.specs.Places.{no, past, has, part}
 use Rattle.text.specs.Words.{words}
 use Rattle.text.specs.Number.{numeral}
-use Rattle.text.specs.declared.number.FittedInteger.{FittedInteger}
-use Rattle.text.specs.declared.number.FittedInteger.TheVariants.{Nothing}
 use Rattle.text.specs.declared.number.LeadingInteger.{LeadingInteger}
 use Rattle.text.proofs.Lists.{by_test}
 use Rattle.text.proofs.Runs.{past-add, same-drop-past, has_drop-nil}
@@ -25,6 +24,8 @@ use Rattle.text.proofs.Plain.{plain, is_plain_of_is_sign, is_plain_of_is_digit, 
 use Rattle.header.specs.Offset.{only_word, second_word_of}
 use Rattle.header.specs.Held.{ends_at, bounds_of, nowhere, LeadsWithNumber, FirstWords}
 use Rattle.header.proofs.FirstWord.{number64-first_word, seconds_of-first_word}
+use Rattle.text.specs.declared.number.NumberError.TheVariants.{NoNumber}
+use Rattle.text.specs.declared.number.NumberError.{NumberError}
 
 -- ---- the places, from the end of the number on
 module _ (s : List ℕ) (at : ℕ) where
@@ -45,7 +46,7 @@ only_word_is [] = refl
 only_word_is (w ∷ []) = refl
 only_word_is (w ∷ v ∷ ws) = rw (lt-ltb 0 (suc (length ws)) (omega arith))
 
-whole_seconds : (whole other : Bool) (x : FittedInteger) → cond whole (cond (whole || other) x Nothing) Nothing ≡ cond whole x Nothing
+whole_seconds : (whole other : Bool) (x : Result ℤ NumberError) → cond whole (cond (whole || other) x (Err NoNumber)) (Err NoNumber) ≡ cond whole x (Err NoNumber)
 whole_seconds true other x = refl
 whole_seconds false other x = refl
 
@@ -110,7 +111,7 @@ module _ (s : List ℕ) (r : LeadingInteger) (l : LeadsWithNumber s r) where
     -- ---- all that the pass finds
     pub FirstWords_of_pass : FirstWords s
         (record {
-          number = cond (ends_at s r.end || not r.signed) r.number Nothing;
+          number = cond (ends_at s r.end || not r.signed) r.number (Err NoNumber);
           whole = ends_at s r.end;
           offset_word = cond (ltb (third s r.end) (length s)) nowhere (bounds_of (second s r.end) (second_end s r.end));
           colon = has 58 s;

@@ -4,6 +4,7 @@
 -- (`raw_read_back`), as those of rule 2 do at every offset under 24 hours (`rule_2_read_back`). In order: the seconds' word; an
 -- offset's word of digits; any header of such words; hours and minutes behind a sign; what the writer writes; the raw reader.
 -- Assumes nothing.
+use Rattle.std.specs.Prelude.{Ok, Some}
 use mathlib.Core.Path.{◌≡◌, refl, sym, ap, ◌∙◌}
 use mathlib.Core.Bool.{Bool, true, false, cond, and-false}
 use mathlib.Core.List.{List, [], ◌∷◌}
@@ -18,7 +19,6 @@ use Rattle.ints.specs.Equal.{eq_z}
 use Rattle.text.specs.Bytes.{is_space, is_sign, ascii}
 use Rattle.text.specs.Words.{words}
 use Rattle.text.specs.Decimal.{signed, signed_before, two_before}
-use Rattle.text.specs.declared.number.FittedInteger.TheVariants.{Is}
 use Rattle.text.specs.Room.{room_after}
 use Rattle.text.proofs.Lists.{by_test}
 use Rattle.text.proofs.Numbers.{is_digit_of_le}
@@ -29,21 +29,16 @@ use Rattle.text.proofs.Taking.{words_append, words_of_whole}
 use Rattle.time.specs.Answers.{time_marked, is_written}
 use Rattle.time.specs.Header.{header_bytes, header_sign, header_written, is_minus_zero, sign_byte, whole_minutes, cut_to_minutes, space}
 use Rattle.time.specs.declared.Time.{Time}
-use Rattle.time.specs.declared.Written.TheVariants.{Length}
-use Rattle.time.specs.declared.Answer.TheVariants.{Time as At}
 use Rattle.time.proofs.Theorems.{header_in_room, is_sign-sign_byte}
-use Rattle.header.specs.Offset.{five_or_seven, field_of, last_field, fields_of, offset_of, has_mark, read_time}
+use Rattle.header.specs.Offset.{five_or_seven, field_of, last_field, fields_of, offset_of, has_mark, read_time, Field, Signed, Byte}
 use Rattle.header.specs.Header.{header_of, header_of_words, header_time, seconds_of, header_offset}
 use Rattle.header.specs.Raw.{Limits, rule2, allows, raw_of_words, raw_of}
 use Rattle.header.specs.Theorems.{Seconds64, read_back}
-use Rattle.header.specs.declared.offset.Field.{Field}
-use Rattle.header.specs.declared.offset.Field.TheVariants.{Signed, Byte}
 use Rattle.header.specs.declared.offset.Fields.{Fields}
-use Rattle.header.specs.declared.offset.Parsed.TheVariants.{Offset}
 use Rattle.text.proofs.Texts.{ascii_of_between, no_colon_of_between, whole_of_between, Between-le, signed_of-two}
 
 -- ---- the seconds' word
-seconds_of-signed : (z : ℤ) → Seconds64 z → seconds_of (signed z) ≡ Is z
+seconds_of-signed : (z : ℤ) → Seconds64 z → seconds_of (signed z) ≡ Ok z
 unfolding seconds_of
 seconds_of-signed z r = rw (fitted_signed-signed z r)
 
@@ -57,17 +52,17 @@ offset_of-fields_are minus h m x n e = ap (λ (v : ℕ). cond minus (neg_ℤ (po
 
 module _ (b h m : ℕ) (e : is_sign b ≡ true) (k : h < 100) (l : m < 100) where
   -- with hours and minutes, by fields of either kind
-  fields_of-five : (by : Field) → fields_of by (b ∷ two_before h (two_before m [])) ≡ Offset (fields_are (eqb b 45) h m 0)
+  fields_of-five : (by : Field) → fields_of by (b ∷ two_before h (two_before m [])) ≡ Some (fields_are (eqb b 45) h m 0)
   unfolding fields_of field_of last_field five_or_seven
   fields_of-five Signed = rw (e, signed_of-two h k, signed_of-two m l)
   fields_of-five Byte = rw (e, fit-two h 255 k (omega arith), fit-two m 255 l (omega arith))
 
-  header_offset-five : header_offset (b ∷ two_before h (two_before m [])) ≡ Offset (fields_are (eqb b 45) h m 0)
+  header_offset-five : header_offset (b ∷ two_before h (two_before m [])) ≡ Some (fields_are (eqb b 45) h m 0)
   unfolding header_offset
   header_offset-five = rw (is_digit_of_le (48 + h / 10) (omega arith) (omega arith)) (fields_of-five Signed)
 
   -- and with seconds
-  pub header_offset-seven : (x : ℕ) → x < 100 → header_offset (b ∷ two_before h (two_before m (two_before x []))) ≡ Offset (fields_are (eqb b 45) h m x)
+  pub header_offset-seven : (x : ℕ) → x < 100 → header_offset (b ∷ two_before h (two_before m (two_before x []))) ≡ Some (fields_are (eqb b 45) h m x)
   unfolding header_offset fields_of field_of last_field five_or_seven
   header_offset-seven x j = rw (e, is_digit_of_le (48 + h / 10) (omega arith) (omega arith), signed_of-two h k, signed_of-two m l, signed_of-two x j)
 
@@ -90,7 +85,7 @@ ascii_header : (z : ℤ) (w : List ℕ) → Between 33 57 w → ascii (signed_be
 ascii_header z w b = ascii_of_between 32 57 (omega arith) _ (header_between z w b)
 
 pub header_of-signed_before : (z : ℤ) (w : List ℕ) → Seconds64 z → 0 < length w → Between 33 57 w
-    → header_of (signed_before z (32 ∷ w)) ≡ header_time (Is z) (header_offset w)
+    → header_of (signed_before z (32 ∷ w)) ≡ header_time (Ok z) (header_offset w)
 unfolding header_of header_of_words
 header_of-signed_before z w r h b =
     rw (ascii_header z w b, no_colon_of_between 32 _ (header_between z w b), words_header z w h b, seconds_of-signed z r)
@@ -116,11 +111,11 @@ module _ (b h m : ℕ) (e : is_sign b ≡ true) (k : h < 100) (l : m < 100) wher
   word_between = let s = sign_between b e in (s.0, s.1, two-between h (two_before m []) k (two-between m [] l tt))
 
   -- a header of such a word, by the header reader and by the raw reader
-  pub header_of-word : (z : ℤ) → Seconds64 z → header_of (signed_before z (space ∷ word)) ≡ At (read_time z (fields_are (eqb b 45) h m 0))
+  pub header_of-word : (z : ℤ) → Seconds64 z → header_of (signed_before z (space ∷ word)) ≡ Ok (read_time z (fields_are (eqb b 45) h m 0))
   header_of-word z r = header_of-signed_before z word r (omega arith) word_between ∙ rw (header_offset-five b h m e k l)
 
   pub raw_of-word : (i : Limits) (z : ℤ) → Seconds64 z → i.hours (pos h) ≡ true → i.minutes (pos m) ≡ true
-      → raw_of i (signed_before z (space ∷ word)) ≡ At (read_time z (fields_are (eqb b 45) h m 0))
+      → raw_of i (signed_before z (space ∷ word)) ≡ Ok (read_time z (fields_are (eqb b 45) h m 0))
   unfolding raw_of raw_of_words allows
   raw_of-word i z r hours minutes =
       rw (
@@ -169,35 +164,35 @@ read_time-written t = λ i. time_marked t.seconds (offset_of-written t.seconds t
 
 -- the bytes of a header with an offset under 100 hours read back with the same seconds, the offset cut to whole minutes, and the mark
 -- for offset 0 so marked and for offsets -59 to -1
-pub header_read_back : (t : Time) → Seconds64 t.seconds → nat_abs t.offset < 360000 → header_of (header_bytes t) ≡ At (read_back t)
+pub header_read_back : (t : Time) → Seconds64 t.seconds → nat_abs t.offset < 360000 → header_of (header_bytes t) ≡ Ok (read_back t)
 unfolding header_bytes whole_minutes
 header_read_back t r h =
     header_of-word (header_sign t) (whole_minutes t.offset / 60) (whole_minutes t.offset % 60) (header_sign-sign t) (omega arith) (omega arith) t.seconds r
-    ∙ ap At (read_time-written t)
+    ∙ ap Ok (read_time-written t)
 
 -- a header is written only at an offset under 100 hours
-offset-lt_of_written : (t : Time) (room : List ℕ) (n : ℕ) → header_written t room ≡ Length n → nat_abs t.offset < 360000
+offset-lt_of_written : (t : Time) (room : List ℕ) (n : ℕ) → header_written t room ≡ Ok n → nat_abs t.offset < 360000
 unfolding header_written
 offset-lt_of_written t room n e =
     by_test (leb 360000 (nat_abs t.offset)) (λ y. let k = rw y at e in let q : ◌≡◌ {A = ℕ} 0 1 = cc in absurd (omega arith))
     (λ y. omega (arith, leb-false 360000 (nat_abs t.offset) y))
 
 -- and so does what a call that wrote n bytes has left in the first n bytes of the room
-pub header_read_back_in_room : (t : Time) (room : List ℕ) (n : ℕ) → Seconds64 t.seconds → header_written t room ≡ Length n
-    → header_of (take n (room_after (is_written (header_written t room)) (header_bytes t) room)) ≡ At (read_back t)
+pub header_read_back_in_room : (t : Time) (room : List ℕ) (n : ℕ) → Seconds64 t.seconds → header_written t room ≡ Ok n
+    → header_of (take n (room_after (is_written (header_written t room)) (header_bytes t) room)) ≡ Ok (read_back t)
 header_read_back_in_room t room n r e = rw (header_in_room t room n e) (header_read_back t r (offset-lt_of_written t room n e))
 
 -- ---- and by the raw reader, within limits that allow the hours and the minutes written
 pub raw_read_back : (l : Limits) (t : Time) → Seconds64 t.seconds → nat_abs t.offset < 360000
     → l.hours (pos (whole_minutes t.offset / 60)) ≡ true → l.minutes (pos (whole_minutes t.offset % 60)) ≡ true
-    → raw_of l (header_bytes t) ≡ At (read_back t)
+    → raw_of l (header_bytes t) ≡ Ok (read_back t)
 unfolding header_bytes whole_minutes
 raw_read_back l t r h hours minutes =
     raw_of-word (header_sign t) (whole_minutes t.offset / 60) (whole_minutes t.offset % 60) (header_sign-sign t) (omega arith) (omega arith) l t.seconds r hours minutes
-    ∙ ap At (read_time-written t)
+    ∙ ap Ok (read_time-written t)
 
 -- by rule 2, at every offset under 24 hours
-pub rule_2_read_back : (t : Time) → Seconds64 t.seconds → nat_abs t.offset < 86400 → raw_of rule2 (header_bytes t) ≡ At (read_back t)
+pub rule_2_read_back : (t : Time) → Seconds64 t.seconds → nat_abs t.offset < 86400 → raw_of rule2 (header_bytes t) ≡ Ok (read_back t)
 unfolding whole_minutes
 rule_2_read_back t r h =
     let n = whole_minutes t.offset in

@@ -1,6 +1,7 @@
 -- Rule 1 and rule 2. Rule 2 allows all that rule 1 allows, so whatever rule 1 accepts, rule 2 answers alike
 -- (`rule_2_answers_alike`). By rule 2 an offset has whole minutes and lies under 24 hours (`rule_2_offset`).
 -- Assumes nothing.
+use Rattle.std.specs.Prelude.{Ok}
 use mathlib.Core.Path.{◌≡◌, refl, ap, subst}
 use mathlib.Core.Bool.{Bool, true, false, cond, ◌&&◌, false≢true}
 use mathlib.Core.List.{List}
@@ -13,7 +14,6 @@ use Rattle.ints.specs.Equal.{eq_z}
 use Rattle.text.proofs.Lists.{by_test, both}
 use Rattle.time.specs.Header.{cut_to_minutes}
 use Rattle.time.specs.declared.Time.{Time}
-use Rattle.time.specs.declared.Answer.TheVariants.{Time as At}
 use Rattle.header.specs.Offset.{offset_of}
 use Rattle.header.specs.Raw.{Limits, rule1, rule2, allows, raw_of}
 use Rattle.header.specs.Theorems.{Within}
@@ -55,7 +55,7 @@ rule_1_within_rule_2 f e =
     rw (hours_within f.hours tests.0, minutes_within f.minutes tests.1.0, tests.1.1)
 
 -- whatever rule 1 accepts, rule 2 answers alike
-pub rule_2_answers_alike : (s : List ℕ) (t : Time) → raw_of rule1 s ≡ At t → raw_of rule2 s ≡ At t
+pub rule_2_answers_alike : (s : List ℕ) (t : Time) → raw_of rule1 s ≡ Ok t → raw_of rule2 s ≡ Ok t
 rule_2_answers_alike = raw_within rule1 rule2 rule_1_within_rule_2
 
 -- ---- the offsets of rule 2: whole minutes, under 24 hours
@@ -79,10 +79,10 @@ fields_in_a_day minus (pos h) (pos m) (negsuc x) p q hours minutes seconds = abs
 fields_in_a_day minus (pos h) (negsuc m) x p q hours minutes seconds = absurd q
 fields_in_a_day minus (negsuc h) m x p q hours minutes seconds = absurd p
 
-pub rule_2_offset : (s : List ℕ) (t : Time) → raw_of rule2 s ≡ At t → (nat_abs t.offset < 86400) × (cut_to_minutes t.offset ≡ t.offset)
+pub rule_2_offset : (s : List ℕ) (t : Time) → raw_of rule2 s ≡ Ok t → (nat_abs t.offset < 86400) × (cut_to_minutes t.offset ≡ t.offset)
 rule_2_offset s t e =
     let d = raw_accepts_only rule2 s t e in
     let f = d.fields in
     let tests = allowed_tests rule2 f d.allowed in
-    let counts = fields_of-not-negative d.second f d.fields_are_lem in
+    let counts = fields_of-not-negative d.second f d.fields_are in
     subst InADay d.offset_is (fields_in_a_day f.minus f.hours f.minutes f.seconds counts.0 counts.1 tests.0 tests.1.0 tests.1.1)

@@ -2,6 +2,7 @@
 -- a number alone (`header_of_of_alone`, `raw_of_of_alone`). A pass over such a text finds the number, and at most one word after
 -- it.
 -- Assumes nothing.
+use Rattle.std.specs.Prelude.{None, Option, Some}
 use mathlib.Core.Path.{◌≡◌, refl, ap, ◌∙◌}
 use mathlib.Core.Bool.{Bool, true, false, cond}
 use mathlib.Core.List.{List, []}
@@ -17,16 +18,12 @@ use Rattle.text.specs.declared.words.Span.{Span}
 use Rattle.text.proofs.Runs.{run-le-length, past-le-length, past_of-true, past_of-false, past_of-length-le, le-past, has_drop-nil}
 use Rattle.text.proofs.Numbers.{numeral-le-run}
 use Rattle.text.proofs.Plain.{is_plain_of_is_sign, is_plain_of_is_digit, no_space_of_is_sign, ascii-drop-nil}
-use Rattle.header.specs.Offset.{fields_of}
+use Rattle.header.specs.Offset.{fields_of, Byte}
 use Rattle.header.specs.Header.{header_time, header_of}
 use Rattle.header.specs.Raw.{Limits, raw_time, raw_of}
 use Rattle.header.specs.Held.{Small, LeadsWithNumber, is_number, usual_of, ends_at, bounds_of, WordsRead}
-use Rattle.header.specs.declared.offset.Field.TheVariants.{Byte}
 use Rattle.header.specs.declared.offset.Fields.{Fields}
-use Rattle.header.specs.declared.offset.Parsed.{Parsed}
-use Rattle.header.specs.declared.offset.Parsed.TheVariants.{Offset, Nothing}
 use Rattle.header.specs.declared.walk.First.{First}
-use Rattle.header.specs.declared.walk.Walked.TheVariants.{Words}
 use Rattle.header.proofs.FirstWord.{ends_at_of_lt, ends_at_of_le}
 use Rattle.header.proofs.Pass.{first_end, second, second_end, third, ascii_kept, has_kept, FirstWords_of_pass}
 use Rattle.header.proofs.Readers.{fields_of-nil, header_offset-nil, header_of_of_words, raw_of_of_words}
@@ -66,7 +63,7 @@ module _ (s : List ℕ) (at : ℕ) (u : Usual s at) where
   unfolding is_space
   ends = ends_at_of_lt s at (omega (arith, u.length_is)) ∙ ap is_space u.space
 
-offset_of_cond : (b : Bool) (p : Parsed) (f : Fields) → cond b p Nothing ≡ Offset f → p ≡ Offset f
+offset_of_cond : (b : Bool) (p : Option Fields) (f : Fields) → cond b p None ≡ Some f → p ≡ Some f
 offset_of_cond true p f e = e
 offset_of_cond false p f e = let q : ◌≡◌ {A = ℕ} 0 1 = cc in absurd (omega arith)
 
@@ -84,7 +81,7 @@ module _ (s : List ℕ) (r : LeadingInteger) (l : LeadsWithNumber s r) where
   abbrev found : First
   found = record { number = r.number; whole = true; offset_word = word_bounds; colon = false }
 
-  words_read : ends_at s r.end ≡ true → length s ≤ third s r.end → WordsRead s (Words found)
+  words_read : ends_at s r.end ≡ true → length s ≤ third s r.end → WordsRead s (Some found)
   words_read e n = (ascii_is, rw (e, le-ltb (third s r.end) (length s) n, has_is) at (FirstWords_of_pass s r l ascii_is))
     where
       ascii_is : ascii s ≡ true
@@ -94,20 +91,20 @@ module _ (s : List ℕ) (r : LeadingInteger) (l : LeadsWithNumber s r) where
       has_is = has_kept s r l ∙ has_drop-nil 58 s (third s r.end) n
 
   -- ---- the usual form
-  module _ (f : Fields) (e : cond (is_number r.number) (usual_of s r.end) Nothing ≡ Offset f) where
-    usual : Usual s r.end × (fields_of Byte (drop (r.end + 1) s) ≡ Offset f)
+  module _ (f : Fields) (e : cond (is_number r.number) (usual_of s r.end) None ≡ Some f) where
+    usual : Usual s r.end × (fields_of Byte (drop (r.end + 1) s) ≡ Some f)
     usual = Usual_of_usual_of s r.end f (offset_of_cond (is_number r.number) (usual_of s r.end) f e)
 
     pub usual_small : Small f
     usual_small = fields_of-small Byte (drop (r.end + 1) s) f usual.1
 
-    usual_read : WordsRead s (Words found)
+    usual_read : WordsRead s (Some found)
     usual_read = words_read (ends s r.end usual.0) (omega (arith, third_is s r.end usual.0, usual.0.length_is))
 
-    pub header_of_of_usual : header_of s ≡ header_time r.number (Offset f)
+    pub header_of_of_usual : header_of s ≡ header_time r.number (Some f)
     header_of_of_usual = header_of_of_words s _ usual_read refl ∙ rw (word_is s r.end usual.0, header_offset_of_usual s r.end usual.0, usual.1)
 
-    pub raw_of_of_usual : (limits : Limits) → raw_of limits s ≡ raw_time limits r.number (Offset f)
+    pub raw_of_of_usual : (limits : Limits) → raw_of limits s ≡ raw_time limits r.number (Some f)
     raw_of_of_usual limits = raw_of_of_words s _ usual_read limits ∙ rw (word_is s r.end usual.0, usual.1)
 
   -- ---- a number alone: there is no second word
@@ -115,7 +112,7 @@ module _ (s : List ℕ) (r : LeadingInteger) (l : LeadsWithNumber s r) where
     second-le : length s ≤ second s r.end
     second-le = omega (arith, le-past is_plain s r.end, le-past is_space s (first_end s r.end))
 
-    alone_read : WordsRead s (Words found)
+    alone_read : WordsRead s (Some found)
     alone_read =
         words_read (ends_at_of_le s r.end (omega arith))
         (omega (arith, second-le, le-past is_plain s (second s r.end), le-past is_space s (second_end s r.end)))
@@ -123,8 +120,8 @@ module _ (s : List ℕ) (r : LeadingInteger) (l : LeadsWithNumber s r) where
     no_second : part s word_bounds ≡ []
     no_second = rw (drop_of_length-le s {i = second s r.end} second-le) (take-nil (second_end s r.end - second s r.end))
 
-    pub header_of_of_alone : header_of s ≡ header_time r.number Nothing
+    pub header_of_of_alone : header_of s ≡ header_time r.number None
     header_of_of_alone = header_of_of_words s _ alone_read refl ∙ rw (no_second, header_offset-nil)
 
-    pub raw_of_of_alone : (limits : Limits) → raw_of limits s ≡ raw_time limits r.number Nothing
+    pub raw_of_of_alone : (limits : Limits) → raw_of limits s ≡ raw_time limits r.number None
     raw_of_of_alone limits = raw_of_of_words s _ alone_read limits ∙ rw (no_second, fields_of-nil)

@@ -1,6 +1,7 @@
 -- An offset's word whose fields are unsigned numbers, as in a raw date: read as signed numbers they are the same
 -- (`fields_of-signed`), hours and minutes are not negative, and the word has signs and digits alone (`between_of_fields_of`).
 -- Assumes nothing.
+use Rattle.std.specs.Prelude.{None, Option, Some}
 use mathlib.Core.Path.{◌≡◌, refl, sym, ◌∙◌}
 use mathlib.Core.Bool.{Bool, true, false≢true}
 use mathlib.Core.List.{List, [], ◌∷◌}
@@ -13,17 +14,11 @@ use lib.ListN.{length, take, drop, get_or, drop_of_length-le, take-append-drop}
 use lib.Seq.{drop-drop}
 use Rattle.text.specs.Bytes.{is_sign}
 use Rattle.text.specs.Number.{unsigned_of, fit, plus}
-use Rattle.text.specs.declared.number.Number.{Number}
-use Rattle.text.specs.declared.number.Number.TheVariants.{Value, Nothing as NoNumber}
-use Rattle.text.specs.declared.number.Integer.{Integer}
-use Rattle.text.specs.declared.number.Integer.TheVariants.{Is, Nothing as NoInteger}
 use Rattle.text.proofs.Lists.{by_test}
 use Rattle.text.proofs.Numbers.{fit-take}
 use Rattle.text.proofs.Decimals.{Between, Between-append}
-use Rattle.header.specs.Offset.{five_or_seven, field_of, last_field, together, fields_of}
-use Rattle.header.specs.declared.offset.Field.TheVariants.{Signed, Byte}
+use Rattle.header.specs.Offset.{five_or_seven, field_of, last_field, together, fields_of, Signed, Byte}
 use Rattle.header.specs.declared.offset.Fields.{Fields}
-use Rattle.header.specs.declared.offset.Parsed.TheVariants.{Offset, Nothing as NoOffset}
 use Rattle.text.proofs.Texts.{between_of_unsigned_of, signed_of_of_unsigned_of}
 use Rattle.header.proofs.Offsets.{fields_of_of_tests, fields_of_of_length, fields_of_of_sign}
 
@@ -36,55 +31,55 @@ abbrev bytes_at : List ℕ → ℕ → List ℕ
 bytes_at w at = take 2 (drop at w)
 
 record Same (w : List ℕ) (at : ℕ) (z : ℤ) : Type 0 where
-  signed : field_of Signed w at ≡ Is z
+  signed : field_of Signed w at ≡ Some z
   between : Between 43 57 (bytes_at w at)
 
-field_same : (w : List ℕ) (at : ℕ) (z : ℤ) → field_of Byte w at ≡ Is z → Same w at z
+field_same : (w : List ℕ) (at : ℕ) (z : ℤ) → field_of Byte w at ≡ Some z → Same w at z
 unfolding field_of
 field_same w at z e = go (unsigned_of (bytes_at w at)) refl (rw (fit-take 255 (drop at w) (omega arith)) at e)
   where
-    go : (x : Number) → unsigned_of (bytes_at w at) ≡ x → plus x ≡ Is z → Same w at z
-    go (Value n) u k = record { signed = signed_of_of_unsigned_of (bytes_at w at) n u ∙ k; between = between_of_unsigned_of n (bytes_at w at) u }
-    go NoNumber u k = let q : ◌≡◌ {A = ℕ} 0 1 = cc in absurd (omega arith)
+    go : (x : Option ℕ) → unsigned_of (bytes_at w at) ≡ x → plus x ≡ Some z → Same w at z
+    go (Some n) u k = record { signed = signed_of_of_unsigned_of (bytes_at w at) n u ∙ k; between = between_of_unsigned_of n (bytes_at w at) u }
+    go None u k = let q : ◌≡◌ {A = ℕ} 0 1 = cc in absurd (omega arith)
 
-last-same : (w : List ℕ) (z : ℤ) → last_field Byte w ≡ Is z → last_field Signed w ≡ Is z
+last-same : (w : List ℕ) (z : ℤ) → last_field Byte w ≡ Some z → last_field Signed w ≡ Some z
 unfolding last_field
 last-same w z k = by_test (eqb (length w) 7) (λ e. rw e (field_same w 5 z (rw e at k)).signed) (λ e. rw e (rw e at k))
 
 -- all three are numbers, and they are the fields
-record Numbers (minus : Bool) (h m x : Integer) (f : Fields) : Type 0 where
+record Numbers (minus : Bool) (h m x : Option ℤ) (f : Fields) : Type 0 where
   hours : ℤ
-  hours_is : h ≡ Is hours
+  hours_is : h ≡ Some hours
   minutes : ℤ
-  minutes_is : m ≡ Is minutes
+  minutes_is : m ≡ Some minutes
   seconds : ℤ
-  seconds_is : x ≡ Is seconds
-  fields_are_lem : record { minus = minus; hours = hours; minutes = minutes; seconds = seconds } ≡ f
+  seconds_is : x ≡ Some seconds
+  fields_are : record { minus = minus; hours = hours; minutes = minutes; seconds = seconds } ≡ f
 
-together_numbers : (minus : Bool) (h m x : Integer) (f : Fields) → together minus h m x ≡ Offset f → Numbers minus h m x f
-together_numbers minus (Is h) (Is m) (Is x) f e =
-    record { hours = h; hours_is = refl; minutes = m; minutes_is = refl; seconds = x; seconds_is = refl; fields_are_lem = cc }
-together_numbers minus NoInteger m x f e = let z : ◌≡◌ {A = ℕ} 0 1 = cc in absurd (omega arith)
-together_numbers minus (Is h) NoInteger x f e = let z : ◌≡◌ {A = ℕ} 0 1 = cc in absurd (omega arith)
-together_numbers minus (Is h) (Is m) NoInteger f e = let z : ◌≡◌ {A = ℕ} 0 1 = cc in absurd (omega arith)
+together_numbers : (minus : Bool) (h m x : Option ℤ) (f : Fields) → together minus h m x ≡ Some f → Numbers minus h m x f
+together_numbers minus (Some h) (Some m) (Some x) f e =
+    record { hours = h; hours_is = refl; minutes = m; minutes_is = refl; seconds = x; seconds_is = refl; fields_are = cc }
+together_numbers minus None m x f e = let z : ◌≡◌ {A = ℕ} 0 1 = cc in absurd (omega arith)
+together_numbers minus (Some h) None x f e = let z : ◌≡◌ {A = ℕ} 0 1 = cc in absurd (omega arith)
+together_numbers minus (Some h) (Some m) None f e = let z : ◌≡◌ {A = ℕ} 0 1 = cc in absurd (omega arith)
 
 -- a number is not negative
 abbrev pub NotNegative : ℤ → Type 0
 NotNegative (pos n) = Unit {0}
 NotNegative (negsuc n) = ⊥
 
-field_of-not-negative : (w : List ℕ) (at : ℕ) (z : ℤ) → field_of Byte w at ≡ Is z → NotNegative z
+field_of-not-negative : (w : List ℕ) (at : ℕ) (z : ℤ) → field_of Byte w at ≡ Some z → NotNegative z
 unfolding field_of
 field_of-not-negative w at (pos n) e = tt
 field_of-not-negative w at (negsuc n) e = go (fit 255 (unsigned_of (bytes_at w at))) e
   where
-    go : (x : Number) → plus x ≡ Is (negsuc n) → ⊥
-    go (Value k) k-is = let q : ◌≡◌ {A = ℕ} 0 1 = cc in omega arith
-    go NoNumber k-is = let q : ◌≡◌ {A = ℕ} 0 1 = cc in omega arith
+    go : (x : Option ℕ) → plus x ≡ Some (negsuc n) → ⊥
+    go (Some k) k-is = let q : ◌≡◌ {A = ℕ} 0 1 = cc in omega arith
+    go None k-is = let q : ◌≡◌ {A = ℕ} 0 1 = cc in omega arith
 
 -- ---- an offset that raw accepts
-module _ (w : List ℕ) (f : Fields) (e : fields_of Byte w ≡ Offset f) where
-  pub fields_of-some : fields_of Byte w ≡ NoOffset → ⊥
+module _ (w : List ℕ) (f : Fields) (e : fields_of Byte w ≡ Some f) where
+  pub fields_of-some : fields_of Byte w ≡ None → ⊥
   fields_of-some k = let z : ◌≡◌ {A = ℕ} 0 1 = cc in omega arith
 
   right-length : five_or_seven (length w) ≡ true
@@ -93,7 +88,7 @@ module _ (w : List ℕ) (f : Fields) (e : fields_of Byte w ≡ Offset f) where
   right_sign : is_sign (get_or w 0 0) ≡ true
   right_sign = by_test (is_sign (get_or w 0 0)) (λ a. a) (λ a. absurd (fields_of-some (fields_of_of_sign Byte w a)))
 
-  opened : together (eqb (get_or w 0 0) 45) (field_of Byte w 1) (field_of Byte w 3) (last_field Byte w) ≡ Offset f
+  opened : together (eqb (get_or w 0 0) 45) (field_of Byte w 1) (field_of Byte w 3) (last_field Byte w) ≡ Some f
   opened = sym (fields_of_of_tests Byte w right-length right_sign) ∙ e
 
   numbers : Numbers (eqb (get_or w 0 0) 45) (field_of Byte w 1) (field_of Byte w 3) (last_field Byte w) f
@@ -106,15 +101,15 @@ module _ (w : List ℕ) (f : Fields) (e : fields_of Byte w ≡ Offset f) where
   minutes_same = field_same w 3 numbers.minutes numbers.minutes_is
 
   -- it holds the same fields, signed
-  pub fields_of-signed : fields_of Signed w ≡ Offset f
+  pub fields_of-signed : fields_of Signed w ≡ Some f
   fields_of-signed =
       fields_of_of_tests Signed w right-length right_sign
-      ∙ rw (hours_same.signed, minutes_same.signed, last-same w numbers.seconds numbers.seconds_is, numbers.fields_are_lem)
+      ∙ rw (hours_same.signed, minutes_same.signed, last-same w numbers.seconds numbers.seconds_is, numbers.fields_are)
 
   -- its hours and minutes are not negative
   pub fields_of-not-negative : NotNegative f.hours × NotNegative f.minutes
   fields_of-not-negative =
-      rw (← numbers.fields_are_lem)
+      rw (← numbers.fields_are)
       (field_of-not-negative w 1 numbers.hours numbers.hours_is, field_of-not-negative w 3 numbers.minutes numbers.minutes_is)
 
   -- and its bytes lie between `+` and `9`
@@ -142,5 +137,5 @@ between_sign [] h = tt
 between_sign (b ∷ w) h =
     by_test (eqb b 43) (λ e. let k = eqb-true b 43 e in (omega arith, omega arith, tt)) (λ e. let k = eqb-true b 45 (rw e at h) in (omega arith, omega arith, tt))
 
-pub between_of_fields_of : (w : List ℕ) (f : Fields) → fields_of Byte w ≡ Offset f → Between 43 57 w
+pub between_of_fields_of : (w : List ℕ) (f : Fields) → fields_of Byte w ≡ Some f → Between 43 57 w
 between_of_fields_of w f e = between_cut 1 w (between_sign w (right_sign w f e)) (between_from_1 w f e)

@@ -1,6 +1,7 @@
 -- The usual tail of a date, from the place where its number ends: a space, a sign, four digits, and nothing more. In order: its
 -- bytes, and the cases of `usual_of`; its fields, which are numbers of either kind.
 -- Assumes nothing.
+use Rattle.std.specs.Prelude.{None, Some}
 use mathlib.Core.Path.{◌≡◌, sym, ap, ◌∙◌}
 use mathlib.Core.Bool.{Bool, true, false, ◌&&◌}
 use mathlib.Core.List.{List}
@@ -13,13 +14,10 @@ use lib.ListN.{length, drop, get_or, length-drop}
 use lib.Seq.{get_or-drop}
 use Rattle.text.specs.Bytes.{is_digit, is_sign}
 use Rattle.text.proofs.Lists.{by_test, both}
-use Rattle.header.specs.Offset.{five_or_seven, last_field, fields_of}
+use Rattle.header.specs.Offset.{five_or_seven, last_field, fields_of, Field, Signed, Byte}
 use Rattle.header.specs.Header.{header_offset}
 use Rattle.header.specs.Held.{two_digits, is_usual, usual_of}
-use Rattle.header.specs.declared.offset.Field.{Field}
-use Rattle.header.specs.declared.offset.Field.TheVariants.{Signed, Byte}
 use Rattle.header.specs.declared.offset.Fields.{Fields}
-use Rattle.header.specs.declared.offset.Parsed.TheVariants.{Offset, Nothing}
 use Rattle.header.proofs.Offsets.{field_of_of_digits, fields_of_of_tests}
 
 -- ---- its bytes
@@ -51,16 +49,16 @@ module _ (s : List ℕ) (at : ℕ) where
   unfolding usual_of is_usual
   usual_of_of_tests n e = rw (eq-eqb (length s) (at + 6) n, e)
 
-  pub usual_of_of_no_test : tests ≡ false → usual_of s at ≡ Nothing
+  pub usual_of_of_no_test : tests ≡ false → usual_of s at ≡ None
   unfolding usual_of is_usual
   usual_of_of_no_test e = by_test (eqb (length s) (at + 6)) (λ n. rw (n, e)) (λ n. rw n)
 
-  pub usual_of_of_length : (length s ≡ at + 6 → ⊥) → usual_of s at ≡ Nothing
+  pub usual_of_of_length : (length s ≡ at + 6 → ⊥) → usual_of s at ≡ None
   unfolding usual_of is_usual
   usual_of_of_length n = rw (ne_eqb (length s) (at + 6) n)
 
   -- so if there are fields, the tail is the usual one
-  pub Usual_of_usual_of : (f : Fields) → usual_of s at ≡ Offset f → Usual s at × (fields_of Byte (drop (at + 1) s) ≡ Offset f)
+  pub Usual_of_usual_of : (f : Fields) → usual_of s at ≡ Some f → Usual s at × (fields_of Byte (drop (at + 1) s) ≡ Some f)
   unfolding usual_of is_usual
   Usual_of_usual_of f e =
       by_test (is_usual s at)
@@ -87,7 +85,7 @@ module _ (s : List ℕ) (at : ℕ) (u : Usual s at) where
         seconds = pos 0;
       }
 
-  pub fields_of_of_usual : (by : Field) → fields_of by word ≡ Offset fields
+  pub fields_of_of_usual : (by : Field) → fields_of by word ≡ Some fields
   unfolding five_or_seven last_field
   fields_of_of_usual by =
       fields_of_of_tests by word (rw length-word) (ap is_sign (byte 0 1 (omega arith)) ∙ u.sign)

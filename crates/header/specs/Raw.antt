@@ -2,24 +2,21 @@
 -- rules `5 +1445` is 5 at offset 53100 and `5 ++5+0` is 5 at offset 18000; `5 +0520` is 5 at offset 19200 by rule 2, and 2 by
 -- rule 1.
 -- Assumes nothing.
-use Rattle.std.specs.Prelude.{ℕ, Bool, cond, ◌&&◌, ◌||◌, List, [], ◌∷◌, ℤ, pos}
+use Rattle.std.specs.Prelude.{ℕ, Bool, cond, ◌&&◌, ◌||◌, List, [], ◌∷◌, ℤ, pos, Err, None, Ok, Option, Result, Some}
 use Rattle.std.specs.Int.Signed.{le_z, lt_z}
 use Rattle.ints.specs.Equal.{eq_z}
 use Rattle.text.specs.Bytes.{is_space, ascii}
 use Rattle.text.specs.Words.{words}
-use Rattle.text.specs.declared.number.FittedInteger.{FittedInteger}
-use Rattle.text.specs.declared.number.FittedInteger.TheVariants.{Is, TooLarge, Nothing as NoInteger}
-use Rattle.time.specs.declared.Answer.{Answer}
-use Rattle.time.specs.declared.Answer.TheVariants.{Time, Refused}
 use Rattle.time.specs.declared.Refusal.TheVariants.{NotAscii, Form, TooLarge as NumberTooLarge}
-use Rattle.header.specs.Offset.{only_word, fields_of, read_time}
+use Rattle.header.specs.Offset.{only_word, fields_of, read_time, Byte}
 use Rattle.header.specs.Header.{number64}
-use Rattle.header.specs.declared.offset.Field.TheVariants.{Byte}
 use Rattle.header.specs.declared.offset.Fields.{Fields}
-use Rattle.header.specs.declared.offset.Parsed.{Parsed}
-use Rattle.header.specs.declared.offset.Parsed.TheVariants.{Offset, Nothing as NoOffset}
 use Rattle.header.specs.declared.raw.Rule.{Rule}
 use Rattle.header.specs.declared.raw.Rule.TheVariants.{One, Two}
+use Rattle.text.specs.declared.number.NumberError.TheVariants.{TooLarge, NoNumber}
+use Rattle.text.specs.declared.number.NumberError.{NumberError}
+use Rattle.time.specs.declared.Refusal.{Refusal}
+use Rattle.time.specs.declared.Time.{Time}
 
 -- which hours and which minutes are allowed
 pub record Limits : Type 0 where
@@ -49,18 +46,18 @@ allows l f = l.hours f.hours && l.minutes f.minutes && eq_z f.seconds (pos 0)
 
 -- a number that is too large is 11 (RULES 5.9). Otherwise the answer is 2 unless there are a number and an offset, and the limits
 -- allow its fields
-abbrev pub raw_time : Limits → FittedInteger → Parsed → Answer
-raw_time l (Is s) (Offset f) = cond (allows l f) (Time (read_time s f)) (Refused Form)
-raw_time l (Is s) NoOffset = Refused Form
-raw_time l TooLarge p = Refused NumberTooLarge
-raw_time l NoInteger p = Refused Form
+abbrev pub raw_time : Limits → Result ℤ NumberError → Option Fields → Result Time Refusal
+raw_time l (Ok s) (Some f) = cond (allows l f) (Ok (read_time s f)) (Err Form)
+raw_time l (Ok s) None = Err Form
+raw_time l (Err TooLarge) p = Err NumberTooLarge
+raw_time l (Err NoNumber) p = Err Form
 
 -- RULES 5.6: exactly two words, of which the first is a 64-bit number and the second an offset; RULES 5.7: its fields are
 -- unsigned 8-bit numbers
-unfoldable pub raw_of_words : Limits → List (List ℕ) → Answer
-raw_of_words l [] = Refused Form
+unfoldable pub raw_of_words : Limits → List (List ℕ) → Result Time Refusal
+raw_of_words l [] = Err Form
 raw_of_words l (w ∷ ws) = raw_time l (number64 w) (fields_of Byte (only_word ws))
 
 -- a byte of 128 or more is 1 (RULES 2.1)
-unfoldable pub raw_of : Limits → List ℕ → Answer
-raw_of l s = cond (ascii s) (raw_of_words l (words is_space s)) (Refused NotAscii)
+unfoldable pub raw_of : Limits → List ℕ → Result Time Refusal
+raw_of l s = cond (ascii s) (raw_of_words l (words is_space s)) (Err NotAscii)

@@ -3,7 +3,7 @@
 -- of a time; headers of the commit's own form; what a raw date is, within any limits; limits within others; the texts on which the raw
 -- and the header reader agree. No contract cites these.
 -- Assumes nothing.
-use Rattle.std.specs.Prelude.{ℕ, ◌-◌, ◌*◌, ◌/◌, ◌^◌, ◌<◌, min, ◌≡◌, Bool, true, false, cond, ◌||◌, List, [], ◌∷◌, ◌⊎◌, ℤ, pos, negsuc, nat_abs, get_or}
+use Rattle.std.specs.Prelude.{ℕ, ◌-◌, ◌*◌, ◌/◌, ◌^◌, ◌<◌, min, ◌≡◌, Bool, true, false, cond, ◌||◌, List, [], ◌∷◌, ◌⊎◌, ℤ, pos, negsuc, nat_abs, get_or, Ok, Some}
 use Prim.Native.Char.{code}
 use Rattle.ints.specs.Range.{In, is_in}
 use Rattle.text.specs.Bytes.{is_space, is_digit, ascii}
@@ -11,17 +11,13 @@ use Rattle.text.specs.Places.{has, leading}
 use Rattle.text.specs.Words.{words}
 use Rattle.text.specs.Number.{signed_of}
 use Rattle.text.specs.Decimal.{signed_before, two_before}
-use Rattle.text.specs.declared.number.Integer.TheVariants.{Is as IsValue}
-use Rattle.text.specs.declared.number.FittedInteger.TheVariants.{Is}
 use Rattle.time.specs.Answers.{time_at, time_marked}
 use Rattle.time.specs.Header.{sign_byte, is_minus_zero, space, cut_to_minutes}
 use Rattle.time.specs.declared.Time.{Time}
-use Rattle.header.specs.Offset.{second_word_of, fields_of, offset_of, has_mark}
+use Rattle.header.specs.Offset.{second_word_of, fields_of, offset_of, has_mark, Byte}
 use Rattle.header.specs.Header.{number64}
 use Rattle.header.specs.Raw.{Limits, allows}
-use Rattle.header.specs.declared.offset.Field.TheVariants.{Byte}
 use Rattle.header.specs.declared.offset.Fields.{Fields}
-use Rattle.header.specs.declared.offset.Parsed.TheVariants.{Offset}
 
 -- the seconds that 64 bits hold
 abbrev pub Seconds64 : ℤ → Type 0
@@ -30,7 +26,7 @@ Seconds64 z = In (negsuc (2 ^ 63 - 1)) (pos (2 ^ 63 - 1)) z
 -- a number but for its value, which 64 bits do not hold (RULES 4.7)
 pub record Beyond64 (w : List ℕ) : Type 0 where
   pub value : ℤ
-  pub value_is : signed_of w ≡ IsValue value
+  pub value_is : signed_of w ≡ Some value
   pub beyond : Seconds64 value → ⊥
 
 -- RULES 5.9 of headers: an ASCII text without `:`, of which the first word, or else its leading digits, are too large
@@ -80,7 +76,7 @@ read_back t = time_marked t.seconds (cut_to_minutes t.offset) (is_minus_zero t |
 -- a header of the commit's own form: `<decimal seconds> <sign>HHMM`, with minutes below 60
 pub record OwnForm (s : List ℕ) : Type 0 where
   pub seconds : ℤ
-  pub seconds_in_lem : Seconds64 seconds
+  pub seconds_in_range : Seconds64 seconds
   pub minus : Bool
   pub hours : ℕ
   pub hours_lt : hours < 100
@@ -95,8 +91,8 @@ pub record RawDate (l : Limits) (s : List ℕ) (t : Time) : Type 0 where
   pub second : List ℕ
   pub fields : Fields
   pub words_are : words is_space s ≡ first ∷ second ∷ []
-  pub number_is : number64 first ≡ Is t.seconds
-  pub fields_are_lem : fields_of Byte second ≡ Offset fields
+  pub number_is : number64 first ≡ Ok t.seconds
+  pub fields_are : fields_of Byte second ≡ Some fields
   pub allowed : allows l fields ≡ true
   pub offset_is : offset_of fields ≡ t.offset
   pub mark_is : has_mark fields ≡ t.mark

@@ -3,26 +3,52 @@
 // the numbers that a field may be. The usual word, a sign and four digits, is read in one step.
 ghost use Rattle.std.specs.Prelude.{◌≡◌, true, ◌&&◌, ◌+◌, ◌≤◌, pos, length};
 ghost use Rattle.text.specs.Bytes.{is_digit};
-ghost use Rattle.text.specs.Number.{plus, AtMost};
-ghost use Rattle.header.specs.Offset.{five_or_seven, field_of, last_field, fields_of, offset_of, read_time};
-ghost use Rattle.header.specs.Held.{Small, two_digits, usual_of};
+ghost use Rattle.header.specs.Offset.{Field as Kind, Signed as signed, Byte as byte, five_or_seven, field_of, last_field, fields_of, offset_of, read_time};
+ghost use Rattle.header.specs.Held.{Small, two_digits, two_bytes_of, usual_of};
 
-use text::number::{Integer, Number, Width};
+use text::number::Width;
 use text::{bytes, number};
 use time::Time;
 
 // The largest unsigned 8-bit number.
-const LARGEST_8_BIT: u64 = 255;
+const LARGEST_8_BIT: u64 = u8::MAX as u64;
 
-// Which numbers a field may be. In a header it is a signed number, so `-5` is a field. In a raw
-// date it is an unsigned 8-bit number, so `+5` is a field and `-5` is not.
-#[derive(Clone, Copy)]
-pub enum Field {
-    Signed,
-    Byte,
+// Which numbers a field may be, and how its two bytes are read.
+pub trait Field {
+    ghost kind: { Kind };
+
+    // The number in two bytes.
+    fn number(w: &[u8]) -> Option<i64>
+        requires { length w.now ≤ 2 }
+        ensures { result ≡ two_bytes_of kind w.now };
 }
 
-// The sign of an offset, and the fields after it.
+// In a header a field is a signed number, so `-5` is one.
+pub struct Signed;
+
+// In a raw date it is an unsigned 8-bit number, so `+5` is one and `-5` is not.
+pub struct Byte;
+
+impl Field for Signed {
+    ghost kind = { signed };
+
+    fn number(w: &[u8]) -> Option<i64> {
+        number::signed_number(w, Width::Bits32)
+    }
+}
+
+impl Field for Byte {
+    ghost kind = { byte };
+
+    fn number(w: &[u8]) -> Option<i64> {
+        let n = number::unsigned_number(w, LARGEST_8_BIT)?;
+        Some(n as i64)
+    }
+}
+
+// The sign of an offset, and the fields after it. The sign stands by itself, since offset 0 behind a
+// `-` has the mark. That they are small enough to add up (`Small`) is no ghost field: the definition
+// `fields_of` makes fields of any numbers, and has to stay.
 #[derive(Clone, Copy)]
 pub struct Fields {
     pub minus: bool,
@@ -31,73 +57,61 @@ pub struct Fields {
     pub seconds: i64,
 }
 
-// The fields of an offset, or no offset.
-#[derive(Clone, Copy)]
-pub enum Parsed {
-    Offset(Fields),
-    Nothing,
-}
-
 // The fields of the usual tail, which follows the number of nearly every date: a space, a sign,
 // four digits, and nothing more. Both readers read the same from it, since two digits are a field
-// of either kind. The six bytes are tested without a branch between them. There is no offset if the
-// tail is of another form.
-pub fn usual_fields(s: &[u8], at: usize) -> Parsed
+// of either kind. The six bytes are tested without a branch between them. They are taken by their
+// places in the text, as the definition `is_usual` takes them: a pattern would take them from a part of
+// the text, which has to be cut off first. There is no offset if the tail is of another form.
+pub fn usual_fields(s: &[u8], at: usize) -> Option<Fields>
     requires { at ≤ length s.now }
     ensures { result ≡ usual_of s.now at }
 {
-    if s.len() - at == 6 {
-        let space = s[at];
-        let sign = s[at + 1];
-        let h = s[at + 2];
-        let i = s[at + 3];
-        let m = s[at + 4];
-        let j = s[at + 5];
-        if (space == b' ') & bytes::is_sign(sign) & both_digits(h, i) & both_digits(m, j) {
-            let hours = two_digits(h, i);
-            let minutes = two_digits(m, j);
-            return Parsed::Offset(Fields {
-                minus: sign == b'-',
-                hours,
-                minutes,
-                seconds: 0,
-            });
-        }
-        return Parsed::Nothing;
+    if s.len() - at != 6 {
+        return None;
     }
-    Parsed::Nothing
+    let space = s[at];
+    let sign = s[at + 1];
+    let h = s[at + 2];
+    let i = s[at + 3];
+    let m = s[at + 4];
+    let j = s[at + 5];
+    if (space == b' ') & bytes::is_sign(sign) & both_digits(h, i) & both_digits(m, j) {
+        let hours = two_digits(h, i);
+        let minutes = two_digits(m, j);
+        Some(Fields {
+            minus: sign == b'-',
+            hours,
+            minutes,
+            seconds: 0,
+        })
+    } else {
+        None
+    }
 }
 
 // The fields of the word w, if it is an offset.
-pub fn parse_fields(w: &[u8], by: Field) -> Parsed
-    ensures { result ≡ fields_of by w.now }
+#[tactic(auto, using(crate::proofs::Offsets::le_of_five_or_seven), unfolding(crate::specs::Offset::fields_of))]
+pub fn parse_fields<F: Field>(w: &[u8]) -> Option<Fields>
+    ensures { result ≡ fields_of F.kind w.now }
 {
-    if five_or_seven(w.len()) {
-        if bytes::is_sign(w[0]) {
-            let hours = parse_field(w, 1, by);
-            let Integer::Is(h) = hours else {
-                return Parsed::Nothing;
-            };
-            let minutes = parse_field(w, 3, by);
-            let Integer::Is(m) = minutes else {
-                return Parsed::Nothing;
-            };
-            let seconds = last_field(w, by);
-            let Integer::Is(x) = seconds else {
-                return Parsed::Nothing;
-            };
-            return Parsed::Offset(Fields {
-                minus: w[0] == b'-',
-                hours: h,
-                minutes: m,
-                seconds: x,
-            });
-        }
-        return Parsed::Nothing;
+    if !five_or_seven(w.len()) {
+        return None;
     }
-    Parsed::Nothing
+    if !bytes::is_sign(w[0]) {
+        return None;
+    }
+    let hours = parse_field::<F>(w, 1)?;
+    let minutes = parse_field::<F>(w, 3)?;
+    let seconds = last_field::<F>(w)?;
+    Some(Fields {
+        minus: w[0] == b'-',
+        hours,
+        minutes,
+        seconds,
+    })
 }
 
+#[tactic(auto, unfolding(crate::specs::Offset::five_or_seven))]
 fn five_or_seven(n: usize) -> bool
     ensures { result ≡ five_or_seven n }
 {
@@ -106,18 +120,16 @@ fn five_or_seven(n: usize) -> bool
 
 // The field in the two bytes from `at`. Nearly all fields are two digits, which are a number of
 // either kind.
-fn parse_field(w: &[u8], at: usize, by: Field) -> Integer
+fn parse_field<F: Field>(w: &[u8], at: usize) -> Option<i64>
     requires { at + 2 ≤ length w.now }
-    ensures { result ≡ field_of by w.now at }
+    ensures { result ≡ field_of F.kind w.now at }
 {
     let tens = w[at];
     let ones = w[at + 1];
     if both_digits(tens, ones) {
-        return Integer::Is(two_digits(tens, ones));
-    }
-    match by {
-        Field::Signed => number::signed_number(&w[at..at + 2], Width::Bits32),
-        Field::Byte => as_integer(number::unsigned_number(&w[at..at + 2], LARGEST_8_BIT)),
+        Some(two_digits(tens, ones))
+    } else {
+        F::number(&w[at..at + 2])
     }
 }
 
@@ -127,31 +139,25 @@ fn both_digits(tens: u8, ones: u8) -> bool
     bytes::is_digit(tens) & bytes::is_digit(ones)
 }
 
+// `stamps` has the same for a `u32`. One public function in `text` for two bodies of one line would be
+// no plainer.
+#[tactic(auto, using(text::proofs::Numbers::digit_range))]
 fn two_digits(tens: u8, ones: u8) -> i64
     requires { (is_digit tens ≡ true) × (is_digit ones ≡ true) }
     ensures { result ≡ pos (two_digits tens ones) }
 {
-    (10 * (tens - b'0') + (ones - b'0')) as i64
+    i64::from(10 * (tens - b'0') + (ones - b'0'))
 }
 
 // The seconds. Only a word of 7 bytes has them; in a word of 5 bytes they are 0.
-fn last_field(w: &[u8], by: Field) -> Integer
-    ensures { result ≡ last_field by w.now }
+#[tactic(auto, unfolding(crate::specs::Offset::last_field))]
+fn last_field<F: Field>(w: &[u8]) -> Option<i64>
+    ensures { result ≡ last_field F.kind w.now }
 {
     if w.len() == 7 {
-        return parse_field(w, 5, by);
-    }
-    Integer::Is(0)
-}
-
-// The same number, as a signed one.
-fn as_integer(n: Number) -> Integer
-    requires { AtMost 255 n }
-    ensures { result ≡ plus n }
-{
-    match n {
-        Number::Value(v) => Integer::Is(v as i64),
-        Number::Nothing => Integer::Nothing,
+        parse_field::<F>(w, 5)
+    } else {
+        Some(0)
     }
 }
 
@@ -170,14 +176,12 @@ fn seconds_of(f: Fields) -> i32
     requires { Small f }
     ensures { result ≡ offset_of f }
 {
-    let h = f.hours;
-    let m = f.minutes;
-    let x = f.seconds;
-    let hours = h * 3600;
-    let rest = m * 60 + x;
+    let hours = f.hours * 3600;
+    let rest = f.minutes * 60 + f.seconds;
     let sum = hours + rest;
     if f.minus {
-        return (0 - sum) as i32;
+        (0 - sum) as i32
+    } else {
+        sum as i32
     }
-    sum as i32
 }

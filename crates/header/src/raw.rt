@@ -4,14 +4,15 @@ ghost use Rattle.std.specs.Prelude.{◌≡◌};
 ghost use Rattle.header.specs.Raw.{rule1, limits_of, allows as allows_of, raw_time, raw_of};
 ghost use Rattle.header.specs.Held.{AllSmall, LeadsWithNumber, WordsRead};
 
-use crate::offset::{Field, Fields, Parsed};
-use crate::walk::Walked;
-use crate::{offset, walk};
-use text::number::{FittedInteger, LeadingInteger};
+use crate::offset::{Byte, Fields};
+use crate::walk::First;
+use crate::{offset, refusal_of, walk};
+use text::number::{LeadingInteger, NumberError};
 use text::words;
-use time::{Answer, Refusal, Time};
+use time::{Refusal, Time};
 
-// Which limits hold for hours and minutes: rule 1, which is gix-date's, or rule 2, which is wider.
+// Which limits hold for hours and minutes: rule 1, which is gix-date's, or rule 2, which is wider. It
+// is a value and no type parameter, since callers from C name the rule by a number.
 #[derive(Clone, Copy)]
 pub enum Rule {
     One,
@@ -22,63 +23,48 @@ pub enum Rule {
 // refusal 11 if its first word is a number that is too large, and then refusal 2 if it is anything
 // but a number and an offset within the limits. A number alone and the usual form are recognised as
 // soon as the number ends, as in `parse_header`.
-pub fn parse_raw(s: &[u8]) -> Answer
+pub fn parse_raw(s: &[u8]) -> Result<Time, Refusal>
     ensures { result ≡ raw_of rule1 s.now }
 {
-    let opening = walk::open(&*s);
-    let number = opening.number;
-    let end = opening.end;
-    if end == s.len() {
-        return raw_time(Rule::One, number, Parsed::Nothing);
-    }
-    let usual = walk::usual_tail(&*s, opening);
-    let Parsed::Offset(f) = usual else {
-        return parse_words(&*s, walk::read_words(&*s, opening), Rule::One);
-    };
-    raw_time(Rule::One, number, Parsed::Offset(f))
+    read_raw(&*s, Rule::One)
 }
 
-// The same reader, for the entry that gives the mark: as with `header::parse_header_marked`, each
-// entry has one of its own.
-pub fn parse_raw_marked(s: &[u8]) -> Answer
+// The same, for the entry that gives the mark: as with `header::parse_header_marked`, each entry
+// calls a function of its own.
+pub fn parse_raw_marked(s: &[u8]) -> Result<Time, Refusal>
     ensures { result ≡ raw_of rule1 s.now }
 {
-    let opening = walk::open(&*s);
-    let number = opening.number;
-    let end = opening.end;
-    if end == s.len() {
-        return raw_time(Rule::One, number, Parsed::Nothing);
-    }
-    let usual = walk::usual_tail(&*s, opening);
-    let Parsed::Offset(f) = usual else {
-        return parse_words(&*s, walk::read_words(&*s, opening), Rule::One);
-    };
-    raw_time(Rule::One, number, Parsed::Offset(f))
+    read_raw(&*s, Rule::One)
 }
 
-// Reads a raw date by either rule, and refuses as `parse_raw` does. The steps are those of
-// `parse_raw`, which names rule 1: so the compiler makes a copy for rule 1 alone. With one body there
-// is one copy for both rules, which tests its rule at the limits, and rule 1 is slower
-// (docs/SPEED.md). `&*s` is the same text; passed on so, it comes in registers and not by way of memory.
-pub fn parse_raw_by(s: &[u8], rule: Rule) -> Answer
+// Reads a raw date by either rule, and refuses as `parse_raw` does.
+pub fn parse_raw_by(s: &[u8], rule: Rule) -> Result<Time, Refusal>
+    ensures { result ≡ raw_of (limits_of rule) s.now }
+{
+    read_raw(&*s, rule)
+}
+
+// The steps of all three. They are put into each, so that the two that name rule 1 test no rule at
+// the limits (docs/SPEED.md). `&*s` is the same text; passed on so, it comes in registers and not by
+// way of memory.
+#[inline(always)]
+fn read_raw(s: &[u8], rule: Rule) -> Result<Time, Refusal>
     ensures { result ≡ raw_of (limits_of rule) s.now }
 {
     let opening = walk::open(&*s);
-    let number = opening.number;
-    let end = opening.end;
-    if end == s.len() {
-        return raw_time(rule, number, Parsed::Nothing);
+    if opening.end == s.len() {
+        return raw_time(rule, opening.number, None);
     }
-    let usual = walk::usual_tail(&*s, opening);
-    let Parsed::Offset(f) = usual else {
+    let Some(f) = walk::usual_tail(&*s, opening) else {
         return anew(parse_words(&*s, read_on(&*s, opening), rule));
     };
-    raw_time(rule, number, Parsed::Offset(f))
+    raw_time(rule, opening.number, Some(f))
 }
 
-// `walk::read_words`, for `parse_raw_by`, which is not inlined: what it passes on itself would be
-// copied to memory for every text, and here that is done for texts of another form alone.
-fn read_on(s: &[u8], opening: LeadingInteger) -> Walked
+// `walk::read_words`, in a function of its own: `parse_raw_by` is not put into its callers, and what it
+// passes on itself would be copied to memory for every text. Here that is done for texts of another
+// form alone. Without this and `anew`, `parse_raw_by` takes 29 instructions more of some 348.
+fn read_on(s: &[u8], opening: LeadingInteger) -> Option<First>
     requires { LeadsWithNumber s.now opening }
     ensures { WordsRead s.now result }
 {
@@ -87,55 +73,41 @@ fn read_on(s: &[u8], opening: LeadingInteger) -> Walked
 
 // The same answer, taken apart and made anew. `parse_raw_by` returns it by way of memory; passed on
 // whole, it would be copied there in larger pieces than were stored, and that copy waits (docs/SPEED.md).
-fn anew(a: Answer) -> Answer
+fn anew(a: Result<Time, Refusal>) -> Result<Time, Refusal>
     ensures { result ≡ a }
 {
     match a {
-        Answer::Time(t) => Answer::Time(Time::with_mark(t.seconds, t.offset, t.mark)),
-        Answer::Refused(r) => Answer::Refused(r),
+        Ok(t) => Ok(Time::with_mark(t.seconds, t.offset, t.mark)),
+        Err(r) => Err(r),
     }
 }
 
 // The date in the words of a text of any other form. They are not tested for a `:`, since no number
 // and no offset holds one.
-fn parse_words(s: &[u8], walked: Walked, rule: Rule) -> Answer
+fn parse_words(s: &[u8], walked: Option<First>, rule: Rule) -> Result<Time, Refusal>
     requires { WordsRead s.now walked }
     ensures { result ≡ raw_of (limits_of rule) s.now }
 {
-    let Walked::Words(first) = walked else {
-        return Answer::Refused(Refusal::NotAscii);
-    };
-    if first.whole {
-        let number = first.number;
-        let word = first.offset_word;
-        return raw_time(
-            rule,
-            number,
-            offset::parse_fields(words::within(s, word), Field::Byte),
-        );
+    let first = walked.ok_or(Refusal::NotAscii)?;
+    if !first.whole {
+        return Err(Refusal::Form);
     }
-    Answer::Refused(Refusal::Form)
+    let word = words::within(s, first.offset_word);
+    raw_time(rule, first.number, offset::parse_fields::<Byte>(word))
 }
 
 // A number that is too large is refusal 11, whatever follows it. Otherwise the answer is refusal 2
 // unless there are a number and an offset, and the rule allows the fields.
-fn raw_time(rule: Rule, n: FittedInteger, p: Parsed) -> Answer
+fn raw_time(rule: Rule, n: Result<i64, NumberError>, p: Option<Fields>) -> Result<Time, Refusal>
     requires { AllSmall p }
     ensures { result ≡ raw_time (limits_of rule) n p }
 {
-    match n {
-        FittedInteger::Is(z) => {
-            let Parsed::Offset(f) = p else {
-                return Answer::Refused(Refusal::Form);
-            };
-            if allows(rule, f) {
-                return Answer::Time(offset::read_time(z, f));
-            }
-            Answer::Refused(Refusal::Form)
-        }
-        FittedInteger::TooLarge => Answer::Refused(Refusal::TooLarge),
-        FittedInteger::Nothing => Answer::Refused(Refusal::Form),
+    let z = n.map_err(refusal_of)?;
+    let f = p.ok_or(Refusal::Form)?;
+    if !allows(rule, f) {
+        return Err(Refusal::Form);
     }
+    Ok(offset::read_time(z, f))
 }
 
 // Rule 1: hours are at most 14, and minutes are 0, 15, 30 or 45. Rule 2: hours are below 24, and
@@ -144,12 +116,9 @@ fn raw_time(rule: Rule, n: FittedInteger, p: Parsed) -> Answer
 fn allows(rule: Rule, f: Fields) -> bool
     ensures { result ≡ allows_of (limits_of rule) f }
 {
-    let h = f.hours;
-    let m = f.minutes;
-    let x = f.seconds;
     match rule {
-        Rule::Two => (h < 24) & (m < 60) & (x == 0),
-        Rule::One => (h <= 14) & is_quarter(m) & (x == 0),
+        Rule::Two => (f.hours < 24) & (f.minutes < 60) & (f.seconds == 0),
+        Rule::One => (f.hours <= 14) & is_quarter(f.minutes) & (f.seconds == 0),
     }
 }
 
@@ -157,14 +126,5 @@ fn allows(rule: Rule, f: Fields) -> bool
 fn is_quarter(m: i64) -> bool
     ensures { result ≡ rule1.minutes m }
 {
-    if m == 0 {
-        return true;
-    }
-    if m == 15 {
-        return true;
-    }
-    if m == 30 {
-        return true;
-    }
-    m == 45
+    matches!(m, 0 | 15 | 30 | 45)
 }

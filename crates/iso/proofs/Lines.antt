@@ -1,6 +1,7 @@
 -- What follows the date of an ISO line, `HH:MM:SS+HH:MM`, as it is read. In order: the cut, the time, the offset; then the day of the
 -- line's date and the instant of its clock.
 -- Assumes nothing.
+use Rattle.std.specs.Prelude.{Some}
 use mathlib.Core.Path.{◌≡◌, refl, sym, ap, ◌∙◌}
 use mathlib.Core.Bool.{true, false}
 use mathlib.Core.List.{List, [], ◌∷◌}
@@ -16,12 +17,9 @@ use Rattle.text.specs.Number.{fit, unsigned_of}
 use Rattle.text.specs.Places.{run, first_place, has, last_where, last_place}
 use Rattle.text.specs.Trim.{trim_start, trim_end, trim}
 use Rattle.text.specs.Words.{pieces}
-use Rattle.text.specs.declared.number.Number.TheVariants.{Value}
-use Rattle.text.specs.declared.number.Integer.TheVariants.{Is}
 use Rattle.text.proofs.Runs.{last_where-none, last_where-here, last_where-drop}
 use Rattle.calendar.specs.Calendar.{IsDate, first_day, month_length}
 use Rattle.calendar.specs.Dates.{exists, day_number}
-use Rattle.calendar.specs.declared.Found.TheVariants.{At}
 use Rattle.time.specs.Header.{sign_byte, whole_minutes}
 use Rattle.time.specs.Iso.{offset_before}
 use Rattle.iso.specs.Parts.{without}
@@ -52,11 +50,11 @@ module _ (h m s : ℕ) (p : h ≤ 23) (q : m ≤ 59) (r : s ≤ 59) where
   s< : s < 100
   s< = omega arith
 
-  fit-two : (n limit : ℕ) → n < 100 → n ≤ limit → fit limit (unsigned_of (two_before n [])) ≡ Value n
+  fit-two : (n limit : ℕ) → n < 100 → n ≤ limit → fit limit (unsigned_of (two_before n [])) ≡ Some n
   unfolding fit
   fit-two n limit k l = ap (fit limit) (unsigned_of-two n k) ∙ rw (le-leb n limit l)
 
-  pub iso_time-clock_text : iso_time (clock_text h m s []) ≡ Value (h * 3600 + m * 60 + s)
+  pub iso_time-clock_text : iso_time (clock_text h m s []) ≡ Some (h * 3600 + m * 60 + s)
   unfolding iso_time has first_place run pieces colon_time
   iso_time-clock_text =
       rw (no_colon (48 + h / 10) (tens h h<), no_colon (48 + h % 10) (ones h), no_colon (48 + m / 10) (tens m m<), no_colon (48 + m % 10) (ones m), no_colon (48 + s / 10) (tens s s<), no_colon (48 + s % 10) (ones s))
@@ -132,24 +130,24 @@ module _ (h m s : ℕ) (p : h ≤ 23) (q : m ≤ 59) (r : s ≤ 59) where
 
 -- ---- the offset
 module _ (a c : ℕ) (p : a ≤ 23) (q : c ≤ 59) where
-  hours_minutes_without : hours_minutes (without 58 (two_before a (58 ∷ two_before c []))) ≡ Is (pos (a * 3600 + c * 60))
+  hours_minutes_without : hours_minutes (without 58 (two_before a (58 ∷ two_before c []))) ≡ Some (pos (a * 3600 + c * 60))
   unfolding hours_minutes without offset_seconds up_to
   hours_minutes_without =
       let k : a < 100 = omega arith in
       let l : c < 100 = omega arith in
       rw (no_colon (48 + a / 10) (tens a k), no_colon (48 + a % 10) (ones a), no_colon (48 + c / 10) (tens c l), no_colon (48 + c % 10) (ones c), int32-two a k, int32-two c l, le-leb a 23 p, le-leb c 59 q)
 
-pub iso_offset-line : (o : ℤ) → nat_abs o < 86400 → nat_abs o % 60 ≡ 0 → iso_offset (offset_before o []) ≡ Is o
+pub iso_offset-line : (o : ℤ) → nat_abs o < 86400 → nat_abs o % 60 ≡ 0 → iso_offset (offset_before o []) ≡ Some o
 unfolding iso_offset sign_byte whole_minutes negated
 iso_offset-line (pos n) h e =
     let k : n / 60 / 60 * 3600 + n / 60 % 60 * 60 ≡ n = omega arith in
-    hours_minutes_without (n / 60 / 60) (n / 60 % 60) (omega arith) (omega arith) ∙ ap (λ (x : ℕ). Is (pos x)) k
+    hours_minutes_without (n / 60 / 60) (n / 60 % 60) (omega arith) (omega arith) ∙ ap (λ (x : ℕ). Some (pos x)) k
 iso_offset-line (negsuc n) h e =
     let k : suc n / 60 / 60 * 3600 + suc n / 60 % 60 * 60 ≡ suc n = omega arith in
-    ap negated (hours_minutes_without (suc n / 60 / 60) (suc n / 60 % 60) (omega arith) (omega arith)) ∙ ap (λ (x : ℕ). Is (neg_ℤ (pos x))) k
+    ap negated (hours_minutes_without (suc n / 60 / 60) (suc n / 60 % 60) (omega arith) (omega arith)) ∙ ap (λ (x : ℕ). Some (neg_ℤ (pos x))) k
 
 -- ---- the day of a date, as it is written
-pub day_number_of_IsDate : {d m k : ℕ} → IsDate d m k → m < 240000 → day_number (m / 12) (m % 12 + 1) (k + 1) ≡ At d
+pub day_number_of_IsDate : {d m k : ℕ} → IsDate d m k → m < 240000 → day_number (m / 12) (m % 12 + 1) (k + 1) ≡ Some d
 unfolding day_number exists
 day_number_of_IsDate {d} {m} {k} p h =
     let y : m / 12 < 20000 = omega arith in
@@ -159,4 +157,4 @@ day_number_of_IsDate {d} {m} {k} p h =
     let n : m % 12 + 1 ≤ 12 = omega arith in
     let q : 1 ≤ k + 1 = omega arith in
     let s : first_day m + (k + 1 - 1) ≡ d = omega (arith, p.sum) in
-    rw (e, lt-ltb (m / 12) 20000 y, le-leb 1 (m % 12 + 1) o, le-leb (m % 12 + 1) 12 n, le-leb 1 (k + 1) q, le-leb (k + 1) (month_length m) l) (ap At s)
+    rw (e, lt-ltb (m / 12) 20000 y, le-leb 1 (m % 12 + 1) o, le-leb (m % 12 + 1) 12 n, le-leb 1 (k + 1) q, le-leb (k + 1) (month_length m) l) (ap Some s)

@@ -1,5 +1,6 @@
 -- The offset. In order: a field, and how large it can be; hours and minutes; the whole offset, by its first byte.
 -- Assumes nothing.
+use Rattle.std.specs.Prelude.{None, Option, Some}
 use mathlib.Core.Path.{◌≡◌, refl, subst}
 use mathlib.Core.List.{List, [], ◌∷◌}
 use Prim.Native.Nat.{ℕ, ◌-◌, ◌^◌}
@@ -11,8 +12,6 @@ use lib.Signed.{◌≤ℤ◌, ◌<ℤ◌}
 use Rattle.ints.specs.Range.{In}
 use Rattle.ints.proofs.Machine.{In_of_nat_abs, le_z-true, le_z-false}
 use Rattle.text.specs.Number.{signed_of, fit_signed}
-use Rattle.text.specs.declared.number.Integer.{Integer}
-use Rattle.text.specs.declared.number.Integer.TheVariants.{Is, Nothing}
 use Rattle.text.proofs.Lists.{take-length-sub-drop}
 use Rattle.text.proofs.Numbers.{Short, signed_of-short, fit_signed_of_length}
 use Rattle.iso.specs.Parts.{without, int32}
@@ -20,16 +19,16 @@ use Rattle.iso.specs.Offset.{up_to, offset_seconds, hours_minutes, negated, iso_
 use Rattle.iso.specs.Held.{Within}
 
 -- ---- a field of two bytes is from -99 to 99
-Within_of_Short : (x : Integer) → Short 100 x → Within 99 x
-Within_of_Short (Is z) h = In_of_nat_abs 99 z (omega (arith, h))
-Within_of_Short Nothing h = tt
+Within_of_Short : (x : Option ℤ) → Short 100 x → Within 99 x
+Within_of_Short (Some z) h = In_of_nat_abs 99 z (omega (arith, h))
+Within_of_Short None h = tt
 
 pub int32-two-within : (x y : ℕ) → Within 99 (int32 (x ∷ y ∷ []))
 unfolding int32
 int32-two-within x y = rw (fit_signed_of_length (2 ^ 31) (x ∷ y ∷ []) (omega arith)) (Within_of_Short (signed_of (x ∷ y ∷ [])) (signed_of-short (x ∷ y ∷ [])))
 
 -- ---- hours and minutes, of four bytes that are held
-pub hours_minutes-two : (f : List ℕ) → length f ≡ 4 → offset_seconds (up_to (pos 23) (int32 (get_or f 0 0 ∷ get_or f 1 0 ∷ []))) (Is (pos 0)) ≡ hours_minutes (take 2 f)
+pub hours_minutes-two : (f : List ℕ) → length f ≡ 4 → offset_seconds (up_to (pos 23) (int32 (get_or f 0 0 ∷ get_or f 1 0 ∷ []))) (Some (pos 0)) ≡ hours_minutes (take 2 f)
 unfolding hours_minutes
 hours_minutes-two [] h = absurd (omega arith)
 hours_minutes-two (a ∷ []) h = absurd (omega arith)
@@ -44,12 +43,12 @@ hours_minutes-four (a ∷ b ∷ []) h = absurd (omega arith)
 hours_minutes-four (a ∷ b ∷ c ∷ []) h = absurd (omega arith)
 hours_minutes-four (a ∷ b ∷ c ∷ d ∷ f) h = refl
 
-pub hours_minutes-not : (l : List ℕ) → (length l ≡ 2 → ⊥) → (length l ≡ 4 → ⊥) → Nothing ≡ hours_minutes l
+pub hours_minutes-not : (l : List ℕ) → (length l ≡ 2 → ⊥) → (length l ≡ 4 → ⊥) → None ≡ hours_minutes l
 unfolding hours_minutes
 hours_minutes-not l a b = rw (ne_eqb (length l) 2 a, ne_eqb (length l) 4 b)
 
 -- ---- the whole offset
-pub iso_offset-nil : (s : List ℕ) → length s ≡ 0 → Is (pos 0) ≡ iso_offset s
+pub iso_offset-nil : (s : List ℕ) → length s ≡ 0 → Some (pos 0) ≡ iso_offset s
 unfolding iso_offset
 iso_offset-nil [] h = refl
 iso_offset-nil (b ∷ s) h = absurd (omega arith)
@@ -64,55 +63,55 @@ unfolding iso_offset
 iso_offset-west [] e = absurd (omega arith)
 iso_offset-west (b ∷ s) e = rw (take-length-sub-drop (b ∷ s) 1, e)
 
-pub iso_offset-zed : (s : List ℕ) → get_or s 0 0 ≡ 90 → length s ≡ 1 → Is (pos 0) ≡ iso_offset s
+pub iso_offset-zed : (s : List ℕ) → get_or s 0 0 ≡ 90 → length s ≡ 1 → Some (pos 0) ≡ iso_offset s
 unfolding iso_offset
 iso_offset-zed [] e h = absurd (omega arith)
 iso_offset-zed (b ∷ s) e h = let z : length s ≡ 0 = omega arith in rw (e, z)
 
-pub iso_offset-zed-not : (s : List ℕ) → get_or s 0 0 ≡ 90 → (length s ≡ 1 → ⊥) → Nothing ≡ iso_offset s
+pub iso_offset-zed-not : (s : List ℕ) → get_or s 0 0 ≡ 90 → (length s ≡ 1 → ⊥) → None ≡ iso_offset s
 unfolding iso_offset
 iso_offset-zed-not [] e h = absurd (omega arith)
 iso_offset-zed-not (b ∷ s) e h = rw (e, ne_eqb (length s) 0 (λ z. h (omega (arith, z))))
 
-pub iso_offset-not : (s : List ℕ) → (length s ≡ 0 → ⊥) → (get_or s 0 0 ≡ 43 → ⊥) → (get_or s 0 0 ≡ 45 → ⊥) → (get_or s 0 0 ≡ 90 → ⊥) → Nothing ≡ iso_offset s
+pub iso_offset-not : (s : List ℕ) → (length s ≡ 0 → ⊥) → (get_or s 0 0 ≡ 43 → ⊥) → (get_or s 0 0 ≡ 45 → ⊥) → (get_or s 0 0 ≡ 90 → ⊥) → None ≡ iso_offset s
 unfolding iso_offset
 iso_offset-not [] h p m z = absurd (h refl)
 iso_offset-not (b ∷ s) h p m z = rw (ne_eqb b 90 z, ne_eqb b 43 p, ne_eqb b 45 m)
 
 -- ---- the answers of the code, case by case
 -- a number that is there is within k
-pub In_of_Within : {k : ℕ} {x : Integer} {z : ℤ} → x ≡ Is z → Within k x → In (neg_ℤ (pos k)) (pos k) z
+pub In_of_Within : {k : ℕ} {x : Option ℤ} {z : ℤ} → x ≡ Some z → Within k x → In (neg_ℤ (pos k)) (pos k) z
 In_of_Within {k} e w = subst (Within k) e w
 
 module _ (limit : ℤ) (s : List ℕ) where
-  pub up_to-not : fit_signed (2 ^ 31) (signed_of s) ≡ Nothing → Nothing ≡ up_to limit (int32 s)
+  pub up_to-not : fit_signed (2 ^ 31) (signed_of s) ≡ None → None ≡ up_to limit (int32 s)
   unfolding up_to int32
   up_to-not e = rw e
 
-  pub up_to-value : {z : ℤ} → fit_signed (2 ^ 31) (signed_of s) ≡ Is z → z ≤ℤ limit → Is z ≡ up_to limit (int32 s)
+  pub up_to-value : {z : ℤ} → fit_signed (2 ^ 31) (signed_of s) ≡ Some z → z ≤ℤ limit → Some z ≡ up_to limit (int32 s)
   unfolding up_to int32
   up_to-value e h = rw (e, le_z-true h)
 
-  pub up_to-over : {z : ℤ} → fit_signed (2 ^ 31) (signed_of s) ≡ Is z → limit <ℤ z → Nothing ≡ up_to limit (int32 s)
+  pub up_to-over : {z : ℤ} → fit_signed (2 ^ 31) (signed_of s) ≡ Some z → limit <ℤ z → None ≡ up_to limit (int32 s)
   unfolding up_to int32
   up_to-over e h = rw (e, le_z-false h)
 
-pub offset_seconds-not-hours : {h : Integer} (m : Integer) → h ≡ Nothing → Nothing ≡ offset_seconds h m
+pub offset_seconds-not-hours : {h : Option ℤ} (m : Option ℤ) → h ≡ None → None ≡ offset_seconds h m
 unfolding offset_seconds
 offset_seconds-not-hours m e = rw e
 
-pub offset_seconds-not-minutes : {h m : Integer} {x : ℤ} → h ≡ Is x → m ≡ Nothing → Nothing ≡ offset_seconds h m
+pub offset_seconds-not-minutes : {h m : Option ℤ} {x : ℤ} → h ≡ Some x → m ≡ None → None ≡ offset_seconds h m
 unfolding offset_seconds
 offset_seconds-not-minutes e f = rw (e, f)
 
-pub offset_seconds-value : {h m : Integer} {x y : ℤ} → h ≡ Is x → m ≡ Is y → Is (x *ℤ pos 3600 +ℤ y *ℤ pos 60) ≡ offset_seconds h m
+pub offset_seconds-value : {h m : Option ℤ} {x y : ℤ} → h ≡ Some x → m ≡ Some y → Some (x *ℤ pos 3600 +ℤ y *ℤ pos 60) ≡ offset_seconds h m
 unfolding offset_seconds
 offset_seconds-value e f = rw (e, f)
 
-pub negated-not : {o : Integer} → o ≡ Nothing → Nothing ≡ negated o
+pub negated-not : {o : Option ℤ} → o ≡ None → None ≡ negated o
 unfolding negated
 negated-not e = rw e
 
-pub negated_value : {o : Integer} {z : ℤ} → o ≡ Is z → Is (neg_ℤ z) ≡ negated o
+pub negated_value : {o : Option ℤ} {z : ℤ} → o ≡ Some z → Some (neg_ℤ z) ≡ negated o
 unfolding negated
 negated_value e = rw e

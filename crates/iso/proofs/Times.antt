@@ -1,6 +1,7 @@
 -- The time. In order: a part that is fitted to 32 bits and then to its limit; the clock by its three parts; its range; with
 -- colons and without.
 -- Assumes nothing.
+use Rattle.std.specs.Prelude.{None, Option, Some}
 use mathlib.Core.Path.{◌≡◌}
 use mathlib.Core.List.{List, ◌∷◌}
 use Prim.Native.Nat.{ℕ, ◌+◌, ◌-◌, ◌*◌, ◌^◌, ◌≤◌, ◌<◌}
@@ -13,8 +14,6 @@ use Rattle.text.specs.Number.{fit, unsigned_of}
 use Rattle.text.specs.Places.{first_place, before, has}
 use Rattle.text.specs.Quote.{bytes}
 use Rattle.text.specs.Words.{pieces}
-use Rattle.text.specs.declared.number.Number.{Number}
-use Rattle.text.specs.declared.number.Number.TheVariants.{Value, Nothing}
 use Rattle.text.proofs.Lists.{by_test, take-length-sub-drop}
 use Rattle.text.proofs.Numbers.{fit_fit}
 use Rattle.iso.specs.Clock.{time_part, second_of, clock, is_colon, colon_time, plain_time, iso_time}
@@ -32,20 +31,20 @@ module _ (h m s : List ℕ) where
   unfolding clock
   clock_fit = rw (time_part-fit 23 h (omega arith), time_part-fit 59 m (omega arith), time_part-fit 59 s (omega arith))
 
-  pub clock_value : {x y z : ℕ} → fit 23 (unsigned_of h) ≡ Value x → fit 59 (unsigned_of m) ≡ Value y → fit 59 (unsigned_of s) ≡ Value z
-      → Value (x * 3600 + y * 60 + z) ≡ clock h m s
+  pub clock_value : {x y z : ℕ} → fit 23 (unsigned_of h) ≡ Some x → fit 59 (unsigned_of m) ≡ Some y → fit 59 (unsigned_of s) ≡ Some z
+      → Some (x * 3600 + y * 60 + z) ≡ clock h m s
   unfolding second_of
   clock_value a b c = rw (clock_fit, a, b, c)
 
-  pub clock-not-hour : fit 23 (unsigned_of h) ≡ Nothing → Nothing ≡ clock h m s
+  pub clock-not-hour : fit 23 (unsigned_of h) ≡ None → None ≡ clock h m s
   unfolding second_of
   clock-not-hour a = rw (clock_fit, a)
 
-  pub clock-not-minute : {x : ℕ} → fit 23 (unsigned_of h) ≡ Value x → fit 59 (unsigned_of m) ≡ Nothing → Nothing ≡ clock h m s
+  pub clock-not-minute : {x : ℕ} → fit 23 (unsigned_of h) ≡ Some x → fit 59 (unsigned_of m) ≡ None → None ≡ clock h m s
   unfolding second_of
   clock-not-minute a b = rw (clock_fit, a, b)
 
-  pub clock-not-second : {x y : ℕ} → fit 23 (unsigned_of h) ≡ Value x → fit 59 (unsigned_of m) ≡ Value y → fit 59 (unsigned_of s) ≡ Nothing → Nothing ≡ clock h m s
+  pub clock-not-second : {x y : ℕ} → fit 23 (unsigned_of h) ≡ Some x → fit 59 (unsigned_of m) ≡ Some y → fit 59 (unsigned_of s) ≡ None → None ≡ clock h m s
   unfolding second_of
   clock-not-second a b c = rw (clock_fit, a, b, c)
 
@@ -67,7 +66,7 @@ module _ (h s : List ℕ) (i : ℕ) (q : i ≡ first_place 58 s) where
   colon_time-second l = let k : length s ≤ first_place 58 s = omega arith in rw (pieces_of_le 58 s k)
 
 module _ (t : List ℕ) (i : ℕ) (q : i ≡ first_place 58 t) where
-  pub iso_time-colon : (x : Number) → i < length t → x ≡ colon_time (take i t ∷ pieces is_colon (take (length t - (i + 1)) (drop (i + 1) t))) → x ≡ iso_time t
+  pub iso_time-colon : (x : Option ℕ) → i < length t → x ≡ colon_time (take i t ∷ pieces is_colon (take (length t - (i + 1)) (drop (i + 1) t))) → x ≡ iso_time t
   unfolding iso_time has
   iso_time-colon x l e =
       let k : first_place 58 t < length t = omega arith in

@@ -15,21 +15,17 @@ const BLOCK: usize = 32;
 pub fn split_time_and_offset(s: &[u8]) -> usize
     ensures { (result ≡ cut s.now) × (result ≤ length s.now) }
 {
-    if s.len() == 0 {
+    let [front @ .., last] = s else {
         return 0;
-    }
-    let end = s.len() - 1;
-    if s[end] == b'Z' {
-        return end;
+    };
+    if *last == b'Z' {
+        return front.len();
     }
     let m = find_marks(s);
     if is_spaced(s, m.space) {
         return m.space;
     }
-    if m.sign < 2 {
-        return s.len();
-    }
-    m.sign
+    if m.sign < 2 { s.len() } else { m.sign }
 }
 
 // Whether the last space, which is at `at`, is beyond place 5 and what follows it, trimmed, starts with a sign.
@@ -41,14 +37,15 @@ fn is_spaced(s: &[u8], at: usize) -> bool
         return false;
     }
     let rest = trim::trimmed(&s[at..]);
-    if rest.len() == 0 {
+    let [first, ..] = rest else {
         return false;
-    }
-    bytes::is_sign(rest[0])
+    };
+    bytes::is_sign(*first)
 }
 
 // The place of a text's last space, and that of the rightmost sign with a digit directly after it: the sign of `+:05` has none. Where
-// there is no such space or sign, the place is the text's length.
+// there is no such space or sign, the place is the text's length, as `last_place` and `last_where` say: an Option would be no plainer,
+// as both readers would turn it back into that length.
 #[derive(Clone, Copy)]
 struct Marks {
     space: usize,
@@ -60,10 +57,8 @@ fn find_marks(s: &[u8]) -> Marks
     ensures space { result.space ≡ last_place space s.now }
     ensures sign { result.sign ≡ last_where is_offset s.now }
 {
-    let mut e = s.len();
     let mut digit = false;
-    while 0 < e {
-        e -= 1;
+    for e in (0..s.len()).rev() {
         let b = s[e];
         if b == b' ' {
             return Marks {
@@ -85,15 +80,15 @@ fn find_marks(s: &[u8]) -> Marks
     }
 }
 
-// The rightmost sign with a digit after it, when none comes after the space at `from`.
+// The rightmost sign with a digit after it, when none comes after the space at `from`. The loop is that of `find_marks` without its test
+// for a space, which would cost time at each byte. The place stays a parameter beside the text: what `last_sign`, `last_space` and
+// `block_end` ask of it differs.
 fn last_sign(s: &[u8], from: usize) -> usize
     requires { (from ≤ length s.now) × (last_where is_offset (drop from s.now) ≡ length (drop from s.now)) × (is_digit (get_or (drop from s.now) 0 0) ≡ false) }
     ensures { result ≡ last_where is_offset s.now }
 {
-    let mut e = from;
     let mut digit = false;
-    while 0 < e {
-        e -= 1;
+    for e in (0..from).rev() {
         let b = s[e];
         if bytes::is_sign(b) & digit {
             return e;
@@ -108,9 +103,7 @@ fn last_space(s: &[u8], from: usize) -> usize
     requires { (from ≤ length s.now) × (last_place space (drop from s.now) ≡ length (drop from s.now)) }
     ensures { result ≡ last_place space s.now }
 {
-    let mut e = block_end(s, from);
-    while 0 < e {
-        e -= 1;
+    for e in (0..block_end(s, from)).rev() {
         if s[e] == b' ' {
             return e;
         }
@@ -119,7 +112,7 @@ fn last_space(s: &[u8], from: usize) -> usize
 }
 
 // Goes back over whole blocks that hold no space. The fraction of a second can be of any length, and the bytes of a block are tested at
-// once.
+// once. A `for` would be no plainer: `rchunks` gives the blocks, but not the place where the last one begins.
 fn block_end(s: &[u8], from: usize) -> usize
     requires { (from ≤ length s.now) × (last_place space (drop from s.now) ≡ length (drop from s.now)) }
     ensures { (result ≤ length s.now) × (last_place space (drop result s.now) ≡ length (drop result s.now)) }

@@ -2,6 +2,7 @@
 -- `output-step`, of answering the lines that have their end; `output_kept`, of keeping what is left; `output-last`, of a last line that
 -- lacks its end.
 -- Assumes nothing.
+use Rattle.std.specs.Prelude.{Option}
 use mathlib.Core.Path.{◌≡◌, refl, sym, ap, ◌∙◌}
 use mathlib.Core.List.{List, [], ◌∷◌, ◌++◌, append_assoc, append-nil}
 use Prim.Native.Nat.{ℕ, zero, suc, ◌+◌, ◌-◌, ◌≤◌, ◌<◌}
@@ -19,7 +20,7 @@ use Rattle.lines.specs.Layout.{max_line, text_of}
 use Rattle.lines.specs.Rows.{row_bytes}
 use Rattle.lines.specs.Answers.{row_by, row_of, answer_line}
 use Rattle.lines.specs.Lines.{answers_of, output_of, fitting, answered, max_kept, kept}
-use Rattle.lines.specs.declared.layout.Line.{Line}
+use Rattle.lines.specs.declared.layout.Request.{Request}
 use Rattle.lines.proofs.Layouts.{line_of_of_length}
 use Rattle.lines.proofs.Buffers.{fitting_fits, fitting_full}
 
@@ -74,7 +75,7 @@ output_open s b z h = ap answers_of (lines_of-open s b z h)
 answer_line-long : (s t : List ℕ) → max_line < length s → max_line < length t → answer_line s ≡ answer_line t
 unfolding answer_line row_of
 answer_line-long s t h k =
-    sym (ap (λ (l : Line). row_bytes (row_by l (text_of s))) (line_of_of_length s h)) ∙ ap (λ (l : Line). row_bytes (row_by l (text_of t))) (line_of_of_length t k)
+    sym (ap (λ (l : Option Request). row_bytes (row_by l (text_of s))) (line_of_of_length s h)) ∙ ap (λ (l : Option Request). row_bytes (row_by l (text_of t))) (line_of_of_length t k)
 
 -- of a line that has no end yet only what is kept matters, whatever follows
 pub output_kept : (s z : List ℕ) → ended_lines s ≡ [] → output_of (kept s ++ z) ≡ output_of (s ++ z)

@@ -2,7 +2,6 @@
 // that have their end (`answer_lines`), move what is left to the front of the buffer (`keep`), and
 // read on behind it.
 ghost use Rattle.std.specs.Prelude.{◌≡◌, [], ◌++◌, ◌≤◌, ◌<◌, length, take, drop};
-ghost use Rattle.calendar.specs.Table.{IsMonths};
 ghost use Rattle.lines.specs.Answers.{answer_line};
 ghost use Rattle.text.specs.Lines.{ended_lines};
 ghost use Rattle.text.specs.Room.{fits, room_after};
@@ -10,6 +9,7 @@ ghost use Rattle.lines.specs.Rows.{written_in, answer_room};
 ghost use Rattle.lines.specs.Lines.{step_of, room_after_step, held_part, max_kept, kept};
 
 use crate::layout::MAX_LINE;
+use calendar::MonthTable;
 use text::places;
 
 // How many bytes of a line that has no end yet are kept: one more than a line may have, which is
@@ -31,18 +31,19 @@ pub fn answer_lines(s: &[u8], out: &mut [u8]) -> Step
     ensures out_after { out.new ≡ room_after_step s.now out.old }
     ensures taken_in_bounds { (result.taken ≤ length s.now) × (result.written ≤ length out.old) × (answer_room ≤ length out.old → result.taken ≡ 0 → ended_lines s.now ≡ []) }
 {
-    answer_lines_with(&[], s, out)
+    answer_lines_with(MonthTable::none(), s, out)
 }
 
 // The same with a table of months, for many calls: the whole table, or any leading part of it.
-pub fn answer_lines_with(months: &[u32], s: &[u8], out: &mut [u8]) -> Step
-    requires { IsMonths months.now }
+pub fn answer_lines_with(months: MonthTable, s: &[u8], out: &mut [u8]) -> Step
     ensures value { result ≡ step_of s.now (length out.old) }
     ensures out_after { out.new ≡ room_after_step s.now out.old }
     ensures taken_in_bounds { (result.taken ≤ length s.now) × (result.written ≤ length out.old) × (answer_room ≤ length out.old → result.taken ≡ 0 → ended_lines s.now ≡ []) }
 {
     let mut taken: usize = 0;
     let mut written: usize = 0;
+    // No `for` over std's `split_inclusive`: its last piece may lack its newline, an answer may not
+    // fit, and `taken` and `written` would be counted all the same.
     loop {
         let rest = places::from(s, taken);
         let e = places::first_place(rest, b'\n');
@@ -53,14 +54,13 @@ pub fn answer_lines_with(months: &[u32], s: &[u8], out: &mut [u8]) -> Step
         if n == 0 {
             return Step { taken, written };
         }
-        taken = taken + (e + 1);
-        written = written + n;
+        taken += e + 1;
+        written += n;
     }
 }
 
 // Writes the answer line of `line` to `out` from place `at` on.
-fn answer_at(months: &[u32], line: &[u8], at: usize, out: &mut [u8]) -> usize
-    requires months { IsMonths months.now }
+fn answer_at(months: MonthTable, line: &[u8], at: usize, out: &mut [u8]) -> usize
     requires at_in_bounds { at ≤ length out.old }
     ensures value { result ≡ written_in (answer_line line.now) (drop at out.old) }
     ensures out_after { out.new ≡ take at out.old ++ room_after (fits (answer_line line.now) (drop at out.old)) (answer_line line.now) (drop at out.old) }
@@ -77,18 +77,11 @@ pub fn keep(buffer: &mut [u8], from: usize, end: usize) -> usize
     ensures buffer_after { buffer.new ≡ kept (held_part buffer.old from end) ++ drop result buffer.old }
     ensures upper_bound { (result ≤ max_kept) × (result ≤ length buffer.old) }
 {
-    let mut n: usize = 0;
-    let mut at = from;
-    while at < end {
-        if buffer.len() <= at {
-            return n;
-        }
-        if MAX_KEPT <= n {
-            return n;
-        }
-        buffer[n] = buffer[at];
-        n += 1;
-        at += 1;
+    let end = end.min(buffer.len());
+    if end <= from {
+        return 0;
     }
+    let n = (end - from).min(MAX_KEPT);
+    buffer.copy_within(from..from + n, 0);
     n
 }

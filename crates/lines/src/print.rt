@@ -6,7 +6,7 @@ ghost use Rattle.lines.specs.Rows.{row_bytes, written_in, answer_room};
 
 use text::decimal;
 
-// What an answer line says.
+// What an answer line says: `number` is the digits that are written, 0 for a time, and no kind to test.
 #[derive(Clone, Copy)]
 pub struct Row {
     pub number: u64,
@@ -15,7 +15,7 @@ pub struct Row {
 }
 
 // Writes the line of a row to the front of `out`, and returns its length. The bytes behind it are
-// unchanged. If `out` is too short, nothing is written and 0 is returned.
+// unchanged. If `out` is too short, nothing is written and 0 is returned; `answer` says why.
 pub fn write_row(row: Row, out: &mut [u8]) -> usize
     ensures value { result ≡ written_in (row_bytes row) out.old }
     ensures out_after { out.new ≡ room_after (fits (row_bytes row) out.old) (row_bytes row) out.old }
@@ -23,10 +23,11 @@ pub fn write_row(row: Row, out: &mut [u8]) -> usize
 {
     let n = row_width(row);
     if out.len() < n {
-        return 0;
+        0
+    } else {
+        put_row(row, n, out);
+        n
     }
-    put_row(row, n, out);
-    n
 }
 
 // How many bytes the line of a row takes: its three numbers, two tabs and a newline.
@@ -35,7 +36,7 @@ fn row_width(row: Row) -> usize
 {
     let number = decimal::count_digits(row.number);
     let seconds = decimal::signed_width(row.seconds);
-    let offset = decimal::signed_width(as_i64(row.offset));
+    let offset = decimal::signed_width(i64::from(row.offset));
     number + seconds + offset + 3
 }
 
@@ -45,15 +46,9 @@ fn put_row(row: Row, end: usize, out: &mut [u8])
     ensures { out.new ≡ row_bytes row ++ drop end out.old }
 {
     decimal::put_byte(b'\n', end, out);
-    let offset_at = decimal::put_signed(as_i64(row.offset), end - 1, out);
+    let offset_at = decimal::put_signed(i64::from(row.offset), end - 1, out);
     decimal::put_byte(b'\t', offset_at, out);
     let seconds_at = decimal::put_signed(row.seconds, offset_at - 1, out);
     decimal::put_byte(b'\t', seconds_at, out);
     decimal::put_decimal(row.number, seconds_at - 1, out);
-}
-
-fn as_i64(offset: i32) -> i64
-    ensures { result ≡ offset }
-{
-    offset as i64
 }

@@ -1,5 +1,6 @@
 -- Examples of merges (RULES 15), worked out by hand and computed, as one table: each is under the words that it shows.
 -- Assumes nothing.
+use Rattle.std.specs.Prelude.{None, Option, Some, Ok, Result}
 use Prim.Native.Nat.{ℕ}
 use Prim.Native.String.{String}
 use mathlib.Core.Path.{◌≡◌, refl}
@@ -24,14 +25,13 @@ use Rattle.stamps.specs.Lines.{every, is_path_byte, is_path, is_hex_digit, is_ke
 use Rattle.stamps.specs.Book.{judged, lines_in}
 use Rattle.text.specs.Lines.{tab, newline, ended_lines, taken_by, left}
 use Rattle.compact.specs.Compact.{holds_path}
-use Rattle.merge.specs.Lists.{line_fault, lines_fault, lists_of}
+use Rattle.merge.specs.Lists.{faulty, line_fault, lines_fault, lists_of}
 use Rattle.merge.specs.Fronts.{front_of, earlier_machine, fronts_of}
 use Rattle.merge.specs.Merge.{merged_lines, last_key, is_differing, reported}
 use Rattle.merge.specs.declared.lists.Machine.{Machine}
-use Rattle.merge.specs.declared.lists.Machine.TheVariants.{Neither, First, Second}
+use Rattle.merge.specs.declared.lists.Machine.TheVariants.{First, Second}
 use Rattle.merge.specs.declared.lists.Fault.TheVariants.{BadLine, StepBack}
-use Rattle.merge.specs.declared.lists.Verdict.{Verdict}
-use Rattle.merge.specs.declared.lists.Verdict.TheVariants.{Good, Faulty}
+use Rattle.merge.specs.declared.lists.ListError.{ListError}
 
 -- a line of `hull`, by its path, the last digit of its key and the seconds of its time; and with its newline
 abbrev hull : String → String → String → List ℕ
@@ -45,8 +45,8 @@ line path digit seconds = hull path digit seconds ++ newline ∷ []
 data Example : Type 0 where
   merges : List (List ℕ) → List (List ℕ) → List (List ℕ) → Example
   reports : List (List ℕ) → List (List ℕ) → List (List ℕ) → Example
-  fronts : List ℕ → List ℕ → Machine → Verdict → Example
-  lists : List ℕ → List ℕ → Verdict → Example
+  fronts : List ℕ → List ℕ → Option Machine → Result (Unit {0}) ListError → Example
+  lists : List ℕ → List ℕ → Result (Unit {0}) ListError → Example
 
 abbrev AllRight : List Example → Type 0
 AllRight [] = Unit {0}
@@ -67,18 +67,18 @@ examples =
     -- each path once, by its first line in the merged book, from whichever machine: `c` is not in both lists
     ∷ reports (hull "a" "0" "2" ∷ hull "c" "0" "2" ∷ hull "b" "0" "3" ∷ []) (hull "b" "1" "1" ∷ hull "b" "2" "3" ∷ hull "a" "1" "4" ∷ []) (bytes "b" ∷ bytes "a" ∷ [])
     -- the earlier front line, the first machine's on a tie; an empty one loses
-    ∷ fronts (line "a" "0" "2") (line "b" "0" "1") Second Good
-    ∷ fronts (line "a" "0" "1") (line "b" "0" "1") First Good
-    ∷ fronts [] (line "b" "0" "1") Second Good
-    ∷ fronts [] [] Neither Good
+    ∷ fronts (line "a" "0" "2") (line "b" "0" "1") (Some Second) (Ok tt)
+    ∷ fronts (line "a" "0" "1") (line "b" "0" "1") (Some First) (Ok tt)
+    ∷ fronts [] (line "b" "0" "1") (Some Second) (Ok tt)
+    ∷ fronts [] [] None (Ok tt)
     -- beside a bad one there is none: no newline, two lines, a `since` line
-    ∷ fronts (line "a" "0" "2") (hull "b" "0" "1") Neither (Faulty Second (BadLine 1))
-    ∷ fronts (line "a" "0" "2" ++ line "a" "0" "2") [] Neither (Faulty First (BadLine 1))
-    ∷ fronts [] (bytes "since" ++ tab ∷ bytes "now" ++ tab ∷ bytes "9" ++ tab ∷ bytes "0" ++ newline ∷ []) Neither (Faulty Second (BadLine 1))
+    ∷ fronts (line "a" "0" "2") (hull "b" "0" "1") None (faulty Second (BadLine 1))
+    ∷ fronts (line "a" "0" "2" ++ line "a" "0" "2") [] None (faulty First (BadLine 1))
+    ∷ fronts [] (bytes "since" ++ tab ∷ bytes "now" ++ tab ∷ bytes "9" ++ tab ∷ bytes "0" ++ newline ∷ []) None (faulty Second (BadLine 1))
     -- the first line at fault, machine 1 before 2; the last newline may not be missing
-    ∷ lists (line "a" "0" "1" ++ line "b" "0" "1") [] Good
-    ∷ lists (line "a" "0" "2" ++ line "b" "0" "1" ++ bytes "x") (bytes "y") (Faulty First (StepBack 2))
-    ∷ lists [] (line "a" "0" "2" ++ hull "b" "0" "3") (Faulty Second (BadLine 2))
+    ∷ lists (line "a" "0" "1" ++ line "b" "0" "1") [] (Ok tt)
+    ∷ lists (line "a" "0" "2" ++ line "b" "0" "1" ++ bytes "x") (bytes "y") (faulty First (StepBack 2))
+    ∷ lists [] (line "a" "0" "2" ++ hull "b" "0" "3") (faulty Second (BadLine 2))
     ∷ []
 
 examples_hold : AllRight examples

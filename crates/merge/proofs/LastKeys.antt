@@ -1,6 +1,7 @@
 -- The last keys of the paths in a list. In order: the path and the key of a `hull` line, found from its bytes; a line that is kept has the last
 -- key of its path (`last_key-kept`); the same of the lines of a table, and of the line that is found for a path; a path that is not found.
 -- Assumes nothing.
+use Rattle.std.specs.Prelude.{None, Option, Some}
 use mathlib.Core.Path.{◌≡◌, refl, sym, ap, ◌∙◌}
 use mathlib.Core.Bool.{Bool, true, false, not, ◌||◌, false≢true}
 use mathlib.Core.List.{List, [], ◌∷◌, ◌++◌, append_assoc}
@@ -21,7 +22,7 @@ use Rattle.stamps.specs.Lines.{line_of}
 use Rattle.stamps.specs.Writing.{hull_line}
 use Rattle.stamps.specs.Theorems.{is_hull_line}
 use Rattle.stamps.specs.declared.line.Line.{Line}
-use Rattle.stamps.specs.declared.line.Line.TheVariants.{Hull, Since, Bad}
+use Rattle.stamps.specs.declared.line.Line.TheVariants.{Hull, Since}
 use Rattle.stamps.specs.declared.line.Hull.{Hull as HullValue}
 use Rattle.stamps.proofs.Printed.{same_self, eq_of_same}
 use Rattle.stamps.proofs.HullLines.{parts_of_is_key}
@@ -46,7 +47,7 @@ hull_line-cut path key t r =
     ∙ append_assoc (bytes "hull" ++ tab ∷ path) (tab ∷ key) (tab ∷ header_bytes t ++ r)
     ∙ sym (append_assoc (bytes "hull" ++ tab ∷ path) (tab ∷ []) (key ++ (tab ∷ header_bytes t ++ r)))
 
-module _ (bound : ℕ) (l : List ℕ) (h : HullValue) (r : List ℕ) (e : line_of bound l ≡ Hull h) where
+module _ (bound : ℕ) (l : List ℕ) (h : HullValue) (r : List ℕ) (e : line_of bound l ≡ Some (Hull h)) where
   pub key_at-hull : key_at (l ++ r) ≡ part l h.key
   unfolding key_at
   key_at-hull =
@@ -77,13 +78,13 @@ module _ (bound : ℕ) (p : List ℕ) where
   last_key-below x xs h = rw h
 
   -- a line that is kept in front of these, and has the path
-  gone_of_kept : (x : List ℕ) (xs : List (List ℕ)) (y : Line) → is_kept bound x y xs ≡ true → has_path p x y ≡ true → holds_path bound p xs ≡ false
-  gone_of_kept x xs (Hull h) k has =
+  gone_of_kept : (x : List ℕ) (xs : List (List ℕ)) (y : Option Line) → is_kept bound x y xs ≡ true → has_path p x y ≡ true → holds_path bound p xs ≡ false
+  gone_of_kept x xs (Some (Hull h)) k has =
       by_test (holds_path bound p xs)
       (λ t. absurd (false≢true (sym (ap not (ap (λ (q : List ℕ). holds_path bound q xs) (eq_of_same (part x h.path) p has) ∙ t)) ∙ k)))
       (λ f. f)
-  gone_of_kept x xs (Since z) k has = absurd (false≢true has)
-  gone_of_kept x xs Bad k has = absurd (false≢true has)
+  gone_of_kept x xs (Some (Since z)) k has = absurd (false≢true has)
+  gone_of_kept x xs None k has = absurd (false≢true has)
 
   pub last_key-kept : (ls above : List (List ℕ)) (l : List ℕ) (below : List (List ℕ)) → kept bound ls ≡ above ++ l ∷ below → has_path p l (line_of bound l) ≡ true
       → last_key bound p ls ≡ key_in l (line_of bound l)
@@ -122,10 +123,10 @@ module _ (bound : ℕ) where
   hull_of_member (a ∷ above) l below e = hull_of_member above l below (both (is_hull_line (line_of bound a)) (are_hulls bound (above ++ l ∷ below)) e).1
 
 -- the values of a `hull` line
-pub hull_of_line : (x : Line) → is_hull_line x ≡ true → (h : HullValue) × (x ≡ Hull h)
-hull_of_line (Hull h) e = (h, refl)
-hull_of_line (Since x) e = absurd (false≢true e)
-hull_of_line Bad e = absurd (false≢true e)
+pub hull_of_line : (x : Option Line) → is_hull_line x ≡ true → (h : HullValue) × (x ≡ Some (Hull h))
+hull_of_line (Some (Hull h)) e = (h, refl)
+hull_of_line (Some (Since x)) e = absurd (false≢true e)
+hull_of_line None e = absurd (false≢true e)
 
 -- ---- the lines of a table
 lines_down-split : (book places : List ℕ) (count k : ℕ) → k < count
@@ -146,7 +147,7 @@ lines_down-split book places (suc n) k h =
 -- of its path
 pub record KeptLine (bound : ℕ) (ls : List (List ℕ)) (l s : List ℕ) : Type 0 where
   pub hull : HullValue
-  pub line_is : line_of bound l ≡ Hull hull
+  pub line_is : line_of bound l ≡ Some (Hull hull)
   pub path_is : path_at s ≡ part l hull.path
   pub some : 0 < length (path_at s)
   pub held : holds_path bound (path_at s) ls ≡ true

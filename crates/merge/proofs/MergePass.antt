@@ -18,15 +18,13 @@ use Rattle.stamps.proofs.Books.{ended_lines-nil}
 use Rattle.compact.specs.Compact.{holds_path}
 use Rattle.compact.specs.Held.{path_at, found_number, IsTable}
 use Rattle.compact.proofs.Paths.{path_of_hull}
-use Rattle.merge.specs.Lists.{lists_of}
 use Rattle.merge.specs.Merge.{merged_lines, merged, path_in, is_differing, reported, row_of, rows_of, report}
 use Rattle.merge.specs.Held.{AllWait, row_for, stored_for, without}
-use Rattle.merge.specs.declared.lists.Verdict.TheVariants.{Good}
-use Rattle.merge.proofs.Checked.{IsList, lists_good}
+use Rattle.merge.specs.Theorems.{IsList}
 use Rattle.merge.proofs.WaitingRows.{Waits, waits_start, number_small, value_small, row_put, waits_again}
 use Rattle.merge.proofs.TakenLines.{IsRest, Step}
 
-module _ (bound : ℕ) (first second : List ℕ) (good : lists_of bound first second ≡ Good) (heads links places others : List ℕ) (count : ℕ) (table : IsTable bound first heads links places count) where
+module _ (bound : ℕ) (first second : List ℕ) (is_first : IsList bound first) (is_second : IsList bound second) (heads links places others : List ℕ) (count : ℕ) (table : IsTable bound first heads links places count) where
   abbrev ls : List (List ℕ)
   ls = ended_lines first
 
@@ -45,7 +43,7 @@ module _ (bound : ℕ) (first second : List ℕ) (good : lists_of bound first se
     pub first_rest : IsRest bound first i
     pub second_rest : IsRest bound second j
     pub above : List (List ℕ)
-    pub waits : Waits bound first second good heads links places others count table above waiting
+    pub waits : Waits bound first second is_first is_second heads links places others count table above waiting
     pub lines_put : List ℕ
     pub book_is : Front lines_put book₀ book written
     pub lines_are : lines_put ++ joined (lines_left i j) ≡ merged bound first second
@@ -59,12 +57,11 @@ module _ (bound : ℕ) (first second : List ℕ) (good : lists_of bound first se
   pub merging_start : (book₀ report₀ waiting : List ℕ) → AllWait bound first places second others count waiting → Merging book₀ report₀ waiting book₀ report₀ 0 0 0 0
   unfolding merged report
   merging_start book₀ report₀ waiting all =
-      let both-lists = lists_good bound first second good in
       record {
-        first_rest = rest_of_list first both-lists.0;
-        second_rest = rest_of_list second both-lists.1;
+        first_rest = rest_of_list first is_first;
+        second_rest = rest_of_list second is_second;
         above = [];
-        waits = waits_start bound first second good heads links places others count table waiting all;
+        waits = waits_start bound first second is_first is_second heads links places others count table waiting all;
         lines_put = [];
         book_is = record { is = refl; place = refl };
         lines_are = refl;
@@ -134,7 +131,7 @@ module _ (bound : ℕ) (first second : List ℕ) (good : lists_of bound first se
         row = row_for line first places second others number (stored_for waiting number)
 
         row_is : row ≡ cond is_put (row_of bound ls ms q ++ newline ∷ []) []
-        row_is = row_put bound first second good heads links places others count table m.waits q some number number_is line refl
+        row_is = row_put bound first second is_first is_second heads links places others count table m.waits q some number number_is line refl
 
         -- the rows that are left begin with it
         rows_next : (m.rows_put ++ row) ++ rows_left (k ∷ m.above) i' j' ≡ report bound first second
@@ -155,8 +152,8 @@ module _ (bound : ℕ) (first second : List ℕ) (good : lists_of bound first se
 
         pub number_fits : (number ≤ length places) × (number ≤ length waiting) × (stored_for waiting number ≤ length others)
         number_fits =
-            let small = number_small bound first second good heads links places others count table m.waits q some number number_is in
-            (omega (arith, small, table.few), omega (arith, small, m.waits.few), value_small bound first second good heads links places others count table m.waits q some number number_is)
+            let small = number_small bound first second is_first is_second heads links places others count table m.waits q some number number_is in
+            (omega (arith, small, table.few), omega (arith, small, m.waits.few), value_small bound first second is_first is_second heads links places others count table m.waits q some number number_is)
 
         pub merging_again : (book' report'' waiting' : List ℕ) (written' told' : ℕ) → book' ≡ put_at line written book → written' ≡ written + length line
             → report'' ≡ put_at row told report' → told' ≡ told + length row → waiting' ≡ without waiting number → Merging book₀ report₀ waiting' book' report'' i' j' written' told'
@@ -165,7 +162,7 @@ module _ (bound : ℕ) (first second : List ℕ) (good : lists_of bound first se
               first_rest = st.first_rest;
               second_rest = st.second_rest;
               above = k ∷ m.above;
-              waits = waits_again bound first second good heads links places others count table m.waits q some number number_is k st.hull st.taken_is path_is waiting' waiting-is;
+              waits = waits_again bound first second is_first is_second heads links places others count table m.waits q some number number_is k st.hull st.taken_is path_is waiting' waiting-is;
               lines_put = m.lines_put ++ line;
               book_is = front-append line m.book_is book-put written_is;
               lines_are = lines_next;

@@ -3,6 +3,7 @@
 -- good book (`merged_book_is_good`) whose seconds never fall (`merged_book_is_sorted`), with the lines of the first list first where seconds are the
 -- same (`merged_book_is_stable`).
 -- Assumes nothing.
+use Rattle.std.specs.Prelude.{None, Ok, Ok}
 use mathlib.Core.Path.{◌≡◌, refl, ap, ◌∙◌}
 use mathlib.Core.Bool.{true}
 use mathlib.Core.List.{List, [], ◌∷◌, ◌++◌}
@@ -11,21 +12,18 @@ use native.Mathlib.Omega.{arith}
 use lib.IntN.{ℤ}
 use lib.ListN.{length}
 use Rattle.text.specs.Lines.{newline, ended_lines, left}
-use Rattle.text.specs.declared.number.Integer.TheVariants.{Nothing}
 use Rattle.text.proofs.Lists.{both}
 use Rattle.text.proofs.Texts.{Lacking}
 use Rattle.stamps.specs.Lines.{line_of}
 use Rattle.stamps.specs.Book.{judged, check_of}
 use Rattle.stamps.specs.Copies.{joined}
 use Rattle.stamps.specs.Theorems.{are_good, is_hull_line}
-use Rattle.stamps.specs.declared.book.Checked.TheVariants.{Good as GoodBook}
 use Rattle.stamps.proofs.Books.{length-joined, ended_lines-nil}
 use Rattle.stamps.proofs.Listings.{good_of_hull, joined_good_iff, lacking_of_good, ended_lines-joined}
 use Rattle.stamps.proofs.WholeTexts.{joined_of_whole}
 use Rattle.merge.specs.Lists.{lists_of}
 use Rattle.merge.specs.Merge.{merged_lines, merged}
 use Rattle.merge.specs.Theorems.{Shuffle, are_hulls, is_sorted, lines_at}
-use Rattle.merge.specs.declared.lists.Verdict.TheVariants.{Good}
 use Rattle.merge.proofs.Checked.{lists_good}
 use Rattle.merge.proofs.MergedLines.{merged_lines-nil-left, merged_lines-nil-right, merged_is_a_shuffle, taken_by-merged_lines, are_hulls-merged_lines}
 use Rattle.merge.proofs.Orders.{merged_is_sorted, merge_is_stable}
@@ -66,7 +64,7 @@ module _ (bound : ℕ) where
     merge_with_empty_second = rw ended_lines-nil (ap joined (merged_lines-nil-right bound (ended_lines list)) ∙ joined_of_whole list whole)
 
   -- ---- two good lists
-  module _ (first second : List ℕ) (good : lists_of bound first second ≡ Good) where
+  module _ (first second : List ℕ) (good : lists_of bound first second ≡ Ok tt) where
     -- all of the merged lines are good
     good_merged : are_good (judged bound (merged_lines bound (ended_lines first) (ended_lines second))) ≡ true
     good_merged =
@@ -87,7 +85,7 @@ module _ (bound : ℕ) where
     merged_book_is_a_shuffle = rw ended_lines-merged (merged_is_a_shuffle bound (ended_lines first) (ended_lines second))
 
     -- it is a good book
-    pub merged_book_is_good : check_of bound (merged bound first second) ≡ GoodBook
+    pub merged_book_is_good : check_of bound (merged bound first second) ≡ Ok tt
     unfolding merged
     merged_book_is_good =
         let lists = lists_good bound first second good in
@@ -95,13 +93,13 @@ module _ (bound : ℕ) where
         (omega (arith, length_merged first second lists.0.whole lists.1.whole, lists.0.short, lists.1.short))).1 good_merged
 
     -- its seconds never fall
-    pub merged_book_is_sorted : is_sorted bound Nothing (ended_lines (merged bound first second)) ≡ true
+    pub merged_book_is_sorted : is_sorted bound None (ended_lines (merged bound first second)) ≡ true
     merged_book_is_sorted =
         let lists = lists_good bound first second good in
-        rw ended_lines-merged (merged_is_sorted bound Nothing (ended_lines first) (ended_lines second) lists.0.sorted lists.1.sorted)
+        rw ended_lines-merged (merged_is_sorted bound None (ended_lines first) (ended_lines second) lists.0.sorted lists.1.sorted)
 
     -- of the lines with the same seconds the first list's come first, and each list's keep their order
     pub merged_book_is_stable : (z : ℤ) → lines_at bound z (ended_lines (merged bound first second)) ≡ lines_at bound z (ended_lines first) ++ lines_at bound z (ended_lines second)
     merged_book_is_stable z =
         let lists = lists_good bound first second good in
-        rw ended_lines-merged (merge_is_stable bound z Nothing (ended_lines first) (ended_lines second) lists.0.hulls lists.0.sorted)
+        rw ended_lines-merged (merge_is_stable bound z None (ended_lines first) (ended_lines second) lists.0.hulls lists.0.sorted)

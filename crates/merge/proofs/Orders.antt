@@ -1,6 +1,7 @@
 -- The order of the merged lines. In order: seconds and their order; the merged lines of two sorted lists are sorted (`merged_is_sorted`); of the lines
 -- that have the same seconds, those of the first list come first, and each list's keep their order (`merge_is_stable`).
 -- Assumes nothing.
+use Rattle.std.specs.Prelude.{None, Option, Some}
 use mathlib.Core.Path.{◌≡◌, refl, sym, ap, ◌∙◌, subst}
 use mathlib.Core.Bool.{true, false, false≢true, and-false}
 use mathlib.Core.List.{List, [], ◌∷◌, ◌++◌, append-nil}
@@ -12,13 +13,11 @@ use lib.IntN.{ℤ, pos, negsuc}
 use lib.Signed.{le_z, ◌≤ℤ◌, le_z_yes, ≤ℤ_refl}
 use Rattle.ints.proofs.Parts.{ints}
 use Rattle.ints.proofs.Machine.{le_z-true}
-use Rattle.text.specs.declared.number.Integer.{Integer}
-use Rattle.text.specs.declared.number.Integer.TheVariants.{Is, Nothing}
 use Rattle.text.proofs.Lists.{by_test, both}
 use Rattle.stamps.specs.Lines.{line_of}
 use Rattle.stamps.specs.Theorems.{is_hull_line}
 use Rattle.stamps.specs.declared.line.Line.{Line}
-use Rattle.stamps.specs.declared.line.Line.TheVariants.{Hull, Since, Bad}
+use Rattle.stamps.specs.declared.line.Line.TheVariants.{Hull, Since}
 use Rattle.merge.specs.Merge.{seconds_in, is_in_order, merged_lines}
 use Rattle.merge.specs.Theorems.{are_hulls, is_sorted, is_at, lines_at}
 
@@ -38,31 +37,31 @@ le_z-turned (negsuc a) (pos b) e = absurd (false≢true (sym e))
 le_z-turned (negsuc a) (negsuc b) e = le-leb a b (omega (arith, leb-false b a e))
 
 -- of two lines that are not in order, the second is before the first
-is_in_order-turned : (a b : Integer) → is_in_order a b ≡ false → is_in_order b a ≡ true
-is_in_order-turned (Is a) (Is b) e = le_z-turned a b e
-is_in_order-turned (Is a) Nothing e = absurd (false≢true (sym e))
-is_in_order-turned Nothing b e = refl
+is_in_order-turned : (a b : Option ℤ) → is_in_order a b ≡ false → is_in_order b a ≡ true
+is_in_order-turned (Some a) (Some b) e = le_z-turned a b e
+is_in_order-turned (Some a) None e = absurd (false≢true (sym e))
+is_in_order-turned None b e = refl
 
 -- a line is in order with itself
-is_in_order-self : (a : Integer) → is_in_order a a ≡ true
-is_in_order-self (Is a) = le_z-true (≤ℤ_refl a)
-is_in_order-self Nothing = refl
+is_in_order-self : (a : Option ℤ) → is_in_order a a ≡ true
+is_in_order-self (Some a) = le_z-true (≤ℤ_refl a)
+is_in_order-self None = refl
 
 -- lines that are in order with one between them are in order
-is_in_order-trans : (a : Integer) (b : ℤ) (c : Integer) → is_in_order a (Is b) ≡ true → is_in_order (Is b) c ≡ true → is_in_order a c ≡ true
-is_in_order-trans (Is a) b (Is c) p q = le_z-trans a b c p q
-is_in_order-trans Nothing b (Is c) p q = refl
-is_in_order-trans a b Nothing p q = refl
+is_in_order-trans : (a : Option ℤ) (b : ℤ) (c : Option ℤ) → is_in_order a (Some b) ≡ true → is_in_order (Some b) c ≡ true → is_in_order a c ≡ true
+is_in_order-trans (Some a) b (Some c) p q = le_z-trans a b c p q
+is_in_order-trans None b (Some c) p q = refl
+is_in_order-trans a b None p q = refl
 
 -- a `hull` line has seconds
-seconds_of_hull : (x : Line) → is_hull_line x ≡ true → (z : ℤ) × (seconds_in x ≡ Is z)
-seconds_of_hull (Hull h) g = (h.time.seconds, refl)
-seconds_of_hull (Since x) g = absurd (false≢true g)
-seconds_of_hull Bad g = absurd (false≢true g)
+seconds_of_hull : (x : Option Line) → is_hull_line x ≡ true → (z : ℤ) × (seconds_in x ≡ Some z)
+seconds_of_hull (Some (Hull h)) g = (h.time.seconds, refl)
+seconds_of_hull (Some (Since x)) g = absurd (false≢true g)
+seconds_of_hull None g = absurd (false≢true g)
 
 module _ (bound : ℕ) where
   -- ---- lines that are sorted, below a line with these seconds, are so when they are merged
-  pub merged_is_sorted : (above : Integer) (ls ms : List (List ℕ)) → is_sorted bound above ls ≡ true → is_sorted bound above ms ≡ true
+  pub merged_is_sorted : (above : Option ℤ) (ls ms : List (List ℕ)) → is_sorted bound above ls ≡ true → is_sorted bound above ms ≡ true
       → is_sorted bound above (merged_lines bound ls ms) ≡ true
   unfolding merged_lines is_sorted
   merged_is_sorted above [] ms a b = b
@@ -78,7 +77,7 @@ module _ (bound : ℕ) where
   -- ---- lines with the same seconds
   module _ (z : ℤ) where
     -- `hull` lines that are sorted below a line with later seconds than z have no line with z
-    lines_at-before : (above : Integer) (ls : List (List ℕ)) → is_in_order above (Is z) ≡ false → are_hulls bound ls ≡ true → is_sorted bound above ls ≡ true → lines_at bound z ls ≡ []
+    lines_at-before : (above : Option ℤ) (ls : List (List ℕ)) → is_in_order above (Some z) ≡ false → are_hulls bound ls ≡ true → is_sorted bound above ls ≡ true → lines_at bound z ls ≡ []
     unfolding are_hulls is_sorted lines_at
     lines_at-before above [] e h o = refl
     lines_at-before above (l ∷ ls) e h o =
@@ -86,18 +85,18 @@ module _ (bound : ℕ) where
         let g = both (is_hull_line (line_of bound l)) (are_hulls bound ls) h in
         let p = both (is_in_order above s) (is_sorted bound s ls) o in
         let w = seconds_of_hull (line_of bound l) g.0 in
-        let later : is_in_order (Is w.0) (Is z) ≡ false =
-        by_test (is_in_order (Is w.0) (Is z)) (λ y. absurd (false≢true (sym e ∙ is_in_order-trans above w.0 (Is z) (sym (ap (is_in_order above) w.1) ∙ p.0) y))) (λ n. n) in
-        rw (w.1, later, and-false (le_z z w.0)) (lines_at-before (Is w.0) ls later g.1 (sym (ap (λ (a : Integer). is_sorted bound a ls) w.1) ∙ p.1))
+        let later : is_in_order (Some w.0) (Some z) ≡ false =
+        by_test (is_in_order (Some w.0) (Some z)) (λ y. absurd (false≢true (sym e ∙ is_in_order-trans above w.0 (Some z) (sym (ap (is_in_order above) w.1) ∙ p.0) y))) (λ n. n) in
+        rw (w.1, later, and-false (le_z z w.0)) (lines_at-before (Some w.0) ls later g.1 (sym (ap (λ (a : Option ℤ). is_sorted bound a ls) w.1) ∙ p.1))
 
     -- a line that is not in order with a line with the seconds z, which is next, is later than z
-    later_of_not_in_order : (a b : Integer) → is_in_order a b ≡ false → is_at z b ≡ true → is_in_order a (Is z) ≡ false
-    later_of_not_in_order a (Is b) e i =
-        by_test (is_in_order a (Is z)) (λ y. absurd (false≢true (sym e ∙ is_in_order-trans a z (Is b) y (both (le_z z b) (le_z b z) i).0))) (λ n. n)
-    later_of_not_in_order a Nothing e i = absurd (false≢true i)
+    later_of_not_in_order : (a b : Option ℤ) → is_in_order a b ≡ false → is_at z b ≡ true → is_in_order a (Some z) ≡ false
+    later_of_not_in_order a (Some b) e i =
+        by_test (is_in_order a (Some z)) (λ y. absurd (false≢true (sym e ∙ is_in_order-trans a z (Some b) y (both (le_z z b) (le_z b z) i).0))) (λ n. n)
+    later_of_not_in_order a None e i = absurd (false≢true i)
 
     -- of the lines with the seconds z the first list's come first, and each list's keep their order
-    pub merge_is_stable : (above : Integer) (ls ms : List (List ℕ)) → are_hulls bound ls ≡ true → is_sorted bound above ls ≡ true
+    pub merge_is_stable : (above : Option ℤ) (ls ms : List (List ℕ)) → are_hulls bound ls ≡ true → is_sorted bound above ls ≡ true
         → lines_at bound z (merged_lines bound ls ms) ≡ lines_at bound z ls ++ lines_at bound z ms
     unfolding merged_lines are_hulls is_sorted lines_at
     merge_is_stable above [] ms h o = refl

@@ -2,6 +2,7 @@
 -- (`reported_exactly_once`); a key that is reported has 16 bytes; nothing is reported of a merge with an empty list (`report_with_empty_first`,
 -- `report_with_empty_second`).
 -- Assumes nothing.
+use Rattle.std.specs.Prelude.{None, Option, Some}
 use mathlib.Core.Path.{◌≡◌, refl, ap, ◌∙◌}
 use mathlib.Core.Bool.{Bool, true, false, cond, not, ◌&&◌, false≢true, and-false}
 use mathlib.Core.List.{List, [], ◌∷◌}
@@ -15,7 +16,7 @@ use Rattle.stamps.specs.Lines.{line_of}
 use Rattle.stamps.specs.Copies.{joined}
 use Rattle.stamps.specs.Theorems.{is_hull_line}
 use Rattle.stamps.specs.declared.line.Line.{Line}
-use Rattle.stamps.specs.declared.line.Line.TheVariants.{Hull, Since, Bad}
+use Rattle.stamps.specs.declared.line.Line.TheVariants.{Hull, Since}
 use Rattle.stamps.proofs.Books.{ended_lines-nil}
 use Rattle.stamps.proofs.HullLines.{parts_of_is_key}
 use Rattle.stamps.proofs.Printed.{eq_of_same}
@@ -28,10 +29,10 @@ use Rattle.merge.specs.Theorems.{are_hulls}
 use Rattle.merge.proofs.MergedLines.{are_hulls-merged_lines, holds_path-merged_lines}
 
 -- ---- a `hull` line has the path p if p is the path in it
-pub has_path-hull : (p l : List ℕ) (x : Line) → is_hull_line x ≡ true → has_path p l x ≡ same (path_in l x) p
-has_path-hull p l (Hull h) g = refl
-has_path-hull p l (Since x) g = absurd (false≢true g)
-has_path-hull p l Bad g = absurd (false≢true g)
+pub has_path-hull : (p l : List ℕ) (x : Option Line) → is_hull_line x ≡ true → has_path p l x ≡ same (path_in l x) p
+has_path-hull p l (Some (Hull h)) g = refl
+has_path-hull p l (Some (Since x)) g = absurd (false≢true g)
+has_path-hull p l None g = absurd (false≢true g)
 
 -- ---- how often a path is reported
 -- a path that is put in front of others, if a test holds, does not count for another path
@@ -83,11 +84,11 @@ module _ (bound : ℕ) (ls ms : List (List ℕ)) where
 -- ---- a key has 16 bytes
 module _ (bound : ℕ) (p : List ℕ) where
   -- the key of a line that has a path
-  length-key_in : (l : List ℕ) (x : Line) → line_of bound l ≡ x → has_path p l x ≡ true → length (key_in l x) ≡ 16
-  length-key_in l (Hull h) e y =
+  length-key_in : (l : List ℕ) (x : Option Line) → line_of bound l ≡ x → has_path p l x ≡ true → length (key_in l x) ≡ 16
+  length-key_in l (Some (Hull h)) e y =
       (parts_of_is_key (part l h.key) (good_hull (part l h.path) (part l h.key) h.time (hull_written_back bound l h e).1).key_is).0
-  length-key_in l (Since x) e y = absurd (false≢true y)
-  length-key_in l Bad e y = absurd (false≢true y)
+  length-key_in l (Some (Since x)) e y = absurd (false≢true y)
+  length-key_in l None e y = absurd (false≢true y)
 
   -- the last key of a path that one of these lines has
   pub length-last_key : (ls : List (List ℕ)) → holds_path bound p ls ≡ true → length (last_key bound p ls) ≡ 16

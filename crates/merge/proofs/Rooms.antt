@@ -1,6 +1,7 @@
 -- How long rooms must be. In order: the least length of a `hull` line; a report is at most nine eighths as long as the first list
 -- (`length-report-le`); a room of 65,536 bytes for the book and one of 36,864 for the report are long enough for any two good lists (`good_lists_fit`).
 -- Assumes nothing.
+use Rattle.std.specs.Prelude.{Some, Ok}
 use mathlib.Core.Path.{◌≡◌, ap}
 use mathlib.Core.Bool.{true}
 use mathlib.Core.List.{List, [], ◌∷◌, ◌++◌}
@@ -30,8 +31,6 @@ use Rattle.compact.specs.Theorems.{paths_in}
 use Rattle.merge.specs.Lists.{lists_of}
 use Rattle.merge.specs.Merge.{merged, report, is_differing, merge_of}
 use Rattle.merge.specs.Theorems.{are_hulls}
-use Rattle.merge.specs.declared.Merged.TheVariants.{Lengths}
-use Rattle.merge.specs.declared.lists.Verdict.TheVariants.{Good}
 use Rattle.merge.proofs.Checked.{lists_good}
 use Rattle.merge.proofs.LastKeys.{hull_of_line}
 use Rattle.merge.proofs.MergedBook.{length_merged}
@@ -54,7 +53,7 @@ length-hull_line path key t =
 
 module _ (bound : ℕ) where
   -- a path of one byte or more, and 30 bytes beside it
-  hull_lengths : (l : List ℕ) (h : HullValue) → line_of bound l ≡ Hull h → (0 < length (part l h.path)) × (length (part l h.path) + 30 ≤ length l)
+  hull_lengths : (l : List ℕ) (h : HullValue) → line_of bound l ≡ Some (Hull h) → (0 < length (part l h.path)) × (length (part l h.path) + 30 ≤ length l)
   hull_lengths l h e =
       let path = part l h.path in
       let key = part l h.key in
@@ -82,7 +81,7 @@ module _ (bound : ℕ) where
         by_test (is_kept bound k (line_of bound k) ks) (λ y. rw (y, value.1) (omega (arith, below, sizes, weight-le (part k value.0.path))))
         (λ n. rw n (omega (arith, below)))
 
-  module _ (first second : List ℕ) (good : lists_of bound first second ≡ Good) where
+  module _ (first second : List ℕ) (good : lists_of bound first second ≡ Ok tt) where
     pub length-report-le : 8 * length (report bound first second) ≤ 9 * length first
     unfolding report
     length-report-le =
@@ -93,7 +92,7 @@ module _ (bound : ℕ) where
 
     -- ---- both rooms
     pub good_lists_fit : (book room : List ℕ) → 65536 ≤ length book → 36864 ≤ length room
-        → merge_of bound first second book room ≡ Lengths (length (merged bound first second)) (length (report bound first second))
+        → merge_of bound first second book room ≡ Ok (record { book = length (merged bound first second); report = length (report bound first second) })
     good_lists_fit book room a b =
         let lists = lists_good bound first second good in
         let whole : length (merged bound first second) ≤ length book = omega (arith, length_merged bound first second lists.0.whole lists.1.whole, lists.0.short, lists.1.short) in

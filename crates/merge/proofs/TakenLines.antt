@@ -1,6 +1,7 @@
 -- A line taken from two lists. In order: the front line of what is left of a list; it is read as what it is; the earlier of two front lines is the next
 -- of the merged lines (`take-one`); how far both lists are passed.
 -- Assumes nothing.
+use Rattle.std.specs.Prelude.{Some}
 use mathlib.Core.Path.{◌≡◌, refl, sym, ap, ◌∙◌}
 use mathlib.Core.Bool.{Bool, true, false, cond, not, false≢true}
 use mathlib.Core.Logic.{◌⊎◌, inl, inr, ⊎_elim}
@@ -49,7 +50,7 @@ pub record NoFront (list : List ℕ) (at : ℕ) (front : List ℕ) : Type 0 wher
 pub record SomeFront (bound : ℕ) (list : List ℕ) (at : ℕ) (front : List ℕ) : Type 0 where
   pub line : List ℕ
   pub hull : HullValue
-  pub line_is : line_of bound line ≡ Hull hull
+  pub line_is : line_of bound line ≡ Some (Hull hull)
   pub front_is : front ≡ line ++ newline ∷ []
   pub lines_are : ended_lines (drop at list) ≡ line ∷ ended_lines (drop (at + length front) list)
   pub rest : IsRest bound list (at + length front)
@@ -99,7 +100,7 @@ module _ (bound : ℕ) (list : List ℕ) (at : ℕ) (r : IsRest bound list at) (
   front_of_rest = by_test (has newline s) (λ y. inr (some_front y)) (λ n. inl (no_front n))
 
 -- ---- a front line is read as what it is
-front_of_line : (bound : ℕ) (l : List ℕ) (h : HullValue) → line_of bound l ≡ Hull h → front_of bound (l ++ newline ∷ []) ≡ At h.time.seconds
+front_of_line : (bound : ℕ) (l : List ℕ) (h : HullValue) → line_of bound l ≡ Some (Hull h) → front_of bound (l ++ newline ∷ []) ≡ At h.time.seconds
 unfolding front_of
 front_of_line bound l h e = by_cons (l ++ newline ∷ []) refl
   where
@@ -115,7 +116,7 @@ front_of_line bound l h e = by_cons (l ++ newline ∷ []) refl
 pub record Step (bound : ℕ) (first second : List ℕ) (i j : ℕ) (line : List ℕ) (i' j' : ℕ) : Type 0 where
   pub taken : List ℕ
   pub hull : HullValue
-  pub taken_is : line_of bound taken ≡ Hull hull
+  pub taken_is : line_of bound taken ≡ Some (Hull hull)
   pub line_is : line ≡ taken ++ newline ∷ []
   pub merged_is : merged_lines bound (ended_lines (drop i first)) (ended_lines (drop j second)) ≡ taken ∷ merged_lines bound (ended_lines (drop i' first)) (ended_lines (drop j' second))
   pub first_rest : IsRest bound first i'

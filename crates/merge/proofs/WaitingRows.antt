@@ -2,6 +2,7 @@
 -- start; the search for them, from the start, by one line more, and at its end; what waits for a path below some lines, at the start, and after the
 -- row of one more line is put.
 -- Assumes nothing.
+use Rattle.std.specs.Prelude.{Option, Some}
 use mathlib.Core.Path.{◌≡◌, refl, sym, ap, ◌∙◌}
 use mathlib.Core.Bool.{Bool, true, false, cond, not, ◌&&◌, ◌||◌, false≢true, and-true}
 use mathlib.Core.List.{List, [], ◌∷◌, ◌++◌, append-nil}
@@ -25,11 +26,9 @@ use Rattle.stamps.proofs.Printed.{same_self, eq_of_same}
 use Rattle.compact.specs.Compact.{holds_path, kept}
 use Rattle.compact.specs.Theorems.{with_path, paths_in}
 use Rattle.compact.specs.Held.{opens_hull, path_at, line_at, lines_down, found_number, IsTable}
-use Rattle.merge.specs.Lists.{lists_of}
 use Rattle.merge.specs.Merge.{last_key, is_differing, row_of, report}
 use Rattle.merge.specs.Held.{key_at, row_with, other_of, Stored, AllWait, row_for, stored_for, without}
-use Rattle.merge.specs.declared.lists.Verdict.TheVariants.{Good}
-use Rattle.merge.proofs.Checked.{IsList, lists_good}
+use Rattle.merge.specs.Theorems.{IsList}
 use Rattle.merge.proofs.Totals.{total, weight, length-rows}
 use Rattle.merge.proofs.LastKeys.{KeptLine, kept_line, number-le, not-held, found_path, found_held, found_key}
 
@@ -97,18 +96,12 @@ unfolding path_at
 length-path_at-le s =
     by_test (opens_hull s) (λ y. rw y (omega (arith, length-take (first_place tab (drop 5 s)) (drop 5 s), length-drop 5 s))) (λ n. rw n (omega arith))
 
-module _ (bound : ℕ) (first second : List ℕ) (good : lists_of bound first second ≡ Good) where
+module _ (bound : ℕ) (first second : List ℕ) (is_first : IsList bound first) (is_second : IsList bound second) where
   abbrev ls : List (List ℕ)
   ls = ended_lines first
 
   abbrev ms : List (List ℕ)
   ms = ended_lines second
-
-  is_first : IsList bound first
-  is_first = (lists_good bound first second good).0
-
-  is_second : IsList bound second
-  is_second = (lists_good bound first second good).1
 
   -- what is found for a kept line of the first list is what is to be stored for its path
   module _ (heads links others : List ℕ) (n : ℕ) (table : IsTable bound second heads links others n) (l s : List ℕ) (line : KeptLine bound ls l s) where
@@ -179,7 +172,7 @@ module _ (bound : ℕ) (first second : List ℕ) (good : lists_of bound first se
       size_next =
           let l = line_at first (get_or places k 0) in
           let below = paths_in bound (lines_down first places k) in
-          ap (λ (x : Line). total (weight bound ls ms) (with_path l x below)) line.line_is
+          ap (λ (x : Option Line). total (weight bound ls ms) (with_path l x below)) line.line_is
           ∙ (λ i. weight bound ls ms (sym line.path_is i) + sym j.size_is i) ∙ ap (λ (m : ℕ). m + size) row_is
 
       pub row_small : r ≤ 32803
@@ -277,7 +270,7 @@ module _ (bound : ℕ) (first second : List ℕ) (good : lists_of bound first se
           by_waiting false h = rw (eq-eqb value 0 h)
 
       -- it waits no more, and the others wait as before
-      module _ (k : List ℕ) (h : HullValue) (line_is : line_of bound k ≡ Hull h) (path_is : q ≡ part k h.path) (waiting' : List ℕ) (set_is : waiting' ≡ without waiting number) where
+      module _ (k : List ℕ) (h : HullValue) (line_is : line_of bound k ≡ Some (Hull h)) (path_is : q ≡ part k h.path) (waiting' : List ℕ) (set_is : waiting' ≡ without waiting number) where
         holds_cons : (r : List ℕ) → holds_path bound r (k ∷ above) ≡ (same q r || holds_path bound r above)
         unfolding holds_path
         holds_cons r = rw (line_is, ← path_is)

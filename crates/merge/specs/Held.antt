@@ -1,36 +1,38 @@
 -- What the code holds on the way to an answer. Nothing here is needed to read what the public calls ensure. In order: the first line of a text;
 -- whose line was taken; the key of a line; the rows that wait to be put into the report.
 -- Assumes nothing.
-use Rattle.std.specs.Prelude.{ℕ, ◌+◌, ◌-◌, ◌≤◌, ◌<◌, ◌≡◌, Bool, true, false, cond, ◌||◌, List, [], ◌∷◌, ◌++◌, eqb, length, take, drop, get_or, set}
+use Rattle.std.specs.Prelude.{ℕ, ◌+◌, ◌-◌, ◌≤◌, ◌<◌, ◌≡◌, Bool, true, false, cond, ◌||◌, List, [], ◌∷◌, ◌++◌, eqb, length, take, drop, get_or, set, None, Option, Some, ℤ}
 use Rattle.text.specs.Bytes.{same}
 use Rattle.text.specs.Places.{first_place, before, has}
 use Rattle.text.specs.Lines.{tab, newline, ended_lines}
 use Rattle.stamps.specs.Lines.{line_of}
 use Rattle.stamps.specs.declared.line.Line.{Line}
-use Rattle.stamps.specs.declared.line.Line.TheVariants.{Hull, Since, Bad}
+use Rattle.stamps.specs.declared.line.Line.TheVariants.{Hull, Since}
 use Rattle.compact.specs.Held.{path_at, found_number}
 use Rattle.merge.specs.Merge.{last_key, is_differing}
-use Rattle.merge.specs.declared.lists.Next.{Next}
-use Rattle.merge.specs.declared.lists.Next.TheVariants.{Hull as NextHull, Nothing}
+use Rattle.merge.specs.declared.lists.NextHull.{NextHull}
 use Rattle.merge.specs.declared.lists.Machine.{Machine}
-use Rattle.merge.specs.declared.lists.Machine.TheVariants.{Neither, First, Second}
+use Rattle.merge.specs.declared.lists.Machine.TheVariants.{First, Second}
 
 -- ---- the first line of a text, if it is a `hull` line with its newline: its seconds, and how many bytes it has
-abbrev pub next_is : Line → ℕ → Next
-next_is (Hull h) size = NextHull h.time.seconds size
-next_is (Since x) size = Nothing
-next_is Bad size = Nothing
+abbrev pub hull_next : ℤ → ℕ → Option NextHull
+hull_next z size = Some (record { seconds = z; size = size })
 
-unfoldable pub next_of : ℕ → List ℕ → Next
-next_of bound s = cond (has newline s) (next_is (line_of bound (before newline s)) (first_place newline s + 1)) Nothing
+abbrev pub next_is : Option Line → ℕ → Option NextHull
+next_is (Some (Hull h)) size = hull_next h.time.seconds size
+next_is (Some (Since x)) size = None
+next_is None size = None
+
+unfoldable pub next_of : ℕ → List ℕ → Option NextHull
+next_of bound s = cond (has newline s) (next_is (line_of bound (before newline s)) (first_place newline s + 1)) None
 
 -- ---- the front line of what is left of a list from a place on, with its newline
 abbrev pub front_from : List ℕ → ℕ → List ℕ
 front_from list at = let s = drop at list in take (first_place newline s + 1) s
 
 -- ---- whose line was taken: the first machine's if it is the same as that one's front line
-unfoldable pub whose_of : List ℕ → List ℕ → Machine
-whose_of line first = cond (eqb (length line) 0) Neither (cond (same line first) First Second)
+unfoldable pub whose_of : List ℕ → List ℕ → Option Machine
+whose_of line first = cond (eqb (length line) 0) None (cond (same line first) (Some First) (Some Second))
 
 -- ---- the key of the `hull` line at the front of s: 16 bytes behind the tab that follows the path
 unfoldable pub key_at : List ℕ → List ℕ

@@ -5,86 +5,99 @@
 #![tactic(auto)]
 
 pub mod fronts;
+mod indexed;
 mod keys;
 pub mod lists;
 mod taking;
 
-ghost use Rattle.std.specs.Prelude.{◌≡◌};
+ghost use Rattle.std.specs.Prelude.{◌≡◌, Ok};
 ghost use Rattle.relative.specs.Relative.{max_pairs};
 ghost use Rattle.text.specs.Room.{room_after};
 ghost use Rattle.merge.specs.Lists.{lists_of};
 ghost use Rattle.merge.specs.Merge.{merged, report as report_of, merged_at, merge_of, is_written};
-ghost use Rattle.merge.specs.declared.lists.Verdict.TheVariants.{Good};
+ghost use Rattle.merge.specs.declared.MergeError.TheVariants.{Lists};
 
+use compact::table::Table;
 use compact::{lines, table};
-use lists::{Fault, Machine, Verdict};
+use indexed::IndexedList;
+use lists::ListError;
 
-// What a merge returns: how many bytes it wrote to the book and to the report; or what is wrong with
-// the list of which machine, by 12; or that a room is too short, by 8.
+// How many bytes a merge wrote to the book and to the report.
 #[derive(Clone, Copy)]
-pub enum Merged {
-    Lengths(usize, usize),
-    Faulty(Machine, Fault),
+pub struct Lengths {
+    pub book: usize,
+    pub report: usize,
+}
+
+// Why a merge is refused: a list is not good, by 12, or a room is too short, by 8.
+#[derive(Clone, Copy)]
+pub enum MergeError {
+    Lists(ListError),
     NoRoom,
 }
 
+impl From<ListError> for MergeError {
+    ghost from_gives = { λ error refused. refused ≡ Lists error };
+
+    fn from(error: ListError) -> MergeError {
+        MergeError::Lists(error)
+    }
+}
+
 // Writes the merged book to the front of `book` and the report to the front of `report`, and returns
-// both lengths. The bytes beyond them stay as they were. Lists that are not good are refused by 12,
+// both lengths. The rooms are the caller's, and their lengths stand beside them, for C and because nothing
+// here is on the heap. The bytes beyond them stay as they were. Lists that are not good are refused by 12,
 // then rooms of which either is too short by 8. A refusal changes nothing in either room.
-pub fn merge<'a>(first: &'a [u8], second: &'a [u8], book: &mut [u8], report: &mut [u8]) -> Merged
+pub fn merge(
+    first: &[u8],
+    second: &[u8],
+    book: &mut [u8],
+    report: &mut [u8],
+) -> Result<Lengths, MergeError>
     ensures value { result ≡ merge_of max_pairs first.now second.now book.old report.old }
     ensures book_after { book.new ≡ room_after (is_written (merge_of max_pairs first.now second.now book.old report.old)) (merged max_pairs first.now second.now) book.old }
     ensures report_after { report.new ≡ room_after (is_written (merge_of max_pairs first.now second.now book.old report.old)) (report_of max_pairs first.now second.now) report.old }
 {
-    let verdict = lists::check(first, second);
-    match verdict {
-        Verdict::Good => merge_good(first, second, book, report),
-        Verdict::Faulty(machine, fault) => Merged::Faulty(machine, fault),
-    }
+    lists::check(first, second)?;
+    merge_good(first, second, book, report)
 }
 
 // Merges two lists that are good. The last line of each path is found first, in each list; with them the
 // length of the report. That of the book is known.
-fn merge_good<'a>(first: &'a [u8], second: &'a [u8], book: &mut [u8], report: &mut [u8]) -> Merged
-    requires { lists_of max_pairs first.now second.now ≡ Good }
-    ensures value { result ≡ merged_at Good (merged max_pairs first.now second.now) book.old (report_of max_pairs first.now second.now) report.old }
-    ensures book_after { book.new ≡ room_after (is_written (merged_at Good (merged max_pairs first.now second.now) book.old (report_of max_pairs first.now second.now) report.old)) (merged max_pairs first.now second.now) book.old }
-    ensures report_after { report.new ≡ room_after (is_written (merged_at Good (merged max_pairs first.now second.now) book.old (report_of max_pairs first.now second.now) report.old)) (report_of max_pairs first.now second.now) report.old }
+fn merge_good(
+    first: &[u8],
+    second: &[u8],
+    book: &mut [u8],
+    report: &mut [u8],
+) -> Result<Lengths, MergeError>
+    requires { lists_of max_pairs first.now second.now ≡ Ok tt }
+    ensures value { result ≡ merged_at (Ok tt) (merged max_pairs first.now second.now) book.old (report_of max_pairs first.now second.now) report.old }
+    ensures book_after { book.new ≡ room_after (is_written (merged_at (Ok tt) (merged max_pairs first.now second.now) book.old (report_of max_pairs first.now second.now) report.old)) (merged max_pairs first.now second.now) book.old }
+    ensures report_after { report.new ≡ room_after (is_written (merged_at (Ok tt) (merged max_pairs first.now second.now) book.old (report_of max_pairs first.now second.now) report.old)) (report_of max_pairs first.now second.now) report.old }
 {
-    let mut heads = table::no_heads();
-    let mut links = table::no_numbers();
-    let mut places = table::no_numbers();
-    let found = lines::keep_lines(first, &mut heads, &mut links, &mut places);
-    let mut other_heads = table::no_heads();
-    let mut other_links = table::no_numbers();
-    let mut others = table::no_numbers();
-    lines::keep_lines(second, &mut other_heads, &mut other_links, &mut others);
+    let mut table = Table::new();
+    let kept = lines::keep_lines(first, &mut table);
+    let mut other_table = Table::new();
+    let other_kept = lines::keep_lines(second, &mut other_table);
+    let first = IndexedList {
+        list: first,
+        table: &table,
+        count: kept.count,
+    };
+    let second = IndexedList {
+        list: second,
+        table: &other_table,
+        count: other_kept.count,
+    };
     let mut waiting = table::no_numbers();
-    let count = found.count;
-    let length = keys::find_rows(
-        first,
-        &places,
-        count,
-        second,
-        &other_heads,
-        &other_links,
-        &others,
-        &mut waiting,
-    );
-    let whole = first.len() + second.len();
-    if (book.len() < whole) | (report.len() < length) {
-        return Merged::NoRoom;
+    let report_length = keys::find_rows(&first, &second, &mut waiting);
+    let book_length = first.list.len() + second.list.len();
+    if (book.len() < book_length) | (report.len() < report_length) {
+        return Err(MergeError::NoRoom);
     }
-    taking::take_lines(
-        first,
-        &heads,
-        &links,
-        &places,
-        second,
-        &others,
-        &mut waiting,
-        book,
-        report,
-    );
-    Merged::Lengths(whole, length)
+    taking::take_lines(&first, &second, &mut waiting, book, report);
+    Ok(Lengths {
+        book: book_length,
+        report: report_length,
+    })
 }

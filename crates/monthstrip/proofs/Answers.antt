@@ -1,6 +1,7 @@
 -- What writing a page answers: a refusal if the strip was refused (`written_nothing`), and otherwise the page, if it fits (`written_page`).
 -- A strip that was not refused is that of a month from 1 on (`nat_abs-pos`), and its page has at most 199 bytes (`length-page_bytes-le`).
 -- Assumes nothing.
+use Rattle.std.specs.Prelude.{Err, None, Option, Result, Some}
 use mathlib.Core.Path.{◌≡◌, refl, sym, ap, ◌∙◌}
 use mathlib.Core.List.{List, ◌++◌}
 use Prim.Native.Nat.{ℕ, ◌≤◌}
@@ -16,40 +17,37 @@ use Rattle.text.proofs.Lists.{by_test}
 use Rattle.text.proofs.Signed.{length_signed_le}
 use Rattle.calendar.specs.Civil.{year_count}
 use Rattle.calendar.specs.Dates.{month_number}
-use Rattle.calendar.specs.declared.Found.{Found}
-use Rattle.calendar.specs.declared.Found.TheVariants.{At, Nothing}
 use Rattle.time.specs.Answers.{is_written}
 use Rattle.time.specs.declared.Refusal.TheVariants.{Range}
-use Rattle.time.specs.declared.Written.{Written}
-use Rattle.time.specs.declared.Written.TheVariants.{Refused}
 use Rattle.strip.specs.Strip.{week_at, month_strip, month_in, strip_at, strip_of}
 use Rattle.strip.specs.declared.Answered.{Answered}
 use Rattle.strip.proofs.Filling.{length-along}
 use Rattle.strip.proofs.Answers.{strip_of_In, strip_iff}
 use Rattle.monthstrip.specs.Page.{rows, day_names, title, page_of, if_fits, written_for, page_bytes, page_written}
 use Rattle.monthstrip.proofs.Pages.{length-rows-le, length-title-le}
+use Rattle.time.specs.declared.Refusal.{Refusal}
 
 is_written-if_fits : (page room : List ℕ) → is_written (if_fits page room) ≡ fits page room
 is_written-if_fits page room = by_test (fits page room) (λ e. rw e) (λ e. rw e)
 
 -- by whether there is such a month
-nothing_at : (f : Found) (page room : List ℕ) → ((strip_at f).number ≡ 0 → ⊥) → Refused Range ≡ written_for f page room
-nothing_at (At m) page room h = absurd (h refl)
-nothing_at Nothing page room h = refl
+nothing_at : (f : Option ℕ) (page room : List ℕ) → ((strip_at f).number ≡ 0 → ⊥) → Err Range ≡ written_for f page room
+nothing_at (Some m) page room h = absurd (h refl)
+nothing_at None page room h = refl
 
-page_at : (f : Found) (page room : List ℕ) → (strip_at f).number ≡ 0 → if_fits page room ≡ written_for f page room
-page_at (At m) page room h = refl
-page_at Nothing page room h = absurd (omega (arith, h))
+page_at : (f : Option ℕ) (page room : List ℕ) → (strip_at f).number ≡ 0 → if_fits page room ≡ written_for f page room
+page_at (Some m) page room h = refl
+page_at None page room h = absurd (omega (arith, h))
 
 module _ (y m : ℤ) (room : List ℕ) where
   pub written_nothing : ((strip_of y m).number ≡ 0 → ⊥)
-      → (Refused Range ≡ page_written y m room) × (room ≡ room_after (is_written (page_written y m room)) (page_bytes y m) room)
+      → (Err Range ≡ page_written y m room) × (room ≡ room_after (is_written (page_written y m room)) (page_bytes y m) room)
   unfolding strip_of page_written
   written_nothing h =
-      let e : Refused Range ≡ page_written y m room = nothing_at (month_in y m) (page_bytes y m) room h in
-      (e, ap (λ (a : Written). room_after (is_written a) (page_bytes y m) room) e)
+      let e : Err Range ≡ page_written y m room = nothing_at (month_in y m) (page_bytes y m) room h in
+      (e, ap (λ (a : Result ℕ Refusal). room_after (is_written a) (page_bytes y m) room) e)
 
-  pub written_page : (p r : List ℕ) (a : Written) → (strip_of y m).number ≡ 0 → p ≡ page_bytes y m → a ≡ if_fits p room → r ≡ room_after (fits p room) p room
+  pub written_page : (p r : List ℕ) (a : Result ℕ Refusal) → (strip_of y m).number ≡ 0 → p ≡ page_bytes y m → a ≡ if_fits p room → r ≡ room_after (fits p room) p room
       → (a ≡ page_written y m room) × (r ≡ room_after (is_written (page_written y m room)) (page_bytes y m) room)
   unfolding strip_of page_written
   written_page p r a h e f g =

@@ -1,7 +1,7 @@
 -- A page that is written from its end to its front: what it holds from a place on, after each write in front of that place. In order:
--- one blank more; one day more; a row; one row more; the title; the page. Then lengths: of a row, of a month's name, of a heading, of rows, of a title.
+-- one day more; a row; one row more; the title; the page. Then lengths: of a row, of a month's name, of a heading, of rows, of a title.
 -- Assumes nothing.
-use mathlib.Core.Path.{◌≡◌, refl, ap, ◌∙◌}
+use mathlib.Core.Path.{◌≡◌, refl, ◌∙◌}
 use mathlib.Core.List.{List, [], ◌∷◌, ◌++◌, append_assoc, append-nil}
 use Prim.Native.Nat.{ℕ, zero, suc, ◌+◌, ◌-◌, ◌*◌, ◌/◌, ◌≤◌, ◌<◌}
 use native.Mathlib.Nat.{min-le_left}
@@ -21,12 +21,6 @@ use Rattle.strip.specs.declared.Strip.{Strip}
 use Rattle.monthstrip.specs.Page.{blank, cell, cells, row, rows, day_names, month_names, month_name, heading, title, page_of}
 
 -- ---- what is written
--- one blank more
-pub blank_more : (n left : ℕ) (u v w : List ℕ) → 0 < left → left ≤ n → v ≡ replicate (n - left) blank ++ u → w ≡ blank ∷ v → w ≡ replicate (n - (left - 1)) blank ++ u
-blank_more n left u v w p h e f =
-    let k : suc (n - left) ≡ n - (left - 1) = omega arith in
-    f ∙ ap (λ (x : List ℕ). blank ∷ x) e ∙ ap (λ (j : ℕ). replicate j blank ++ u) k
-
 -- no day yet, and one day more
 pub cells_none : (days u : List ℕ) → u ≡ cells (drop (length days) days) ++ u
 unfolding cells

@@ -2,7 +2,7 @@
 -- two lines above them; the page of a strip; the page of a year and a month, and what writing it answers. Weeks and days are the numbers of
 -- a strip, which are all below 100; of a larger number the last two digits would be shown. Months are counted from 1.
 -- Assumes nothing.
-use Rattle.std.specs.Prelude.{cond, List, [], ◌∷◌, ◌++◌, ℕ, ◌-◌, ◌/◌, ◌%◌, eqb, ltb, ℤ, nat_abs, length, take, drop, get_or, replicate}
+use Rattle.std.specs.Prelude.{cond, List, [], ◌∷◌, ◌++◌, ℕ, ◌-◌, ◌/◌, ◌%◌, eqb, ltb, ℤ, nat_abs, length, take, drop, get_or, replicate, Err, None, Ok, Option, Result, Some}
 use Prim.Native.Char.{code}
 use Rattle.text.specs.Bytes.{is_space}
 use Rattle.text.specs.Decimal.{digit, signed}
@@ -10,13 +10,10 @@ use Rattle.text.specs.Lines.{newline}
 use Rattle.text.specs.Quote.{bytes}
 use Rattle.text.specs.Room.{fits}
 use Rattle.text.specs.Words.{words}
-use Rattle.calendar.specs.declared.Found.{Found}
-use Rattle.calendar.specs.declared.Found.TheVariants.{At, Nothing}
 use Rattle.time.specs.declared.Refusal.TheVariants.{Range, Room}
-use Rattle.time.specs.declared.Written.{Written}
-use Rattle.time.specs.declared.Written.TheVariants.{Length, Refused}
 use Rattle.strip.specs.Strip.{month_in, strip_of}
 use Rattle.strip.specs.declared.Strip.{Strip}
+use Rattle.time.specs.declared.Refusal.{Refusal}
 
 abbrev pub blank : ℕ
 blank = code " "
@@ -76,12 +73,12 @@ unfoldable pub page_bytes : ℤ → ℤ → List ℕ
 page_bytes year month = page_of year (nat_abs month) (strip_of year month).strip
 
 -- what writing it answers: 6 if there is no such month, then 8 if the room is shorter than the page
-abbrev pub if_fits : List ℕ → List ℕ → Written
-if_fits page room = cond (fits page room) (Length (length page)) (Refused Room)
+abbrev pub if_fits : List ℕ → List ℕ → Result ℕ Refusal
+if_fits page room = cond (fits page room) (Ok (length page)) (Err Room)
 
-abbrev pub written_for : Found → List ℕ → List ℕ → Written
-written_for (At m) page room = if_fits page room
-written_for Nothing page room = Refused Range
+abbrev pub written_for : Option ℕ → List ℕ → List ℕ → Result ℕ Refusal
+written_for (Some m) page room = if_fits page room
+written_for None page room = Err Range
 
-unfoldable pub page_written : ℤ → ℤ → List ℕ → Written
+unfoldable pub page_written : ℤ → ℤ → List ℕ → Result ℕ Refusal
 page_written year month room = written_for (month_in year month) (page_bytes year month) room

@@ -1,10 +1,5 @@
 // The text that `monthstrip --help` writes. `.ci/help` tests that docs/monthstrip.1 has each of its lines.
-use crate::write_out;
-
-pub fn write_help(rt: &HostRuntime) {
-    write_out(
-        rt,
-        b"Usage: monthstrip YEAR MONTH
+pub const TEXT: &[u8] = b"Usage: monthstrip YEAR MONTH
        monthstrip -h | --help
        monthstrip --version
 
@@ -44,6 +39,4 @@ not. It is 0 unless a signal ends the program, even if a write failed, because a
 Rattle program has no other. A failed write ends the program with a message on
 standard error, so a script that has to know tests whether standard error is
 empty.
-",
-    );
-}
+";

@@ -90,9 +90,9 @@ since1970_of_day z c =
 
 -- ---- a time in range
 module _ (x : Time) (e : time_in_range x ≡ true) where
-  seconds_in_lem : In least_seconds most_seconds x.seconds
+  seconds_within : In least_seconds most_seconds x.seconds
   unfolding time_in_range seconds_in_range
-  seconds_in_lem = In_of_is_in least_seconds most_seconds x.seconds (both (seconds_in_range x.seconds) (offset_in_range x.offset) e).0
+  seconds_within = In_of_is_in least_seconds most_seconds x.seconds (both (seconds_in_range x.seconds) (offset_in_range x.offset) e).0
 
   offset_in : In least_offset most_offset x.offset
   unfolding time_in_range offset_in_range
@@ -101,15 +101,15 @@ module _ (x : Time) (e : time_in_range x ≡ true) where
   -- its local time, counted from day 0, is not below 0, so `local_seconds` loses nothing
   pub pos-local_seconds : pos (local_seconds x) ≡ x.seconds +ℤ x.offset +ℤ pos 377736739200
   pos-local_seconds =
-      pos-nat_abs-add 377736739200 (x.seconds +ℤ x.offset) (omega (ints, seconds_in_lem.low, offset_in.low, add_parts x.seconds x.offset))
+      pos-nat_abs-add 377736739200 (x.seconds +ℤ x.offset) (omega (ints, seconds_within.low, offset_in.low, add_parts x.seconds x.offset))
 
   -- its local date exists, in the years -9999 to 9999
   pub date_of_a_time_exists : IsCivil (date_at x)
   date_of_a_time_exists =
       let t : ℕ = local_seconds x in
       let s : ℤ = x.seconds +ℤ x.offset in
-      let low : 366 * 86400 ≤ t = omega (ints, pos-local_seconds, seconds_in_lem.low, offset_in.low, add_parts x.seconds x.offset, add_parts s (pos 377736739200)) in
-      let high : t < 7304850 * 86400 = omega (ints, pos-local_seconds, seconds_in_lem.high, offset_in.high, add_parts x.seconds x.offset, add_parts s (pos 377736739200)) in
+      let low : 366 * 86400 ≤ t = omega (ints, pos-local_seconds, seconds_within.low, offset_in.low, add_parts x.seconds x.offset, add_parts s (pos 377736739200)) in
+      let high : t < 7304850 * 86400 = omega (ints, pos-local_seconds, seconds_within.high, offset_in.high, add_parts x.seconds x.offset, add_parts s (pos 377736739200)) in
       rw (civil_date-sub (t / 86400)) (IsCivil-civil_at (t / 86400) (omega arith) (omega arith))
 
   -- and date, clock and offset give the time back

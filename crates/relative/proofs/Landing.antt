@@ -1,6 +1,7 @@
 -- Where steps land, as the code computes it on numbers from 0 and as the definitions say it on whole numbers. In order: landings
 -- below the range; seconds; the months before month 0; months.
 -- Assumes nothing.
+use Rattle.std.specs.Prelude.{Err, None, Option, Some}
 use mathlib.Core.Path.{◌≡◌, refl}
 use Prim.Native.Nat.{ℕ, suc, ◌+◌, ◌-◌, ◌*◌, ◌/◌, ◌%◌, ◌≤◌, ◌<◌}
 use native.Mathlib.Omega.{arith}
@@ -13,8 +14,6 @@ use Rattle.ints.proofs.Machine.{is_in_of_lt}
 use Rattle.text.proofs.Lists.{by_test}
 use Rattle.calendar.specs.Calendar.{first_day, month_of}
 use Rattle.calendar.specs.Back.{months_back, back_of}
-use Rattle.calendar.specs.declared.Found.{Found}
-use Rattle.calendar.specs.declared.Found.TheVariants.{At as Day, Nothing}
 use Rattle.calendar.proofs.Lengths.{first_day-zero}
 use Rattle.calendar.proofs.Cycle.{first_day-le, first_day-add-4800}
 use Rattle.calendar.proofs.Dates.{IsDate-month_of, IsDate-day-lt, IsDate-month-lt}
@@ -22,17 +21,16 @@ use Rattle.time.specs.Range.{least_seconds, most_seconds, seconds_in_range, sinc
 use Rattle.time.specs.declared.Time.{Time}
 use Rattle.time.specs.declared.range.Instant.{Instant}
 use Rattle.time.specs.declared.Refusal.TheVariants.{Range}
-use Rattle.time.specs.declared.Answer.TheVariants.{Refused}
 use Rattle.relative.specs.Steps.{local_seconds, month_start, months_earlier, landed}
 
 -- ---- below the range
-pub landed_of_lt : (z o : ℤ) → z <ℤ least_seconds → landed z o ≡ Refused Range
+pub landed_of_lt : (z o : ℤ) → z <ℤ least_seconds → landed z o ≡ Err Range
 unfolding landed seconds_in_range
 landed_of_lt z o h = rw (is_in_of_lt least_seconds most_seconds h)
 
 -- ---- seconds
 -- a difference below 0 is below the range
-pub seconds_far : (t m : ℕ) (o : ℤ) → t < m → landed (since1970 t -ℤ pos m) o ≡ Refused Range
+pub seconds_far : (t m : ℕ) (o : ℤ) → t < m → landed (since1970 t -ℤ pos m) o ≡ Err Range
 seconds_far t m o l =
     landed_of_lt _ o (parts-lt _ _ (omega (arith, add_parts (since1970 t) (neg_ℤ (pos m)), add_parts (pos t) (negsuc 377736739199), up_neg (pos m), dn-neg (pos m))))
 
@@ -47,8 +45,8 @@ month_start-negsuc j =
     parts-le _ _ (omega (arith, a, b, first_day-zero, add_parts (pos (first_day (4799 - j % 4800))) (neg_ℤ (pos n)), up_neg (pos n), dn-neg (pos n)))
 
 -- the local clock, counted from 0
-local_of_lem : (i : Instant) → InRange i → local_seconds (time_of i) ≡ i.seconds + i.offset - 93600
-local_of_lem i r =
+local_seconds-time_of : (i : Instant) → InRange i → local_seconds (time_of i) ≡ i.seconds + i.offset - 93600
+local_seconds-time_of i r =
     let s : ℤ = since1970 i.seconds in
     let o : ℤ = pos i.offset -ℤ pos 93600 in
     omega (arith, r.early, one-dn (s +ℤ o +ℤ pos 377736739200), nat_abs-parts (s +ℤ o +ℤ pos 377736739200), add_parts (s +ℤ o) (pos 377736739200), add_parts s o, add_parts (pos i.seconds) (negsuc 377736739199), add_parts (pos i.offset) (negsuc 93599))
@@ -60,7 +58,7 @@ months_earlier_is x n h = rw (pos-sub (month_of (local_seconds x / 86400)) n h)
 
 pub months_earlier_of_le : (i : Instant) (n : ℕ) → InRange i → let t : ℕ = i.seconds + i.offset - 93600 in n ≤ month_of (t / 86400)
     → months_earlier (time_of i) n ≡ pos (months_back t n) -ℤ pos 377736739200 -ℤ (pos i.offset -ℤ pos 93600)
-months_earlier_of_le i n r = rw (local_of_lem i r) at (months_earlier_is (time_of i) n)
+months_earlier_of_le i n r = rw (local_seconds-time_of i r) at (months_earlier_is (time_of i) n)
 
 -- if it counts none, the landing is below the range
 module _ (m : ℤ) (k c : ℕ) (o : ℤ) (h : m ≤ℤ pos 0) (a : k < 31) (b : c < 86400) (e : negsuc 93598 ≤ℤ o) where
@@ -72,21 +70,21 @@ module _ (m : ℤ) (k c : ℕ) (o : ℤ) (h : m ≤ℤ pos 0) (a : k < 31) (b : 
       let t : ℤ = s -ℤ pos 377736739200 in
       parts-lt _ _ (omega (arith, le_parts h, le_parts e, add_parts m (pos k), up-mul p 86400, dn-mul p 86400, add_parts q (pos c), add_parts s (negsuc 377736739199), add_parts t (neg_ℤ o), up_neg o, dn-neg o))
 
-pub landed_of_month-lt : (i : Instant) (n : ℕ) (z : ℤ) → InRange i → month_of ((i.seconds + i.offset - 93600) / 86400) < n → landed (months_earlier (time_of i) n) z ≡ Refused Range
+pub landed_of_month-lt : (i : Instant) (n : ℕ) (z : ℤ) → InRange i → month_of ((i.seconds + i.offset - 93600) / 86400) < n → landed (months_earlier (time_of i) n) z ≡ Err Range
 unfolding months_earlier
 landed_of_month-lt i n z r h =
     let t : ℕ = i.seconds + i.offset - 93600 in
     let d : ℕ = t / 86400 in
     let o : negsuc 93598 ≤ℤ (pos i.offset -ℤ pos 93600) = parts-le _ _ (omega (arith, r.west, add_parts (pos i.offset) (negsuc 93599))) in
     let c : t % 86400 < 86400 = omega arith in
-    landed_of_lt _ z (rw (local_of_lem i r, pos-sub-lt (month_of d) n h) (before_range (month_start (negsuc (n - suc (month_of d)))) (d - first_day (month_of d)) (t % 86400) (pos i.offset -ℤ pos 93600) (month_start-negsuc _) (IsDate-day-lt (IsDate-month_of d)) c o))
+    landed_of_lt _ z (rw (local_seconds-time_of i r, pos-sub-lt (month_of d) n h) (before_range (month_start (negsuc (n - suc (month_of d)))) (d - first_day (month_of d)) (t % 86400) (pos i.offset -ℤ pos 93600) (month_start-negsuc _) (IsDate-day-lt (IsDate-month_of d)) c o))
 
 -- the calendar's answer for n months before t: that time if so many months are counted, and nothing if not
-abbrev pub IsBack : ℕ → ℕ → Found → Type 0
-IsBack t n (Day l) = (n ≤ month_of (t / 86400)) × (l ≡ months_back t n)
-IsBack t n Nothing = month_of (t / 86400) < n
+abbrev pub IsBack : ℕ → ℕ → Option ℕ → Type 0
+IsBack t n (Some l) = (n ≤ month_of (t / 86400)) × (l ≡ months_back t n)
+IsBack t n None = month_of (t / 86400) < n
 
-pub IsBack_of_back_of : (t n : ℕ) (b : Found) → b ≡ back_of t n → IsBack t n b
+pub IsBack_of_back_of : (t n : ℕ) (b : Option ℕ) → b ≡ back_of t n → IsBack t n b
 unfolding back_of
 IsBack_of_back_of t n b e =
     rw e
@@ -107,7 +105,7 @@ since1970_local l o h =
     let z : ℤ = pos o -ℤ pos 93600 in
     parts-eq _ _ (omega (arith, add_parts (pos (l + 93600 - o)) (negsuc 377736739199), add_parts (since1970 l) (neg_ℤ z), add_parts (pos l) (negsuc 377736739199), add_parts (pos o) (negsuc 93599), up_neg z, dn-neg z))
 
-pub landed_local-lt : (l o : ℕ) (x : ℤ) → l + 93600 < o → o ≤ 187199 → landed (pos l -ℤ pos 377736739200 -ℤ (pos o -ℤ pos 93600)) x ≡ Refused Range
+pub landed_local-lt : (l o : ℕ) (x : ℤ) → l + 93600 < o → o ≤ 187199 → landed (pos l -ℤ pos 377736739200 -ℤ (pos o -ℤ pos 93600)) x ≡ Err Range
 landed_local-lt l o x h k =
     let z : ℤ = pos o -ℤ pos 93600 in
     landed_of_lt _ x (parts-lt _ _ (omega (arith, add_parts (since1970 l) (neg_ℤ z), add_parts (pos l) (negsuc 377736739199), add_parts (pos o) (negsuc 93599), up_neg z, dn-neg z)))

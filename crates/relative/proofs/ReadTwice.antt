@@ -4,6 +4,7 @@
 -- 28 (`not-back_from_day_28`), and not within a local month (`not-back_in_one-month`). Last, how such a text is typed
 -- (`OnePair_of_TypedCount`).
 -- Assumes nothing.
+use Rattle.std.specs.Prelude.{None, Ok, Some}
 use mathlib.Core.Path.{◌≡◌, refl, sym, ap, ◌∙◌}
 use mathlib.Core.Bool.{true, false, false≢true}
 use mathlib.Core.List.{List, [], ◌∷◌}
@@ -14,7 +15,6 @@ use native.Mathlib.Decide.{dec_lt}
 use lib.IntN.{ℤ, pos, negsuc, neg_ℤ, ◌+ℤ◌, ◌-ℤ◌, ◌*ℤ◌, +ℤ_idr}
 use lib.Signed.{◌≤ℤ◌}
 use Rattle.ints.proofs.Parts.{ints, add_parts, up_neg, dn-neg, up-mul, dn-mul, parts-eq, parts-le, le_parts, eq-parts, pos-sub, pos-sub-lt}
-use Rattle.text.specs.declared.number.Number.TheVariants.{Value, Nothing}
 use Rattle.text.proofs.Lists.{by_test}
 use Rattle.calendar.specs.Calendar.{first_day, month_length, month_of}
 use Rattle.calendar.proofs.Lengths.{month_length-ge, month_length-le, month_length-le_of_year}
@@ -22,8 +22,6 @@ use Rattle.calendar.proofs.Dates.{IsDate-month_of, month_of-le}
 use Rattle.calendar.proofs.Civil.{civil_date-sub}
 use Rattle.time.specs.Range.{time_in_range}
 use Rattle.time.specs.declared.Time.{Time}
-use Rattle.time.specs.declared.Now.TheVariants.{At}
-use Rattle.time.specs.declared.Answer.TheVariants.{Time as Answered}
 use Rattle.relative.specs.Words.{is}
 use Rattle.relative.specs.Pairs.{pairs_from}
 use Rattle.relative.specs.Steps.{local_seconds, month_start, months_earlier, landing}
@@ -153,7 +151,7 @@ month_of_SameMonth x y h =
 
 -- ---- one count of months or years, read at two current times
 module _ (bound : ℕ) (l : 1 ≤ bound) (s : List ℕ) (n k : ℕ) (c : OnePair s n (Months k)) where
-  answer_land : (x a : Time) → relative_of bound s (At x) ≡ Answered a → a.seconds ≡ land (local_seconds x) (n * k) x.offset
+  answer_land : (x a : Time) → relative_of bound s (Some x) ≡ Ok a → a.seconds ≡ land (local_seconds x) (n * k) x.offset
   unfolding landing
   answer_land x a e =
       let p = in_range_of_answered bound s x a e in
@@ -200,10 +198,10 @@ module _ (bound : ℕ) (l : 1 ≤ bound) (s : List ℕ) (n : ℕ) (c : OnePair s
 pub OnePair_of_TypedCount : {s : List ℕ} {n k : ℕ} → TypedCount s n k → OnePair s n (Months k)
 unfolding pairs_from
 OnePair_of_TypedCount {s} {n} {k} t =
-    let e : is t.word "ago" ≡ false = by_test (is t.word "ago") (λ e. let z : Value n ≡ Nothing = sym t.count ∙ ago_is_no_count t.word e in let i : ◌≡◌ {A = ℕ} 0 1 = cc in absurd (omega arith)) (λ e. e) in
+    let e : is t.word "ago" ≡ false = by_test (is t.word "ago") (λ e. let z : Some n ≡ None = sym t.count ∙ ago_is_no_count t.word e in let i : ◌≡◌ {A = ℕ} 0 1 = cc in absurd (omega arith)) (λ e. e) in
     record { plain = t.plain; pair = rw (t.words, e, t.count, t.months, no_more t.end t.ago) }
   where
-    no_more : (ws : List (List ℕ)) → may_be_ago ws ≡ true → pairs_from Nothing ws ≡ []
+    no_more : (ws : List (List ℕ)) → may_be_ago ws ≡ true → pairs_from None ws ≡ []
     no_more [] h = refl
     no_more (w ∷ []) h = refl
     no_more (w ∷ v ∷ ws) h = absurd (false≢true h)

@@ -2,44 +2,43 @@
 -- are left, makes up the whole text. There is one law for each way in which the scan goes on, and one for each word that the
 -- reader takes.
 -- Assumes nothing.
+use Rattle.std.specs.Prelude.{None, Result, Some}
 use mathlib.Core.Path.{◌≡◌, refl, sym, ◌∙◌}
 use mathlib.Core.Bool.{Bool, true, false, ◌&&◌, ◌||◌, and_assoc, and-true, or-false, or-true}
 use mathlib.Core.List.{List, [], ◌∷◌}
 use Prim.Native.Nat.{ℕ, ◌+◌, ◌≤◌, ◌<◌}
 use native.Mathlib.Omega.{arith}
 use lib.ListN.{length, drop}
-use Rattle.text.specs.Places.{part}
-use Rattle.text.specs.Words.{words, separator, take_word}
-use Rattle.text.specs.declared.words.Separator.TheVariants.{Mark}
+use Rattle.text.specs.Bytes.{is_alphanumeric}
+use Rattle.text.specs.Words.{words, take_word}
+use Rattle.text.specs.Places.{part, no}
 use Rattle.text.specs.declared.words.Span.{Span}
 use Rattle.text.specs.declared.words.Words.{Words}
-use Rattle.text.specs.declared.words.Taken.{Taken}
-use Rattle.text.specs.declared.words.Taken.TheVariants.{Word, Nothing}
 use Rattle.text.proofs.Taking.{words-take_word, take_word-moves}
-use Rattle.text.specs.declared.number.Number.TheVariants.{Value, Nothing as NoNumber}
-use Rattle.time.specs.declared.Answer.{Answer}
 use Rattle.relative.specs.Words.{words_of, is, count_of, unit_of}
 use Rattle.relative.specs.Pairs.{pairs_from, ago_from, known, is_known, pairs_of, ago_in}
 use Rattle.relative.specs.Steps.{step, steps}
 use Rattle.relative.specs.declared.pair.Unit.{Unit}
+use Rattle.time.specs.declared.Refusal.{Refusal}
+use Rattle.time.specs.declared.Time.{Time}
 
 -- the words that are left at a place
 abbrev pub left : List ℕ → ℕ → List (List ℕ)
-left s at = words (separator Mark) (drop at s)
+left s at = words (no is_alphanumeric) (drop at s)
 
 -- n pairs have been read, which lead from the answer x to the answer y if they are within the bound; k says whether all their units
 -- are known, a whether the mark was set; the words `rest` are left
-pub record Scanned (bound : ℕ) (s : List ℕ) (x : Answer) (n : ℕ) (k a : Bool) (y : Answer) (rest : List (List ℕ)) : Type 0 where
-  pub number : length (pairs_of s) ≡ n + length (pairs_from NoNumber rest)
-  pub units : known (pairs_of s) ≡ (k && known (pairs_from NoNumber rest))
-  pub mark : ago_in s ≡ (a || ago_from NoNumber rest)
-  pub goes : n ≤ bound → steps (pairs_of s) x ≡ steps (pairs_from NoNumber rest) y
+pub record Scanned (bound : ℕ) (s : List ℕ) (x : Result Time Refusal) (n : ℕ) (k a : Bool) (y : Result Time Refusal) (rest : List (List ℕ)) : Type 0 where
+  pub number : length (pairs_of s) ≡ n + length (pairs_from None rest)
+  pub units : known (pairs_of s) ≡ (k && known (pairs_from None rest))
+  pub mark : ago_in s ≡ (a || ago_from None rest)
+  pub goes : n ≤ bound → steps (pairs_of s) x ≡ steps (pairs_from None rest) y
 
-pub scanned_start : (bound : ℕ) (s : List ℕ) (x : Answer) → Scanned bound s x 0 true false x (left s 0)
+pub scanned_start : (bound : ℕ) (s : List ℕ) (x : Result Time Refusal) → Scanned bound s x 0 true false x (left s 0)
 unfolding words_of
 scanned_start bound s x = record { number = omega arith; units = refl; mark = refl; goes = λ l. refl }
 
-module _ {bound : ℕ} {s : List ℕ} {x : Answer} {n : ℕ} {k a : Bool} {y : Answer} where
+module _ {bound : ℕ} {s : List ℕ} {x : Result Time Refusal} {n : ℕ} {k a : Bool} {y : Result Time Refusal} where
   -- at the end
   pub all_number : Scanned bound s x n k a y [] → n ≡ length (pairs_of s)
   unfolding pairs_from
@@ -70,7 +69,7 @@ module _ {bound : ℕ} {s : List ℕ} {x : Answer} {n : ℕ} {k a : Bool} {y : A
         }
 
     -- a word that is no count
-    pub passed : Scanned bound s x n k a y (w ∷ ws) → is w "ago" ≡ false → count_of w ≡ NoNumber → Scanned bound s x n k a y ws
+    pub passed : Scanned bound s x n k a y (w ∷ ws) → is w "ago" ≡ false → count_of w ≡ None → Scanned bound s x n k a y ws
     unfolding pairs_from ago_from
     passed h e f =
         record {
@@ -86,9 +85,9 @@ module _ {bound : ℕ} {s : List ℕ} {x : Answer} {n : ℕ} {k a : Bool} {y : A
   dropped h e = record { number = h.number; units = h.units; mark = rw e at h.mark; goes = h.goes }
 
   -- a pair, with its unit, and whether it is known
-  module _ {w u : List ℕ} {ws : List (List ℕ)} {v : ℕ} {p : Unit} {b : Bool} (h : Scanned bound s x n k a y (w ∷ u ∷ ws)) (e : is w "ago" ≡ false) (f : count_of w ≡ Value v) (g : p ≡ unit_of u) (i : b ≡ is_known p) where
+  module _ {w u : List ℕ} {ws : List (List ℕ)} {v : ℕ} {p : Unit} {b : Bool} (h : Scanned bound s x n k a y (w ∷ u ∷ ws)) (e : is w "ago" ≡ false) (f : count_of w ≡ Some v) (g : p ≡ unit_of u) (i : b ≡ is_known p) where
     -- it is subtracted, and leads on
-    pub subtracted : {z : Answer} → z ≡ step (record { count = v; unit = p }) y → Scanned bound s x (n + 1) (k && b) a z ws
+    pub subtracted : {z : Result Time Refusal} → z ≡ step (record { count = v; unit = p }) y → Scanned bound s x (n + 1) (k && b) a z ws
     unfolding pairs_from ago_from known steps
     subtracted j =
         record {
@@ -110,20 +109,12 @@ module _ {bound : ℕ} {s : List ℕ} {x : Answer} {n : ℕ} {k a : Bool} {y : A
         }
 
 -- ---- the next word, as the reader takes it
-module _ (s : List ℕ) (at : ℕ) {t : Taken} (e : t ≡ take_word (separator Mark) s at) where
-  pub took_word : {bound : ℕ} {o : Answer} {n : ℕ} {k a : Bool} {y : Answer} {x : Span} {w : Words}
-      → Scanned bound s o n k a y (left s at) → t ≡ Word x w → Scanned bound s o n k a y (part s x ∷ left s w.at)
-  took_word h f = rw (words-take_word (separator Mark) s at t e, f) at h
+module _ (s : List ℕ) (at : ℕ) {x : Span} {w : Words} (e : Some (x, w) ≡ take_word (no is_alphanumeric) s at) where
+  pub left_some : left s at ≡ part s x ∷ left s w.at
+  left_some = words-take_word (no is_alphanumeric) s at _ e
 
-  pub took_none : {bound : ℕ} {o : Answer} {n : ℕ} {k a : Bool} {y : Answer} → Scanned bound s o n k a y (left s at) → t ≡ Nothing → Scanned bound s o n k a y []
-  took_none h f = rw (words-take_word (separator Mark) s at t e, f) at h
+  pub further : (at < w.at) × (w.at ≤ length s)
+  further = rw (← e) at (take_word-moves (no is_alphanumeric) s at)
 
-  pub took_second : {bound : ℕ} {o : Answer} {n : ℕ} {k a : Bool} {y : Answer} {v : List ℕ} {x : Span} {w : Words}
-      → Scanned bound s o n k a y (v ∷ left s at) → t ≡ Word x w → Scanned bound s o n k a y (v ∷ part s x ∷ left s w.at)
-  took_second h f = rw (words-take_word (separator Mark) s at t e, f) at h
-
-  pub took-last : {bound : ℕ} {o : Answer} {n : ℕ} {k a : Bool} {y : Answer} {v : List ℕ} → Scanned bound s o n k a y (v ∷ left s at) → t ≡ Nothing → Scanned bound s o n k a y (v ∷ [])
-  took-last h f = rw (words-take_word (separator Mark) s at t e, f) at h
-
-  pub further : {x : Span} {w : Words} → t ≡ Word x w → (at < w.at) × (w.at ≤ length s)
-  further f = rw (← e, f) at (take_word-moves (separator Mark) s at)
+pub left_none : (s : List ℕ) (at : ℕ) → None ≡ take_word (no is_alphanumeric) s at → left s at ≡ []
+left_none s at e = words-take_word (no is_alphanumeric) s at _ e

@@ -1,6 +1,7 @@
 -- RULES 7.1, 7.8: `now` is the current time, `yesterday` is one day, and the order of units of seconds does not matter. The
 -- contracts of `parse` and `parse_with` carry this to the code.
 -- Assumes nothing.
+use Rattle.std.specs.Prelude.{None, Ok, Option, Some}
 use mathlib.Core.Path.{◌≡◌, refl, sym, ap, ◌∙◌}
 use mathlib.Core.Bool.{true, false, ◌||◌, false≢true, and-true}
 use mathlib.Core.List.{List, [], ◌∷◌, ◌++◌}
@@ -17,15 +18,11 @@ use Rattle.text.specs.Quote.{bytes}
 use Rattle.text.specs.Trim.{trim}
 use Rattle.text.specs.Number.{digits_of, read_from, fit}
 use Rattle.text.specs.Words.{words, pieces, full}
-use Rattle.text.specs.declared.number.Number.TheVariants.{Value}
 use Rattle.text.proofs.Lists.{by_test, both, same_letters_of_length, length_of_same}
 use Rattle.time.specs.Answers.{time_at, unmarked}
 use Rattle.time.specs.Range.{least_seconds, most_seconds, seconds_in_range, offset_in_range, time_in_range}
 use Rattle.time.specs.declared.Time.{Time}
-use Rattle.time.specs.declared.Now.{Now}
-use Rattle.time.specs.declared.Now.TheVariants.{Missing, At}
 use Rattle.time.specs.declared.Refusal.TheVariants.{Range}
-use Rattle.time.specs.declared.Answer.TheVariants.{Time as Answered}
 use Rattle.relative.specs.Words.{words_of, is, spelled, count_of, singular, unit_named, unit_of}
 use Rattle.relative.specs.Pairs.{pairs_from, pairs_of, ago_in, known}
 use Rattle.relative.specs.Steps.{landing, landed, step, steps}
@@ -46,7 +43,7 @@ unfolding time_in_range
 seconds_in_range_of_time x c = (both (seconds_in_range x.seconds) (offset_in_range x.offset) c).0
 
 -- alone, trimmed, in any letter case, they are the current time, without its mark
-pub now_is_the_current_time : (bound : ℕ) (s : List ℕ) (x : Time) → ascii s ≡ true → (is (trim s) "now" || is (trim s) "today") ≡ true → time_in_range x ≡ true → relative_of bound s (At x) ≡ Answered (unmarked x)
+pub now_is_the_current_time : (bound : ℕ) (s : List ℕ) (x : Time) → ascii s ≡ true → (is (trim s) "now" || is (trim s) "today") ≡ true → time_in_range x ≡ true → relative_of bound s (Some x) ≡ Ok (unmarked x)
 unfolding relative_of named_of from steps step landing landed
 now_is_the_current_time bound s x a e c = rw (a, e, c, +ℤ_idr x.seconds, seconds_in_range_of_time x c)
 
@@ -55,22 +52,22 @@ now_is_the_current_time bound s x a e c = rw (a, e, c, +ℤ_idr x.seconds, secon
 not_is : (t : List ℕ) (u v : String) → (length (bytes u) ≡ length (bytes v) → ⊥) → is t u ≡ true → is t v ≡ false
 not_is t u v h e = same_letters_of_length t (bytes v) (λ f. h (sym (length_of_same t (bytes u) e) ∙ f))
 
-named_of-yesterday : (s : List ℕ) → is (trim s) "yesterday" ≡ true → named_of s ≡ Value 86400
+named_of-yesterday : (s : List ℕ) → is (trim s) "yesterday" ≡ true → named_of s ≡ Some 86400
 unfolding named_of
 named_of-yesterday s e =
     rw (not_is (trim s) "yesterday" "now" (λ h. omega arith) e, not_is (trim s) "yesterday" "today" (λ h. omega arith) e, e)
 
-from_day : (current : Now) → from current (record { count = 86400; unit = Seconds 1 } ∷ []) ≡ from current (record { count = 1; unit = Seconds 86400 } ∷ [])
+from_day : (current : Option Time) → from current (record { count = 86400; unit = Seconds 1 } ∷ []) ≡ from current (record { count = 1; unit = Seconds 86400 } ∷ [])
 unfolding from steps step landing
-from_day Missing = refl
-from_day (At x) = refl
+from_day None = refl
+from_day (Some x) = refl
 
 one-day : OnePair (bytes "1 day") 1 (Seconds 86400)
 unfolding ascii words_of is_alphanumeric words full pieces pairs_from same_letters lower_of count_of spelled fit digits_of read_from is_digit unit_of unit_named singular
 one-day = record { plain = refl; pair = refl }
 
 -- alone, trimmed, in any letter case, it answers as `1 day` does
-pub yesterday_is_one-day : (bound : ℕ) → 1 ≤ bound → (s : List ℕ) (current : Now) → ascii s ≡ true → is (trim s) "yesterday" ≡ true → relative_of bound s current ≡ relative_of bound (bytes "1 day") current
+pub yesterday_is_one-day : (bound : ℕ) → 1 ≤ bound → (s : List ℕ) (current : Option Time) → ascii s ≡ true → is (trim s) "yesterday" ≡ true → relative_of bound s current ≡ relative_of bound (bytes "1 day") current
 unfolding relative_of known
 yesterday_is_one-day bound l s current a e =
     let d = bytes "1 day" in
@@ -112,7 +109,7 @@ unfolding seconds_in_range
 seconds-le z e = (In_of_is_in least_seconds most_seconds z e).high
 
 -- pairs of seconds units land where their sum does: a step that leaves the range is not made good by a later one
-steps_total : (ps : List Pair) (x : Time) → all_seconds ps ≡ true → time_in_range x ≡ true → steps ps (Answered (unmarked x)) ≡ landed (x.seconds -ℤ pos (total ps)) x.offset
+steps_total : (ps : List Pair) (x : Time) → all_seconds ps ≡ true → time_in_range x ≡ true → steps ps (Ok (unmarked x)) ≡ landed (x.seconds -ℤ pos (total ps)) x.offset
 unfolding all_seconds time_in_range steps step landed total
 steps_total [] x h c = rw (+ℤ_idr x.seconds, (both (seconds_in_range x.seconds) (offset_in_range x.offset) c).0)
 steps_total (p ∷ ps) x h c =
@@ -141,15 +138,15 @@ all_seconds-append (p ∷ ps) qs h k = let l = both (is_seconds p.unit) (all_sec
 
 module _ (bound : ℕ) (x : Time) (c : time_in_range x ≡ true) where
   seconds_in_order : (a b : List ℕ) → Joinable a → Joinable b → all_seconds (pairs_of a) ≡ true → all_seconds (pairs_of b) ≡ true → length (pairs_of a) + length (pairs_of b) ≤ bound
-      → relative_of bound (joined_by_space a b) (At x) ≡ landed (x.seconds -ℤ pos (total (pairs_of a) + total (pairs_of b))) x.offset
+      → relative_of bound (joined_by_space a b) (Some x) ≡ landed (x.seconds -ℤ pos (total (pairs_of a) + total (pairs_of b))) x.offset
   unfolding from
   seconds_in_order a b v w p q h =
       let few : length (pairs_of (joined_by_space a b)) ≤ bound = rw (joined_pairs a b v) (omega (arith, length-append (pairs_of a) (pairs_of b))) in
-      answer_of_whole bound (joined_by_space a b) (At x) (joined_whole a b v w) few ∙ rw (joined_pairs a b v, c, steps_total (pairs_of a ++ pairs_of b) x (all_seconds-append (pairs_of a) (pairs_of b) p q) c, total-append (pairs_of a) (pairs_of b))
+      answer_of_whole bound (joined_by_space a b) (Some x) (joined_whole a b v w) few ∙ rw (joined_pairs a b v, c, steps_total (pairs_of a ++ pairs_of b) x (all_seconds-append (pairs_of a) (pairs_of b) p q) c, total-append (pairs_of a) (pairs_of b))
 
   -- two texts of seconds units answer alike in either order, refusals too
   pub seconds_units_commute : (a b : List ℕ) → Joinable a → Joinable b → all_seconds (pairs_of a) ≡ true → all_seconds (pairs_of b) ≡ true → length (pairs_of a) + length (pairs_of b) ≤ bound
-      → relative_of bound (joined_by_space a b) (At x) ≡ relative_of bound (joined_by_space b a) (At x)
+      → relative_of bound (joined_by_space a b) (Some x) ≡ relative_of bound (joined_by_space b a) (Some x)
   seconds_units_commute a b v w p q h =
       let e : total (pairs_of a) + total (pairs_of b) ≡ total (pairs_of b) + total (pairs_of a) = omega arith in
       seconds_in_order a b v w p q h ∙ ap (λ (n : ℕ). landed (x.seconds -ℤ pos n) x.offset) e ∙ sym (seconds_in_order b a w v q p (omega arith))

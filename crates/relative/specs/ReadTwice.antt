@@ -1,12 +1,9 @@
 -- RULES 12.11: one count of months or years, read at two current times: how it is typed, and what is asked of the two times. No
 -- contract cites these.
 -- Assumes nothing.
-use Rattle.std.specs.Prelude.{ℕ, ◌-◌, ◌≡◌, Bool, true, false, List, [], ◌∷◌, pos, ◌-ℤ◌, ◌≤ℤ◌}
+use Rattle.std.specs.Prelude.{ℕ, ◌-◌, ◌≡◌, Bool, true, false, List, [], ◌∷◌, pos, ◌-ℤ◌, ◌≤ℤ◌, Ok, Some}
 use Rattle.text.specs.Bytes.{ascii}
-use Rattle.text.specs.declared.number.Number.TheVariants.{Value}
 use Rattle.time.specs.declared.Time.{Time}
-use Rattle.time.specs.declared.Now.TheVariants.{At}
-use Rattle.time.specs.declared.Answer.TheVariants.{Time as Answered}
 use Rattle.relative.specs.Words.{words_of, is, count_of, unit_of}
 use Rattle.relative.specs.Relative.{relative_of}
 use Rattle.relative.specs.Months.{date_at, month_at, month_days}
@@ -25,7 +22,7 @@ pub record TypedCount (s : List ℕ) (n k : ℕ) : Type 0 where
   pub unit : List ℕ
   pub end : List (List ℕ)
   pub words : words_of s ≡ word ∷ unit ∷ end
-  pub count : count_of word ≡ Value n
+  pub count : count_of word ≡ Some n
   pub months : unit_of unit ≡ Months k
   pub ago : may_be_ago end ≡ true
 
@@ -33,8 +30,8 @@ pub record TypedCount (s : List ℕ) (n k : ℕ) : Type 0 where
 pub record ReadTwice (bound : ℕ) (s : List ℕ) (x y a b : Time) : Type 0 where
   pub same_offset : x.offset ≡ y.offset
   pub in_order : x.seconds ≤ℤ y.seconds
-  pub first : relative_of bound s (At x) ≡ Answered a
-  pub second : relative_of bound s (At y) ≡ Answered b
+  pub first : relative_of bound s (Some x) ≡ Ok a
+  pub second : relative_of bound s (Some y) ≡ Ok b
 
 -- two times in the same local month
 pub record SameMonth (x y : Time) : Type 0 where

@@ -3,17 +3,16 @@
 -- are counted as in the calendar: day 0 is 1 January of year -10000, in month 0; 1 January 1970 is day 4,371,953 and begins at
 -- second 377,736,739,200.
 -- Assumes nothing.
-use Rattle.std.specs.Prelude.{ℕ, ◌+◌, ◌-◌, ◌*◌, ◌/◌, ◌%◌, cond, List, [], ◌∷◌, ℤ, pos, negsuc, nat_abs, ◌+ℤ◌, ◌-ℤ◌, ◌*ℤ◌}
+use Rattle.std.specs.Prelude.{ℕ, ◌+◌, ◌-◌, ◌*◌, ◌/◌, ◌%◌, cond, List, [], ◌∷◌, ℤ, pos, negsuc, nat_abs, ◌+ℤ◌, ◌-ℤ◌, ◌*ℤ◌, Err, Ok, Result}
 use Rattle.calendar.specs.Calendar.{first_day, month_of}
 use Rattle.time.specs.Answers.{time_at}
 use Rattle.time.specs.Range.{seconds_in_range}
 use Rattle.time.specs.declared.Time.{Time}
 use Rattle.time.specs.declared.Refusal.TheVariants.{Range}
-use Rattle.time.specs.declared.Answer.{Answer}
-use Rattle.time.specs.declared.Answer.TheVariants.{Time as At, Refused}
 use Rattle.relative.specs.declared.pair.Unit.{Unit}
 use Rattle.relative.specs.declared.pair.Unit.TheVariants.{Seconds, Months, Unknown}
 use Rattle.relative.specs.declared.pair.Pair.{Pair}
+use Rattle.time.specs.declared.Refusal.{Refusal}
 
 -- the local time of a time in range, in seconds from day 0
 abbrev pub local_seconds : Time → ℕ
@@ -42,15 +41,15 @@ landing x n (Months k) = months_earlier x (n * k)
 landing x n Unknown = x.seconds -ℤ pos n
 
 -- a landing at an offset, or refusal 6 exactly when it is out of range
-unfoldable pub landed : ℤ → ℤ → Answer
-landed z o = cond (seconds_in_range z) (At (time_at z o)) (Refused Range)
+unfoldable pub landed : ℤ → ℤ → Result Time Refusal
+landed z o = cond (seconds_in_range z) (Ok (time_at z o)) (Err Range)
 
 -- one pair; the offset stays, and so does a refusal
-unfoldable pub step : Pair → Answer → Answer
-step p (At x) = landed (landing x p.count p.unit) x.offset
-step p (Refused r) = Refused r
+unfoldable pub step : Pair → Result Time Refusal → Result Time Refusal
+step p (Ok x) = landed (landing x p.count p.unit) x.offset
+step p (Err r) = Err r
 
 -- all pairs in order, each from where the one before landed
-unfoldable pub steps : List Pair → Answer → Answer
+unfoldable pub steps : List Pair → Result Time Refusal → Result Time Refusal
 steps [] a = a
 steps (p ∷ ps) a = steps ps (step p a)

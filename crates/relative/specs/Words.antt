@@ -1,35 +1,39 @@
 -- RULES 7.2, 7.3, 7.5: words, and what a single word means: a count or a unit. A word is the list of its bytes.
 -- Assumes nothing.
-use Rattle.std.specs.Prelude.{ℕ, ◌-◌, ◌^◌, Bool, cond, List, [], ◌∷◌, eqb, length, get_or, take}
+use Rattle.std.specs.Prelude.{ℕ, ◌-◌, ◌^◌, Bool, cond, List, [], ◌∷◌, eqb, length, get_or, take, None, Option, Some}
 use Prim.Native.Char.{code}
 use Prim.Native.String.{String}
 use Rattle.text.specs.Bytes.{lower_of, same_letters}
 use Rattle.text.specs.Quote.{bytes}
-use Rattle.text.specs.Words.{words, separator}
+use Rattle.text.specs.Words.{words}
 use Rattle.text.specs.Number.{digits_of, fit}
-use Rattle.text.specs.declared.words.Separator.TheVariants.{Mark}
-use Rattle.text.specs.declared.number.Number.{Number}
-use Rattle.text.specs.declared.number.Number.TheVariants.{Value}
+use Rattle.text.specs.Bytes.{is_alphanumeric}
+use Rattle.text.specs.Places.{no}
 use Rattle.relative.specs.declared.pair.Unit.{Unit}
 use Rattle.relative.specs.declared.pair.Unit.TheVariants.{Seconds, Months, Unknown}
 
 -- words: runs of ASCII letters and digits
 unfoldable pub words_of : List ℕ → List (List ℕ)
-words_of s = words (separator Mark) s
+words_of s = words (no is_alphanumeric) s
 
 -- a word, compared in any letter case
 abbrev pub is : List ℕ → String → Bool
 is w name = same_letters w (bytes name)
 
+-- the value of the first name that the word is
+abbrev pub value_among : {T : Type 0} → List (List ℕ × T) → List ℕ → Option T
+value_among [] w = None
+value_among (n ∷ ns) w = cond (same_letters w n.0) (Some n.1) (value_among ns w)
+
 -- `one` to `ten`, or `last`, which is 1; otherwise the other number
-unfoldable pub spelled : List ℕ → Number → Number
+unfoldable pub spelled : List ℕ → Option ℕ → Option ℕ
 spelled w other =
-    cond (is w "one") (Value 1) (cond (is w "two") (Value 2) (cond (is w "three") (Value 3) (cond (is w "four") (Value 4)
-    (cond (is w "five") (Value 5) (cond (is w "six") (Value 6) (cond (is w "seven") (Value 7) (cond (is w "eight") (Value 8)
-    (cond (is w "nine") (Value 9) (cond (is w "ten") (Value 10) (cond (is w "last") (Value 1) other))))))))))
+    cond (is w "one") (Some 1) (cond (is w "two") (Some 2) (cond (is w "three") (Some 3) (cond (is w "four") (Some 4)
+    (cond (is w "five") (Some 5) (cond (is w "six") (Some 6) (cond (is w "seven") (Some 7) (cond (is w "eight") (Some 8)
+    (cond (is w "nine") (Some 9) (cond (is w "ten") (Some 10) (cond (is w "last") (Some 1) other))))))))))
 
 -- a count: one of these names, or digits that fit 64 signed bits
-unfoldable pub count_of : List ℕ → Number
+unfoldable pub count_of : List ℕ → Option ℕ
 count_of w = spelled w (fit (2 ^ 63 - 1) (digits_of w))
 
 -- a unit loses one final `s` or `S`

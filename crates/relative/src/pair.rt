@@ -7,6 +7,7 @@ pub const MAX_PAIRS: usize = 256;
 
 // One of a unit is this many seconds off the time, or this many months off the month count. An
 // unknown unit counts as seconds if the text has the mark `ago`, and otherwise the text is refused.
+// It is no Option: a pair of an unknown unit is subtracted too, as one of a second.
 #[derive(Clone, Copy)]
 pub enum Unit {
     Seconds(u64),
@@ -20,12 +21,9 @@ pub struct Pair {
     pub unit: Unit,
 }
 
-pub fn is_known(u: Unit) -> bool
-    ensures { result ≡ is_known u }
+// Whether a unit is one of the seven that have names.
+pub fn is_known(unit: Unit) -> bool
+    ensures { result ≡ is_known unit }
 {
-    match u {
-        Unit::Seconds(_) => true,
-        Unit::Months(_) => true,
-        Unit::Unknown => false,
-    }
+    !matches!(unit, Unit::Unknown)
 }

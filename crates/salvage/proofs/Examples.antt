@@ -1,5 +1,6 @@
 -- Examples of salvages (RULES 16), worked out by hand and computed, as one table: each is under the words that it shows.
 -- Assumes nothing.
+use Rattle.std.specs.Prelude.{Result, Ok, Err}
 use Prim.Native.Nat.{ℕ}
 use Prim.Native.String.{String}
 use mathlib.Core.Path.{◌≡◌, refl}
@@ -15,6 +16,7 @@ use Rattle.text.specs.Number.{read_from, digits_of, unsigned_of, signed_of, fit,
 use Rattle.text.specs.Lines.{tab, newline, ended_lines, taken_by, left}
 use Rattle.time.specs.Header.{header_bytes, header_sign, sign_byte, whole_minutes}
 use Rattle.time.specs.Range.{seconds_in_range, offset_in_range, time_in_range}
+use Rattle.time.specs.declared.Refusal.{Refusal}
 use Rattle.time.specs.declared.Refusal.TheVariants.{Room}
 use Rattle.header.specs.Offset.{five_or_seven, field_of, last_field, fields_of, offset_of}
 use Rattle.header.specs.Header.{seconds_of, header_offset, header_of_words, header_of}
@@ -27,7 +29,6 @@ use Rattle.stamps.specs.Lines.{every, is_path_byte, is_path, is_hex_digit, is_ke
 use Rattle.stamps.specs.Copies.{joined}
 use Rattle.salvage.specs.Salvage.{good_lines, salvaged, bad_lines, dropped, last_number, rows_of, report, salvage_of, last_bad}
 use Rattle.salvage.specs.declared.Salvaged.{Salvaged}
-use Rattle.salvage.specs.declared.Salvaged.TheVariants.{Lengths, Refused}
 
 -- a line of `hull` by its path, without its newline and with it. One whose path is a letter has 31 bytes without it
 abbrev hull : String → List ℕ
@@ -48,7 +49,7 @@ row number size = bytes number ++ tab ∷ bytes size ++ newline ∷ []
 -- call returns and the number of the last bad line that it gives
 data Example : Type 0 where
   salvages : List ℕ → List ℕ → List ℕ → ℕ → Example
-  returns : List ℕ → ℕ → ℕ → Salvaged → ℕ → Example
+  returns : List ℕ → ℕ → ℕ → Result Salvaged Refusal → ℕ → Example
 
 abbrev AllRight : List Example → Type 0
 AllRight [] = Unit {0}
@@ -75,12 +76,12 @@ examples =
     -- a leading zero
     ∷ salvages (hull "a" ++ 13 ∷ newline ∷ line "b" ++ since "05") (line "b") (row "1" "32" ++ row "3" "14") 3
     -- both rooms are just long enough
-    ∷ returns (line "a" ++ newline ∷ []) 32 4 (Lengths 32 4 2) 2
+    ∷ returns (line "a" ++ newline ∷ []) 32 4 (Ok (record { length = 32; report_length = 4; last_bad = 2 })) 2
     -- a room for the report or for the lines that is one byte too short: nothing is written, and there is no last bad line
-    ∷ returns (line "a" ++ newline ∷ []) 32 3 (Refused Room) 0
-    ∷ returns (line "a" ++ newline ∷ []) 31 4 (Refused Room) 0
+    ∷ returns (line "a" ++ newline ∷ []) 32 3 (Err Room) 0
+    ∷ returns (line "a" ++ newline ∷ []) 31 4 (Err Room) 0
     -- a good book needs no room for the report
-    ∷ returns (line "a") 32 0 (Lengths 32 0 0) 0
+    ∷ returns (line "a") 32 0 (Ok (record { length = 32; report_length = 0; last_bad = 0 })) 0
     ∷ []
 
 examples_hold : AllRight examples

@@ -2,6 +2,7 @@
 -- the same (`good_book_comes_out_the_same`); the report is empty exactly if the book is good (`empty_report_iff_good`); salvaging
 -- twice is salvaging once (`salvaging_twice_is_once`, `second_report_is_empty`).
 -- Assumes nothing.
+use Rattle.std.specs.Prelude.{Ok}
 use mathlib.Core.Path.{◌≡◌, refl, sym, ap, ◌∙◌}
 use mathlib.Core.Bool.{true}
 use mathlib.Core.Logic.{◌↔◌}
@@ -16,7 +17,6 @@ use Rattle.stamps.specs.Lines.{line_of, is_good}
 use Rattle.stamps.specs.Book.{max_book, judged, check_of}
 use Rattle.stamps.specs.Copies.{joined}
 use Rattle.stamps.specs.Theorems.{are_good}
-use Rattle.stamps.specs.declared.book.Checked.TheVariants.{Good}
 use Rattle.stamps.proofs.Listings.{good_book_iff, lacking_of_good, ended_lines-joined, left_joined}
 use Rattle.stamps.proofs.WholeTexts.{joined_of_whole}
 use Rattle.salvage.specs.Salvage.{good_lines, salvaged, Dropped, bad_lines, bad_piece, dropped, last_number, row_of, rows_of, report}
@@ -49,7 +49,7 @@ module _ (bound : ℕ) where
   good_salvaged book = ap (λ (ls : List (List ℕ)). are_good (judged bound ls)) (ended_lines-salvaged book) ∙ good-good_lines (ended_lines book)
 
   -- what is kept of a book is a good book
-  pub salvaged_is_a_good_book : (book : List ℕ) → length book ≤ max_book → check_of bound (salvaged bound book) ≡ Good
+  pub salvaged_is_a_good_book : (book : List ℕ) → length book ≤ max_book → check_of bound (salvaged bound book) ≡ Ok tt
   salvaged_is_a_good_book book h = (good_book_iff bound (salvaged bound book)).1 (omega (arith, length-salvaged-le bound book), left_salvaged book, good_salvaged book)
 
   -- ---- good lines
@@ -81,7 +81,7 @@ module _ (bound : ℕ) where
   report_of_none book e = ap (λ (ds : List Dropped). joined (rows_of ds)) e
 
   -- a good book comes out as it was, with an empty report and no last bad line
-  pub good_book_comes_out_the_same : (book : List ℕ) → check_of bound book ≡ Good → (salvaged bound book ≡ book) × (report bound book ≡ []) × (last_number 0 (dropped bound book) ≡ 0)
+  pub good_book_comes_out_the_same : (book : List ℕ) → check_of bound book ≡ Ok tt → (salvaged bound book ≡ book) × (report bound book ≡ []) × (last_number 0 (dropped bound book) ≡ 0)
   unfolding last_number
   good_book_comes_out_the_same book e =
       let p = (good_book_iff bound book).0 e in
@@ -121,7 +121,7 @@ module _ (bound : ℕ) where
       (whole_of_bad_piece (suc (length ls)) (left book) (omega arith), good_of_bad_lines 1 ls (omega arith))
 
   -- the report is empty exactly if the book is good
-  pub empty_report_iff_good : (book : List ℕ) → length book ≤ max_book → (report bound book ≡ []) ↔ (check_of bound book ≡ Good)
+  pub empty_report_iff_good : (book : List ℕ) → length book ≤ max_book → (report bound book ≡ []) ↔ (check_of bound book ≡ Ok tt)
   empty_report_iff_good book h = (
     λ e. let p = good_of_none book (none_of_report book e) in (good_book_iff bound book).1 (h, p.0, p.1),
     λ e. (good_book_comes_out_the_same bound book e).1,

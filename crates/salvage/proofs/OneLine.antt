@@ -3,6 +3,7 @@
 -- the report has the number of the last bad line (`last-number_is_the-last-row`), which is 0 exactly if the report is empty
 -- (`last-number-zero_iff`).
 -- Assumes nothing.
+use Rattle.std.specs.Prelude.{Ok}
 use mathlib.Core.Path.{◌≡◌, refl, sym, ap, ◌∙◌}
 use mathlib.Core.Bool.{false}
 use mathlib.Core.Logic.{◌↔◌}
@@ -17,7 +18,6 @@ use Rattle.text.proofs.Lists.{by_test}
 use Rattle.stamps.specs.Lines.{line_of, is_good}
 use Rattle.stamps.specs.Book.{check_of}
 use Rattle.stamps.specs.Copies.{joined}
-use Rattle.stamps.specs.declared.book.Checked.TheVariants.{Good}
 use Rattle.stamps.proofs.Books.{ended_lines-open, left_open}
 use Rattle.stamps.proofs.Fields.{field-append}
 use Rattle.stamps.proofs.Listings.{good_book_iff, ended_lines-line, left_joined}
@@ -76,23 +76,23 @@ module _ (bound : ℕ) where
       ∙ append_assoc (bad_lines bound 1 ls) (bad_lines bound (suc (length ls)) ms) (bad_piece (suc (length ls) + length ms) (left b))
 
   -- ---- below a good book
-  module _ (above : List ℕ) (good : check_of bound above ≡ Good) where
+  module _ (above : List ℕ) (good : check_of bound above ≡ Ok tt) where
     salvaged_below : (t : List ℕ) → salvaged bound (above ++ t) ≡ above ++ salvaged bound t
     salvaged_below t =
         let p = (good_book_iff bound above).0 good in
         salvaged-append above t p.1 ∙ ap (λ (s : List ℕ). s ++ salvaged bound t) (salvaged_of_good bound above p.1 p.2)
 
-    dropped_below_lem : (t : List ℕ)
+    dropped_behind : (t : List ℕ)
         → dropped bound (above ++ t)
         ≡ bad_lines bound (suc (length (ended_lines above))) (ended_lines t) ++ bad_piece (suc (length (ended_lines above)) + length (ended_lines t)) (left t)
-    dropped_below_lem t =
+    dropped_behind t =
         let p = (good_book_iff bound above).0 good in
         let n = suc (length (ended_lines above)) in
         dropped-append above t p.1
         ∙ ap (λ (ds : List Dropped). ds ++ (bad_lines bound n (ended_lines t) ++ bad_piece (n + length (ended_lines t)) (left t))) (bad_lines_of_good bound 1 (ended_lines above) p.2)
 
   -- ---- a bad line on top of a good book
-  module _ (l below : List ℕ) (good : check_of bound below ≡ Good) (one_line : has newline l ≡ false) (bad : is_good (line_of bound l) ≡ false) where
+  module _ (l below : List ℕ) (good : check_of bound below ≡ Ok tt) (one_line : has newline l ≡ false) (bad : is_good (line_of bound l) ≡ false) where
     salvaged_bad_line : salvaged bound (l ++ newline ∷ below) ≡ below
     unfolding salvaged good_lines
     salvaged_bad_line =
@@ -111,7 +111,7 @@ module _ (bound : ℕ) where
     whole_bad_line = left_line l below one_line ∙ ((good_book_iff bound below).0 good).1
 
   -- a book whose damage is one line loses that line alone
-  pub one-bad_line : (above below l : List ℕ) → check_of bound above ≡ Good → check_of bound below ≡ Good → has newline l ≡ false → is_good (line_of bound l) ≡ false
+  pub one-bad_line : (above below l : List ℕ) → check_of bound above ≡ Ok tt → check_of bound below ≡ Ok tt → has newline l ≡ false → is_good (line_of bound l) ≡ false
       → (salvaged bound (above ++ l ++ newline ∷ below) ≡ above ++ below)
       × (dropped bound (above ++ l ++ newline ∷ below) ≡ record { number = suc (length (ended_lines above)); size = length l } ∷ [])
   one-bad_line above below l a b h bad =
@@ -119,12 +119,12 @@ module _ (bound : ℕ) where
       let n = suc (length (ended_lines above)) in
       let book : above ++ l ++ newline ∷ below ≡ above ++ t = append_assoc above l (newline ∷ below) in (
         ap (salvaged bound) book ∙ salvaged_below above a t ∙ ap (λ (s : List ℕ). above ++ s) (salvaged_bad_line l below b h bad),
-        ap (dropped bound) book ∙ dropped_below_lem above a t
+        ap (dropped bound) book ∙ dropped_behind above a t
             ∙ (λ i. bad_lines-bad_line l below b h bad n i ++ bad_piece (n + length (ended_lines t)) (whole_bad_line l below b h bad i)),
       )
 
   -- a good book with a last piece behind it loses that piece alone, also if the bytes of the piece would be a good line
-  pub one-bad_piece : (above piece : List ℕ) → check_of bound above ≡ Good → has newline piece ≡ false → 0 < length piece
+  pub one-bad_piece : (above piece : List ℕ) → check_of bound above ≡ Ok tt → has newline piece ≡ false → 0 < length piece
       → (salvaged bound (above ++ piece) ≡ above) × (dropped bound (above ++ piece) ≡ record { number = suc (length (ended_lines above)); size = length piece } ∷ [])
   unfolding salvaged good_lines bad_lines joined
   one-bad_piece above piece a h some =
@@ -132,7 +132,7 @@ module _ (bound : ℕ) where
       let e : n + 0 ≡ n = omega arith in
       let none : ended_lines piece ≡ [] = ended_lines-open piece h in (
         salvaged_below above a piece ∙ ap (λ (ls : List (List ℕ)). above ++ joined (good_lines bound ls)) none ∙ append-nil above,
-        dropped_below_lem above a piece
+        dropped_behind above a piece
             ∙ (λ i. bad_lines bound n (none i) ++ bad_piece (n + length (none i)) (left_open piece none i))
             ∙ ap (λ (m : ℕ). bad_piece m piece) e
             ∙ bad_piece-some n piece some,

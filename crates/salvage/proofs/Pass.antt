@@ -39,7 +39,7 @@ pub record Taking (bound : ℕ) (book room₀ report₀ room report' : List ℕ)
   pub kept_is : salvaged bound book ≡ kept ++ salvaged bound (drop at book)
   pub rows_are : report bound book ≡ rows ++ row_bytes (dropped_below bound lines (drop at book))
   pub last_is : last_number 0 (dropped bound book) ≡ last_number last (dropped_below bound lines (drop at book))
-  pub in_room_lem : Fitting kept room₀ room size
+  pub in_room : Fitting kept room₀ room size
   pub in_report : Fitting rows report₀ report' told
   pub fewer : lines ≤ at
   pub within : at ≤ length book + 1
@@ -61,7 +61,7 @@ taking_start bound book room report' = record {
   kept_is = refl;
   rows_are = ap row_bytes (dropped_below_none bound book);
   last_is = ap (last_number 0) (dropped_below_none bound book);
-  in_room_lem = fitting_start room;
+  in_room = fitting_start room;
   in_report = fitting_start report';
   fewer = omega arith;
   within = omega arith;
@@ -84,7 +84,7 @@ module _ {bound : ℕ} {book room₀ report₀ room report' : List ℕ} {at numb
       taken bound book room₀ report₀ room report' t.kept t.rows size told last
       (t.kept_is ∙ ap (λ (x : List ℕ). t.kept ++ x) (ap (salvaged bound) d ∙ salvaged-nil bound) ∙ append-nil t.kept)
       (t.rows_are ∙ ap (λ (ds : List Dropped). t.rows ++ row_bytes ds) none ∙ append-nil t.rows)
-      (t.last_is ∙ ap (last_number last) none) t.in_room_lem t.in_report
+      (t.last_is ∙ ap (last_number last) none) t.in_room t.in_report
 
   pub rows_have_room : length book ≤ max_book → told ≤ 8 * max_book
   rows_have_room h =
@@ -101,7 +101,7 @@ module _ {bound : ℕ} {book room₀ report₀ room report' : List ℕ} {at numb
     run_has_room part part-is h =
         omega (
           arith,
-          t.in_room_lem.place,
+          t.in_room.place,
           length-append t.kept (take end s),
           length-append (t.kept ++ take end s) (salvaged bound (behind (drop end s))),
           ap length rest_kept,
@@ -126,10 +126,17 @@ module _ {bound : ℕ} {book room₀ report₀ room report' : List ℕ} {at numb
     pub bad_within : number + (bad - 1) ≤ 2 * length book + 2
     bad_within = omega (arith, t.number_is, t.fewer, t.within, run_within bound bad end s bad-is end_is, ap length is, length-drop at book)
 
+    -- both are small, as the book is
+    pub place_small : length book ≤ max_book → at < length book → (tail : List ℕ) → tail ≡ drop end s → (line : ℕ) → line ≡ first_place newline tail → at + (end + line + 1) ≤ max_book + 1
+    place_small h some tail tail_is line line_is = omega (arith, line_within some tail tail_is line line_is)
+
+    pub number_small : length book ≤ max_book → number + (bad - 1) ≤ 2 * max_book + 2
+    number_small h = omega (arith, bad_within)
+
     module _ (part : List ℕ) (part-is : part ≡ take end s) (room' : List ℕ) (size' : ℕ) (put : room' ≡ put_if_room part size room) (size_is : size' ≡ size + length part) where
       pub kept_fits : Fitting (t.kept ++ take end s) room₀ room' size'
       kept_fits =
-          fitting-append (take end s) t.in_room_lem (put ∙ ap (λ (x : List ℕ). put_if_room x size room) part-is) (size_is ∙ ap (λ (x : List ℕ). size + length x) part-is)
+          fitting-append (take end s) t.in_room (put ∙ ap (λ (x : List ℕ). put_if_room x size room) part-is) (size_is ∙ ap (λ (x : List ℕ). size + length x) part-is)
 
       -- all that is left is good
       pub taking_whole : bad ≡ 0 → Taken bound book room₀ report₀ room' report' size' told last
@@ -171,7 +178,7 @@ module _ {bound : ℕ} {book room₀ report₀ room report' : List ℕ} {at numb
               rows_are = t.rows_are ∙ ap (λ (ds : List Dropped). t.rows ++ row_bytes ds) below ∙ ap (λ (x : List ℕ). t.rows ++ x) (row_bytes-cons number' line after)
                   ∙ sym (append_assoc t.rows (ended_row number' line) (row_bytes after));
               last_is = t.last_is ∙ ap (last_number last) below;
-              in_room_lem = kept_fits;
+              in_room = kept_fits;
               in_report = fitting-append (ended_row number' line) t.in_report row told_is;
               fewer = omega (arith, inside.1, t.fewer);
               within = line_within some tail tail_is line line-of-tail;

@@ -1,6 +1,7 @@
 -- A run of good lines and the line behind it. In order: the lines that are dropped below others; the first line of a text that holds a newline, of
 -- one that holds none, and of the empty text; a text by the run of good lines at its front (`run`); the same by what `good_run_with` answers; the first line that is dropped is the one that a check names (`check_names_the_first_row`).
 -- Assumes nothing.
+use Rattle.std.specs.Prelude.{None, Option, Some}
 use mathlib.Core.Path.{◌≡◌, refl, sym, ap, ◌∙◌}
 use mathlib.Core.Bool.{true, false, ◌&&◌, and-true}
 use mathlib.Core.List.{List, [], ◌∷◌, ◌++◌, append_assoc}
@@ -14,21 +15,18 @@ use lib.ListN.{length, take, drop, length-drop, drop_of_length-le}
 use lib.Seq.{take-suc, take-add, drop-drop, drop-nil, take-nil}
 use Rattle.text.specs.Lines.{newline, ended_lines, taken_by, left}
 use Rattle.text.specs.Places.{first_place, before, has}
-use Rattle.text.specs.declared.number.Number.{Number}
-use Rattle.text.specs.declared.number.Number.TheVariants.{Value, Nothing}
 use Rattle.text.proofs.FirstPlaces.{get_or-first_place}
 use Rattle.text.proofs.Lists.{by_test, both}
 use Rattle.text.proofs.Runs.{run-le-length}
 use Rattle.time.specs.declared.Refusal.TheVariants.{Book}
-use Rattle.stamps.specs.Book.{lines_in, first_bad, bad_number, good_front, check_of}
+use Rattle.stamps.specs.Book.{lines_in, first_bad, bad_number, good_front, check_of, refused_at, checked_line}
 use Rattle.stamps.specs.Copies.{joined}
 use Rattle.stamps.specs.Lines.{line_of, is_good}
 use Rattle.stamps.specs.declared.line.Line.{Line}
-use Rattle.stamps.specs.declared.line.Line.TheVariants.{Hull, Since, Bad}
+use Rattle.stamps.specs.declared.line.Line.TheVariants.{Hull, Since}
 use Rattle.stamps.proofs.Books.{behind, first_place-lt, ended_lines-first, left_first, ended_lines-open, left_open, ended_lines-nil, lines_in-open, first_bad-first, first_bad-stop, good_front-first, good_front-stop, first_bad_of_zero, taken_by-le}
-use Rattle.stamps.specs.declared.book.Checked.TheVariants.{Refused}
 use Rattle.stamps.proofs.Fields.{length_before}
-use Rattle.stamps.proofs.Listings.{checked_at_lem, check_of-within, le-max_book_of_check_of}
+use Rattle.stamps.proofs.Listings.{some_of_checked_at, check_of-within, le-max_book_of_check_of}
 use Rattle.salvage.specs.Salvage.{Dropped, good_lines, salvaged, bad_lines, bad_piece, dropped}
 use Rattle.salvage.proofs.OneLine.{bad_piece-some}
 
@@ -131,14 +129,14 @@ abbrev pub front_size : ℕ → List ℕ → ℕ
 front_size bound s = taken_by (good_front bound (ended_lines s))
 
 -- the lines that are dropped of t, whose first line is bad and has this number
-abbrev rows_at : ℕ → Number → List ℕ → List Dropped
-rows_at bound Nothing t = []
-rows_at bound (Value v) t = drop_at v (first_place newline t) ∷ dropped_below bound v (behind t)
+abbrev rows_at : ℕ → Option ℕ → List ℕ → List Dropped
+rows_at bound None t = []
+rows_at bound (Some v) t = drop_at v (first_place newline t) ∷ dropped_below bound v (behind t)
 
 record Run (bound m : ℕ) (s : List ℕ) : Type 0 where
   kept : salvaged bound s ≡ take (front_size bound s) s ++ salvaged bound (behind (drop (front_size bound s) s))
   lost : dropped_below bound m s ≡ rows_at bound (first_bad (suc m) (lines_in bound s)) (drop (front_size bound s) s)
-  whole : first_bad (suc m) (lines_in bound s) ≡ Nothing → drop (front_size bound s) s ≡ []
+  whole : first_bad (suc m) (lines_in bound s) ≡ None → drop (front_size bound s) s ≡ []
   few : bad_number (first_bad (suc m) (lines_in bound s)) ≤ suc (m + front_size bound s)
 
 module _ (bound : ℕ) where
@@ -150,7 +148,7 @@ module _ (bound : ℕ) where
       record {
         kept = salvaged_bad bound s some e ∙ ap (λ (n : ℕ). take n s ++ salvaged bound (behind (drop n s))) (sym z);
         lost = below_bad bound s some e m ∙ (λ i. rows_at bound (sym v i) (drop (sym z i) s));
-        whole = λ n. let c : Value (suc m) ≡ Nothing = sym v ∙ n in absurd (omega (arith, ap bad_number c));
+        whole = λ n. let c : Some (suc m) ≡ None = sym v ∙ n in absurd (omega (arith, ap bad_number c));
         few = omega (arith, ap bad_number v);
       }
 
@@ -174,12 +172,12 @@ module _ (bound : ℕ) where
   run-nil : (m : ℕ) (s : List ℕ) → length s ≤ 0 → Run bound m s
   unfolding good_front taken_by first_bad
   run-nil m [] h =
-      let v : first_bad (suc m) (lines_in bound []) ≡ Nothing = ap (first_bad (suc m)) (lines_in-open bound [] ended_lines-nil) in
+      let v : first_bad (suc m) (lines_in bound []) ≡ None = ap (first_bad (suc m)) (lines_in-open bound [] ended_lines-nil) in
       let n = front_size bound [] in
       let d : behind (drop n []) ≡ [] = ap behind (drop-nil {A = ℕ} n) ∙ behind-nil in
       record {
         kept = (λ i. sym (take-nil {A = ℕ} n) i ++ salvaged bound (sym d i));
-        lost = below-nil bound m [] refl ∙ ap (λ (x : Number). rows_at bound x (drop n [])) (sym v);
+        lost = below-nil bound m [] refl ∙ ap (λ (x : Option ℕ). rows_at bound x (drop n [])) (sym v);
         whole = λ e. drop-nil n;
         few = omega (arith, ap bad_number v);
       }
@@ -197,16 +195,16 @@ module _ (bound : ℕ) where
 
 -- ---- the same by what `good_run_with` answers
 -- a number of a line, where m lines more stand above
-abbrev shifted : ℕ → Number → Number
-shifted m (Value v) = Value (m + v)
-shifted m Nothing = Nothing
+abbrev shifted : ℕ → Option ℕ → Option ℕ
+shifted m (Some v) = Some (m + v)
+shifted m None = None
 
-first_bad-below : (m n : ℕ) (ls : List Line) → first_bad (m + n) ls ≡ shifted m (first_bad n ls)
+first_bad-below : (m n : ℕ) (ls : List (Option Line)) → first_bad (m + n) ls ≡ shifted m (first_bad n ls)
 unfolding first_bad
 first_bad-below m n [] = refl
-first_bad-below m n (Hull h ∷ ls) = ap (λ (k : ℕ). first_bad k ls) (sym (add-suc m n)) ∙ first_bad-below m (suc n) ls
-first_bad-below m n (Since x ∷ ls) = ap (λ (k : ℕ). first_bad k ls) (sym (add-suc m n)) ∙ first_bad-below m (suc n) ls
-first_bad-below m n (Bad ∷ ls) = refl
+first_bad-below m n (Some (Hull h) ∷ ls) = ap (λ (k : ℕ). first_bad k ls) (sym (add-suc m n)) ∙ first_bad-below m (suc n) ls
+first_bad-below m n (Some (Since x) ∷ ls) = ap (λ (k : ℕ). first_bad k ls) (sym (add-suc m n)) ∙ first_bad-below m (suc n) ls
+first_bad-below m n (None ∷ ls) = refl
 
 taken_by-good_front : (bound : ℕ) (ls : List (List ℕ)) → taken_by (good_front bound ls) ≤ taken_by ls
 unfolding good_front taken_by
@@ -221,34 +219,34 @@ module _ (bound bad end : ℕ) (s : List ℕ) (bad-is : bad ≡ bad_number (firs
   run_kept = (run bound (length s) 0 s (omega arith)).kept ∙ (λ i. take (sym end_is i) s ++ salvaged bound (behind (drop (sym end_is i) s)))
 
   module _ (m : ℕ) where
-    first_bad_lem : first_bad (suc m) (lines_in bound s) ≡ shifted m (first_bad 1 (lines_in bound s))
-    first_bad_lem = ap (λ (k : ℕ). first_bad k (lines_in bound s)) (sym (add-one m)) ∙ first_bad-below m 1 (lines_in bound s)
+    first_bad_shifted : first_bad (suc m) (lines_in bound s) ≡ shifted m (first_bad 1 (lines_in bound s))
+    first_bad_shifted = ap (λ (k : ℕ). first_bad k (lines_in bound s)) (sym (add-one m)) ∙ first_bad-below m 1 (lines_in bound s)
 
     -- no line is bad, so nothing follows the run
     pub run_whole : bad ≡ 0 → (behind (drop end s) ≡ []) × (dropped_below bound m s ≡ [])
     run_whole z =
         let r = run bound (length s) m s (omega arith) in
-        let v : first_bad (suc m) (lines_in bound s) ≡ Nothing = first_bad_lem ∙ ap (shifted m) (first_bad_of_zero (lines_in bound s) (sym bad-is ∙ z)) in
-        (ap (λ (k : ℕ). behind (drop k s)) end_is ∙ ap behind (r.whole v) ∙ behind-nil, r.lost ∙ ap (λ (x : Number). rows_at bound x (drop (front_size bound s) s)) v)
+        let v : first_bad (suc m) (lines_in bound s) ≡ None = first_bad_shifted ∙ ap (shifted m) (first_bad_of_zero (lines_in bound s) (sym bad-is ∙ z)) in
+        (ap (λ (k : ℕ). behind (drop k s)) end_is ∙ ap behind (r.whole v) ∙ behind-nil, r.lost ∙ ap (λ (x : Option ℕ). rows_at bound x (drop (front_size bound s) s)) v)
 
     -- the line behind the run is bad
     pub run_then_bad : (bad ≡ 0 → ⊥) → dropped_below bound m s ≡ drop_at (m + bad) (first_place newline (drop end s)) ∷ dropped_below bound (m + bad) (behind (drop end s))
     run_then_bad n =
-        let v : first_bad (suc m) (lines_in bound s) ≡ Value (m + bad) = first_bad_lem ∙ told (first_bad 1 (lines_in bound s)) bad-is in
+        let v : first_bad (suc m) (lines_in bound s) ≡ Some (m + bad) = first_bad_shifted ∙ told (first_bad 1 (lines_in bound s)) bad-is in
         (run bound (length s) m s (omega arith)).lost ∙ (λ i. rows_at bound (v i) (drop (sym end_is i) s))
       where
-        told : (x : Number) → bad ≡ bad_number x → shifted m x ≡ Value (m + bad)
-        told (Value w) e = ap (λ (k : ℕ). Value (m + k)) (sym e)
-        told Nothing e = absurd (n e)
+        told : (x : Option ℕ) → bad ≡ bad_number x → shifted m x ≡ Some (m + bad)
+        told (Some w) e = ap (λ (k : ℕ). Some (m + k)) (sym e)
+        told None e = absurd (n e)
 
 -- ---- a check that refuses a book names the line of the first row
-pub check_names_the_first_row : (bound n : ℕ) (book : List ℕ) → check_of bound book ≡ Refused Book (suc n)
+pub check_names_the_first_row : (bound n : ℕ) (book : List ℕ) → check_of bound book ≡ refused_at Book (suc n)
     → (size : ℕ) × (below : List Dropped) × (dropped bound book ≡ drop_at (suc n) size ∷ below)
 check_names_the_first_row bound n book e =
-    let h = le-max_book_of_check_of bound book (Refused Book (suc n)) e (λ q. let z : 0 ≡ suc n = cc in omega arith) in
-    let v : first_bad 1 (lines_in bound book) ≡ Value (suc n) = checked_at_lem (first_bad 1 (lines_in bound book)) (suc n) (sym (check_of-within bound book h) ∙ e) in
+    let h = le-max_book_of_check_of bound book (refused_at Book (suc n)) e (λ q. let z : 0 ≡ suc n = ap checked_line q in omega arith) in
+    let v : first_bad 1 (lines_in bound book) ≡ Some (suc n) = some_of_checked_at (first_bad 1 (lines_in bound book)) (suc n) (sym (check_of-within bound book h) ∙ e) in
     let tail = drop (front_size bound book) book in (
       first_place newline tail,
       dropped_below bound (suc n) (behind tail),
-      dropped_below_none bound book ∙ (run bound (length book) 0 book (omega arith)).lost ∙ ap (λ (x : Number). rows_at bound x tail) v,
+      dropped_below_none bound book ∙ (run bound (length book) 0 book (omega arith)).lost ∙ ap (λ (x : Option ℕ). rows_at bound x tail) v,
     )

@@ -1,17 +1,17 @@
 -- Salvaging a damaged book (RULES 16): its good lines are copied, and the bad ones are reported. Each line is judged alone, as in a book
 -- (RULES 13.2 to 13.7). Lines are counted from 1.
 -- Assumes nothing.
-use Rattle.std.specs.Prelude.{ℕ, suc, Bool, true, false, cond, List, [], ◌∷◌, ◌++◌, leb, length}
+use Rattle.std.specs.Prelude.{ℕ, suc, Bool, true, false, cond, List, [], ◌∷◌, ◌++◌, leb, length, Result, Ok, Err}
 use Rattle.text.specs.Decimal.{decimal}
 use Rattle.text.specs.Lines.{tab, ended_lines, left}
 use Rattle.text.specs.Room.{fit_both}
 use Rattle.time.specs.Answers.{number_of}
+use Rattle.time.specs.declared.Refusal.{Refusal}
 use Rattle.time.specs.declared.Refusal.TheVariants.{Room, Book}
 use Rattle.stamps.specs.Lines.{line_of, is_good}
 use Rattle.stamps.specs.Book.{max_book}
 use Rattle.stamps.specs.Copies.{joined}
 use Rattle.salvage.specs.declared.Salvaged.{Salvaged}
-use Rattle.salvage.specs.declared.Salvaged.TheVariants.{Lengths, Refused}
 
 -- ---- the lines that are kept
 unfoldable pub good_lines : ℕ → List (List ℕ) → List (List ℕ)
@@ -58,31 +58,31 @@ report bound book = joined (rows_of (dropped bound book))
 
 -- ---- what the call returns: how many bytes the good lines and the report have, and the number of the last bad line, which is 0 if there is
 -- none. A book that is too long is refused by 10, then a room that is too short by 8
-abbrev pub salvaged_at : List ℕ → List ℕ → List ℕ → List ℕ → ℕ → Salvaged
-salvaged_at bytes room more other last = cond (fit_both bytes room more other) (Lengths (length bytes) (length more) last) (Refused Room)
+abbrev pub salvaged_at : List ℕ → List ℕ → List ℕ → List ℕ → ℕ → Result Salvaged Refusal
+salvaged_at bytes room more other last = cond (fit_both bytes room more other) (Ok (record { length = length bytes; report_length = length more; last_bad = last })) (Err Room)
 
-unfoldable pub salvage_of : ℕ → List ℕ → List ℕ → List ℕ → Salvaged
+unfoldable pub salvage_of : ℕ → List ℕ → List ℕ → List ℕ → Result Salvaged Refusal
 salvage_of bound book room other =
-    cond (leb (length book) max_book) (salvaged_at (salvaged bound book) room (report bound book) other (last_number 0 (dropped bound book))) (Refused Book)
+    cond (leb (length book) max_book) (salvaged_at (salvaged bound book) room (report bound book) other (last_number 0 (dropped bound book))) (Err Book)
 
 -- whether it wrote both
-abbrev pub is_written : Salvaged → Bool
-is_written (Lengths n k last) = true
-is_written (Refused r) = false
+abbrev pub is_written : Result Salvaged Refusal → Bool
+is_written (Ok s) = true
+is_written (Err r) = false
 
 -- the number that it returns, how many bytes it wrote to each room, and the number of the last bad line: 0 where there is none
-abbrev pub salvaged_number : Salvaged → ℕ
-salvaged_number (Lengths n k last) = 0
-salvaged_number (Refused r) = number_of r
+abbrev pub salvaged_number : Result Salvaged Refusal → ℕ
+salvaged_number (Ok s) = 0
+salvaged_number (Err r) = number_of r
 
-abbrev pub book_length : Salvaged → ℕ
-book_length (Lengths n k last) = n
-book_length (Refused r) = 0
+abbrev pub book_length : Result Salvaged Refusal → ℕ
+book_length (Ok s) = s.length
+book_length (Err r) = 0
 
-abbrev pub report_length : Salvaged → ℕ
-report_length (Lengths n k last) = k
-report_length (Refused r) = 0
+abbrev pub report_length : Result Salvaged Refusal → ℕ
+report_length (Ok s) = s.report_length
+report_length (Err r) = 0
 
-abbrev pub last_bad : Salvaged → ℕ
-last_bad (Lengths n k last) = last
-last_bad (Refused r) = 0
+abbrev pub last_bad : Result Salvaged Refusal → ℕ
+last_bad (Ok s) = s.last_bad
+last_bad (Err r) = 0

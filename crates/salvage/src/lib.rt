@@ -7,12 +7,12 @@ mod lines;
 mod rows;
 
 ghost use Rattle.std.specs.Prelude.{◌≡◌, ◌&&◌, ◌≤◌, leb, length};
-ghost use Rattle.calendar.specs.Table.{IsMonths};
 ghost use Rattle.relative.specs.Relative.{max_pairs};
 ghost use Rattle.text.specs.Room.{room_after};
 ghost use Rattle.stamps.specs.Book.{max_book};
 ghost use Rattle.salvage.specs.Salvage.{salvaged, report as report_of, salvage_of, is_written};
 
+use calendar::MonthTable;
 use stamps::book as stamped;
 use time::Refusal;
 
@@ -20,46 +20,49 @@ use time::Refusal;
 // byte with its newline, has a number of at most five digits, a tab, `0` and a newline.
 pub const REPORT_PER_BYTE: usize = 8;
 
-// What a salvage returns: how many bytes it wrote to the room and to the report, and the number, from 1,
-// of the last bad line, or 0 if there is none; or why it wrote nothing.
+// What a salvage wrote: how many bytes to the room and to the report, and the number, from 1, of the last
+// bad line. It is 0 if there is none, as the definition `last_bad` says and as C is told.
 #[derive(Clone, Copy)]
-pub enum Salvaged {
-    Lengths(usize, usize, usize),
-    Refused(Refusal),
+pub struct Salvaged {
+    pub length: usize,
+    pub report_length: usize,
+    pub last_bad: usize,
 }
 
 // Writes the good lines of a book to the front of `room`, and the report on its bad lines to the front of
 // `report`. The bytes beyond them stay as they were. A book that is too long is refused by 10, then rooms
 // of which either is too short by 8. A refusal changes nothing in either room.
-pub fn salvage(book: &[u8], room: &mut [u8], report: &mut [u8]) -> Salvaged
+pub fn salvage(book: &[u8], room: &mut [u8], report: &mut [u8]) -> Result<Salvaged, Refusal>
     ensures value { result ≡ salvage_of max_pairs book.now room.old report.old }
     ensures room_after { room.new ≡ room_after (is_written (salvage_of max_pairs book.now room.old report.old)) (salvaged max_pairs book.now) room.old }
     ensures report_after { report.new ≡ room_after (is_written (salvage_of max_pairs book.now room.old report.old)) (report_of max_pairs book.now) report.old }
 {
-    salvage_with(&[], book, room, report)
+    salvage_with(MonthTable::none(), book, room, report)
 }
 
 // The same with a table of months, for many calls: the whole table, or any leading part of it.
-pub fn salvage_with(months: &[u32], book: &[u8], room: &mut [u8], report: &mut [u8]) -> Salvaged
-    requires { IsMonths months.now }
+pub fn salvage_with(
+    months: MonthTable,
+    book: &[u8],
+    room: &mut [u8],
+    report: &mut [u8],
+) -> Result<Salvaged, Refusal>
     ensures value { result ≡ salvage_of max_pairs book.now room.old report.old }
     ensures room_after { room.new ≡ room_after (is_written (salvage_of max_pairs book.now room.old report.old)) (salvaged max_pairs book.now) room.old }
     ensures report_after { report.new ≡ room_after (is_written (salvage_of max_pairs book.now room.old report.old)) (report_of max_pairs book.now) report.old }
 {
     if stamped::MAX_BOOK < book.len() {
-        return Salvaged::Refused(Refusal::Book);
+        return Err(Refusal::Book);
     }
-    if are_long_enough(months, book, room.len(), report.len()) {
-        let found = lines::take_lines(months, book, room, report);
-        return Salvaged::Lengths(found.length, found.told, found.last);
+    if !are_long_enough(months, book, room.len(), report.len()) {
+        return Err(Refusal::Room);
     }
-    Salvaged::Refused(Refusal::Room)
+    Ok(lines::take_lines(months, book, room, report))
 }
 
 // Whether two rooms of these lengths are long enough. If they are for any book as long as this one, no
 // line needs to be judged for that.
-fn are_long_enough(months: &[u32], book: &[u8], room: usize, report: usize) -> bool
-    requires months { IsMonths months.now }
+fn are_long_enough(months: MonthTable, book: &[u8], room: usize, report: usize) -> bool
     requires book_len_bound { length book.now ≤ max_book }
     ensures { result ≡ (leb (length (salvaged max_pairs book.now)) room && leb (length (report_of max_pairs book.now)) report) }
 {
@@ -67,5 +70,5 @@ fn are_long_enough(months: &[u32], book: &[u8], room: usize, report: usize) -> b
         return true;
     }
     let found = lines::take_lines(months, book, &mut [], &mut []);
-    (found.length <= room) & (found.told <= report)
+    (found.length <= room) & (found.report_length <= report)
 }

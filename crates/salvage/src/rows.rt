@@ -6,16 +6,16 @@ ghost use Rattle.salvage.specs.Held.{put_if_room, ended_row, row_before};
 use text::decimal;
 
 // Puts the row of a bad line from place `at` on if there is room for it, and returns the place past it.
+// The number and the length stay two numbers: a struct of them would be made here, for these three calls.
 pub fn put_row_if_room(n: usize, size: usize, at: usize, report: &mut [u8]) -> usize
     requires { at ≤ 8 * max_book }
     ensures value { result ≡ at + length (ended_row n size) }
     ensures report_after { report.new ≡ put_if_room (ended_row n size) at report.old }
 {
     let end = at + row_length(n, size);
-    if report.len() < end {
-        return end;
+    if end <= report.len() {
+        put_row(n, size, end, report);
     }
-    put_row(n, size, end, report);
     end
 }
 

@@ -1,11 +1,6 @@
 // The text that `stampcompact --help` writes. `.ci/help` tests that docs/stampcompact.1 has each of its
 // lines.
-use crate::write_out;
-
-pub fn write_help(rt: &HostRuntime) {
-    write_out(
-        rt,
-        b"Usage: stampcompact BOOK [OUT]
+pub const TEXT: &[u8] = b"Usage: stampcompact BOOK [OUT]
        stampcompact -h | --help
        stampcompact --version
 
@@ -48,6 +43,4 @@ were before and after. Any other message says why nothing was compacted: the
 number of the first bad line, that the book is too long, or what failed. The
 exit status does not say it. It is 0 unless a signal ends the program, because a
 Rattle program has no other.
-",
-    );
-}
+";

@@ -12,94 +12,48 @@
 mod compacting;
 mod help;
 
-use std::env::FillError;
-use std::rt::Env;
-use streams::{MAX_ARGUMENT, has_argument, say};
-use text::bytes;
+use streams::{MAX_ARGUMENT, Reported, Tool, is_option, is_standard};
+
+// Whatever fails has been reported when `run` returns.
+fn main(rt: HostRuntime) {
+    let _ = run(&Tool::new(&rt, b"stampcompact"));
+}
 
 // Only the first argument may be an option.
-fn main(rt: HostRuntime) {
+//
+// `stampmerge` and `stampsalvage` begin alike. One function for the three would take the room, three texts
+// and what to go on with: no plainer than these lines.
+fn run(tool: &Tool) -> Result<(), Reported> {
     let mut room = [0u8; MAX_ARGUMENT];
-    match rt.arg(1, &mut room) {
-        Ok(n) => answer(&rt, &room[..n]),
-        Err(FillError::NotPresent) => complain(&rt, b"no book"),
-        Err(FillError::TooLong) => complain(&rt, b"argument of more than 4,096 bytes"),
-    }
-}
-
-fn answer(rt: &HostRuntime, word: &[u8]) {
-    if bytes::same(word, b"-h") | bytes::same(word, b"--help") {
-        help::write_help(rt);
-        return;
-    }
-    if bytes::same(word, b"--version") {
-        write_out(rt, b"stampcompact 0.1.0\n");
-        return;
+    let Some(n) = tool.argument(1, &mut room)? else {
+        return Err(tool.complain(b"no book"));
+    };
+    let word = &room[..n];
+    if tool.answers(word, help::TEXT, b"stampcompact 0.1.0\n")? {
+        return Ok(());
     }
     if is_option(word) {
-        complain_of(rt, b"unknown option", word);
-        return;
+        return Err(tool.complain_of(b"unknown option", word));
     }
-    compact_book(rt, word);
+    compact_book(tool, word)
 }
 
-// Compacts the book in a file, or on standard input if its name is `-`.
-fn compact_book(rt: &HostRuntime, book: &[u8]) {
-    if has_argument(rt, 3) {
-        complain(rt, b"more than BOOK and OUT");
-        return;
+// Compacts the book in a file, or on standard input if its name is `-`, to the file that the second
+// argument names. If there is no second argument, the book is replaced.
+fn compact_book(tool: &Tool, book: &[u8]) -> Result<(), Reported> {
+    if tool.has_argument(3) {
+        return Err(tool.complain(b"more than BOOK and OUT"));
     }
-    if has_argument(rt, 2) {
-        compact_to_second(rt, book);
-        return;
-    }
-    if bytes::same(book, b"-") {
-        complain(rt, b"OUT is missing: standard input cannot be replaced");
-        return;
-    }
-    compacting::compact_in_place(rt, book);
-}
-
-// Compacts a book to the file that the second argument names.
-fn compact_to_second(rt: &HostRuntime, book: &[u8]) {
     let mut room = [0u8; MAX_ARGUMENT];
-    let Ok(n) = rt.arg(2, &mut room) else {
-        complain(rt, b"argument of more than 4,096 bytes");
-        return;
+    let Some(n) = tool.argument(2, &mut room)? else {
+        if is_standard(book) {
+            return Err(tool.complain(b"OUT is missing: standard input cannot be replaced"));
+        }
+        return compacting::compact_in_place(tool, book);
     };
     let out = &room[..n];
     if is_option(out) {
-        complain_of(rt, b"option behind BOOK", out);
-        return;
+        return Err(tool.complain_of(b"option behind BOOK", out));
     }
-    compacting::compact_to(rt, book, out);
-}
-
-// Whether an argument is an option: `-` alone names standard input or output.
-fn is_option(word: &[u8]) -> bool {
-    if word.len() < 2 {
-        return false;
-    }
-    word[0] == b'-'
-}
-
-// Says what is wrong with the arguments.
-fn complain(rt: &HostRuntime, what: &[u8]) {
-    say(rt, b"stampcompact: ");
-    say(rt, what);
-    say(rt, b"; try --help\n");
-}
-
-// Says what is wrong with one argument.
-fn complain_of(rt: &HostRuntime, what: &[u8], word: &[u8]) {
-    say(rt, b"stampcompact: ");
-    say(rt, what);
-    say(rt, b" '");
-    say(rt, word);
-    say(rt, b"'; try --help\n");
-}
-
-// Writes all of `s` to standard output and returns true, or false if a write fails.
-fn write_out(rt: &HostRuntime, s: &[u8]) -> bool {
-    streams::write_out(rt, b"stampcompact", s)
+    compacting::compact_to(tool, book, out)
 }

@@ -1,10 +1,5 @@
 // The text that `stamplist --help` writes. `.ci/help` tests that docs/stamplist.1 has each of its lines.
-use crate::write_out;
-
-pub fn write_help(rt: &HostRuntime) {
-    write_out(
-        rt,
-        b"Usage: stamplist [BOOK]
+pub const TEXT: &[u8] = b"Usage: stamplist [BOOK]
        stamplist -h | --help
        stamplist --version
 
@@ -49,6 +44,4 @@ It is 0 unless a signal ends the program, even if a read or a write failed,
 because a Rattle program has no other. A failed read or write ends the program
 with a message on standard error, so a script that has to know tests whether
 standard error is empty.
-",
-    );
-}
+";

@@ -12,55 +12,28 @@
 mod help;
 mod listing;
 
-use std::env::FillError;
-use std::rt::Env;
-use streams::{MAX_ARGUMENT, say};
-use text::bytes;
+use streams::{MAX_ARGUMENT, Reported, Tool, is_option};
+
+// Whatever fails has been reported when `run` returns.
+fn main(rt: HostRuntime) {
+    let _ = run(&Tool::new(&rt, b"stamplist"));
+}
 
 // Only the first argument may be an option.
-fn main(rt: HostRuntime) {
+fn run(tool: &Tool) -> Result<(), Reported> {
     let mut room = [0u8; MAX_ARGUMENT];
-    match rt.arg(1, &mut room) {
-        Ok(n) => answer(&rt, &room[..n]),
-        Err(FillError::NotPresent) => listing::list_input(&rt),
-        Err(FillError::TooLong) => say(
-            &rt,
-            b"stamplist: argument of more than 4,096 bytes; try --help\n",
-        ),
-    }
-}
-
-fn answer(rt: &HostRuntime, word: &[u8]) {
-    if bytes::same(word, b"-h") | bytes::same(word, b"--help") {
-        help::write_help(rt);
-        return;
-    }
-    if bytes::same(word, b"--version") {
-        write_out(rt, b"stamplist 0.1.0\n");
-        return;
+    let Some(n) = tool.argument(1, &mut room)? else {
+        return listing::list_file(tool, b"-");
+    };
+    let word = &room[..n];
+    if tool.answers(word, help::TEXT, b"stamplist 0.1.0\n")? {
+        return Ok(());
     }
     if is_option(word) {
-        say(rt, b"stamplist: unknown option '");
-        say(rt, word);
-        say(rt, b"'; try --help\n");
-        return;
+        return Err(tool.complain_of(b"unknown option", word));
     }
-    if streams::has_argument(rt, 2) {
-        say(rt, b"stamplist: more than one book; try --help\n");
-        return;
+    if tool.has_argument(2) {
+        return Err(tool.complain(b"more than one book"));
     }
-    listing::list_file(rt, word);
-}
-
-// Whether an argument is an option: `-` alone names standard input.
-fn is_option(word: &[u8]) -> bool {
-    if word.len() < 2 {
-        return false;
-    }
-    word[0] == b'-'
-}
-
-// Writes all of `s` to standard output and returns true, or false if a write fails.
-fn write_out(rt: &HostRuntime, s: &[u8]) -> bool {
-    streams::write_out(rt, b"stamplist", s)
+    listing::list_file(tool, word)
 }

@@ -1,13 +1,13 @@
 -- What `stampmerge` says of a list that is at fault (RULES 15.8), as bytes. In order: the path of the list; what is wrong with it; the
 -- message. A path is an argument as it was given. Lines are counted from 1.
 -- Assumes nothing.
-use Rattle.std.specs.Prelude.{ℕ, List, [], ◌∷◌, ◌++◌, take}
+use Rattle.std.specs.Prelude.{ℕ, List, ◌∷◌, ◌++◌, take}
 use Prim.Native.Char.{code}
 use Rattle.text.specs.Decimal.{decimal}
 use Rattle.text.specs.Quote.{bytes}
 use Rattle.streams.specs.Names.{name_of}
 use Rattle.merge.specs.declared.lists.Machine.{Machine}
-use Rattle.merge.specs.declared.lists.Machine.TheVariants.{Neither, First, Second}
+use Rattle.merge.specs.declared.lists.Machine.TheVariants.{First, Second}
 use Rattle.merge.specs.declared.lists.Fault.{Fault}
 use Rattle.merge.specs.declared.lists.Fault.TheVariants.{TooLong, BadLine, StepBack}
 
@@ -15,7 +15,6 @@ use Rattle.merge.specs.declared.lists.Fault.TheVariants.{TooLong, BadLine, StepB
 abbrev pub path_of : Machine → List ℕ → List ℕ → List ℕ
 path_of First first second = first
 path_of Second first second = second
-path_of Neither first second = []
 
 -- what is wrong at a line: the number of the line, with a colon in front, and these words
 abbrev pub at_line : ℕ → List ℕ → List ℕ

@@ -1,10 +1,5 @@
 // The text that `stampmerge --help` writes. `.ci/help` tests that docs/stampmerge.1 has each of its lines.
-use crate::write_out;
-
-pub fn write_help(rt: &HostRuntime) {
-    write_out(
-        rt,
-        b"Usage: stampmerge FIRST SECOND OUT
+pub const TEXT: &[u8] = b"Usage: stampmerge FIRST SECOND OUT
        stampmerge -h | --help
        stampmerge --version
 
@@ -51,6 +46,4 @@ Keys that differ are no failure. Any other message on standard error says why
 nothing was merged: the first line that is bad or is earlier than the line above
 it, a list that is too long, or what failed. The exit status does not say it. It
 is 0 unless a signal ends the program, because a Rattle program has no other.
-",
-    );
-}
+";

@@ -14,117 +14,65 @@ mod help;
 mod merging;
 mod messages;
 
-use std::env::FillError;
-use std::rt::Env;
-use streams::{MAX_ARGUMENT, has_argument, say};
-use text::bytes;
+use streams::{MAX_ARGUMENT, Reported, Tool, is_option, is_standard};
+
+// Whatever fails has been reported when `run` returns.
+fn main(rt: HostRuntime) {
+    let _ = run(&Tool::new(&rt, b"stampmerge"));
+}
 
 // Only the first argument may be an option.
-fn main(rt: HostRuntime) {
+fn run(tool: &Tool) -> Result<(), Reported> {
     let mut room = [0u8; MAX_ARGUMENT];
-    match rt.arg(1, &mut room) {
-        Ok(n) => answer(&rt, &room[..n]),
-        Err(FillError::NotPresent) => complain(&rt, b"FIRST, SECOND and OUT are missing"),
-        Err(FillError::TooLong) => complain_of_length(&rt),
-    }
-}
-
-fn answer(rt: &HostRuntime, word: &[u8]) {
-    if bytes::same(word, b"-h") | bytes::same(word, b"--help") {
-        help::write_help(rt);
-        return;
-    }
-    if bytes::same(word, b"--version") {
-        write_out(rt, b"stampmerge 0.1.0\n");
-        return;
+    let Some(n) = tool.argument(1, &mut room)? else {
+        return Err(tool.complain(b"FIRST, SECOND and OUT are missing"));
+    };
+    let word = &room[..n];
+    if tool.answers(word, help::TEXT, b"stampmerge 0.1.0\n")? {
+        return Ok(());
     }
     if is_option(word) {
-        complain_of(rt, b"unknown option", word);
-        return;
+        return Err(tool.complain_of(b"unknown option", word));
     }
-    take_first(rt, word);
+    take_second(tool, word)
 }
 
-// Goes on with the first list, if there are two more arguments.
-fn take_first(rt: &HostRuntime, first: &[u8]) {
-    if !has_argument(rt, 2) {
-        complain(rt, b"SECOND and OUT are missing");
-        return;
+// Goes on with both lists, if there are two more arguments. Standard input can be read only once.
+fn take_second(tool: &Tool, first: &[u8]) -> Result<(), Reported> {
+    if !tool.has_argument(2) {
+        return Err(tool.complain(b"SECOND and OUT are missing"));
     }
-    if !has_argument(rt, 3) {
-        complain(rt, b"OUT is missing");
-        return;
+    if !tool.has_argument(3) {
+        return Err(tool.complain(b"OUT is missing"));
     }
-    if has_argument(rt, 4) {
-        complain(rt, b"more than FIRST, SECOND and OUT");
-        return;
+    if tool.has_argument(4) {
+        return Err(tool.complain(b"more than FIRST, SECOND and OUT"));
     }
-    take_second(rt, first);
-}
-
-// Goes on with both lists. Standard input can be read only once.
-fn take_second(rt: &HostRuntime, first: &[u8]) {
     let mut room = [0u8; MAX_ARGUMENT];
-    let Ok(n) = rt.arg(2, &mut room) else {
-        complain_of_length(rt);
-        return;
+    // The argument is there, as `has_argument` said, so the branch of `else` is not taken.
+    let Some(n) = tool.argument(2, &mut room)? else {
+        return Err(tool.complain(b"argument of more than 4,096 bytes"));
     };
     let second = &room[..n];
     if is_option(second) {
-        complain_of(rt, b"option behind FIRST", second);
-        return;
+        return Err(tool.complain_of(b"option behind FIRST", second));
     }
-    if bytes::same(first, b"-") & bytes::same(second, b"-") {
-        complain(rt, b"FIRST and SECOND cannot both be standard input");
-        return;
+    if is_standard(first) & is_standard(second) {
+        return Err(tool.complain(b"FIRST and SECOND cannot both be standard input"));
     }
-    take_out(rt, first, second);
+    take_out(tool, first, second)
 }
 
 // Merges two lists to the file that the third argument names.
-fn take_out<'a>(rt: &HostRuntime, first: &'a [u8], second: &'a [u8]) {
+fn take_out(tool: &Tool, first: &[u8], second: &[u8]) -> Result<(), Reported> {
     let mut room = [0u8; MAX_ARGUMENT];
-    let Ok(n) = rt.arg(3, &mut room) else {
-        complain_of_length(rt);
-        return;
+    // The argument is there, as `has_argument` said, so the branch of `else` is not taken.
+    let Some(n) = tool.argument(3, &mut room)? else {
+        return Err(tool.complain(b"argument of more than 4,096 bytes"));
     };
     let out = &room[..n];
     if is_option(out) {
-        complain_of(rt, b"option behind FIRST", out);
-        return;
+        return Err(tool.complain_of(b"option behind FIRST", out));
     }
-    merging::merge_to(rt, first, second, out);
-}
-
-// Whether an argument is an option: `-` alone names standard input or output.
-fn is_option(word: &[u8]) -> bool {
-    if word.len() < 2 {
-        return false;
-    }
-    word[0] == b'-'
-}
-
-// Says what is wrong with the arguments.
-fn complain(rt: &HostRuntime, what: &[u8]) {
-    say(rt, b"stampmerge: ");
-    say(rt, what);
-    say(rt, b"; try --help\n");
-}
-
-fn complain_of_length(rt: &HostRuntime) {
-    complain(rt, b"argument of more than 4,096 bytes");
-}
-
-// Says what is wrong with one argument.
-fn complain_of(rt: &HostRuntime, what: &[u8], word: &[u8]) {
-    say(rt, b"stampmerge: ");
-    say(rt, what);
-    say(rt, b" '");
-    say(rt, word);
-    say(rt, b"'; try --help\n");
-}
-
-// Writes all of `s` to standard output and returns true, or false if a write fails.
-fn write_out(rt: &HostRuntime, s: &[u8]) -> bool {
-    streams::write_out(rt, b"stampmerge", s)
+    merging::merge_to(tool, first, second, out)
 }

@@ -1,14 +1,16 @@
 // What is said of a list that is at fault, as bytes: its name, then the line and what is wrong there, or
 // that the list is too long.
 //
-// A message is written from its end to its front into an array that is long enough for every message.
-// Each `put_` function writes in front of a place and returns the place of its first byte. Its contract
-// says what the array holds from that place on.
+// A message is built in fixed memory, without a String: its longest is known, and none can run out of
+// memory. It is written from its end to its front into an array. Each `put_` function writes in front of a
+// place and returns the place of its first byte. Its contract says what the array holds from that place
+// on. The place and the array stay two parameters, as in `text::decimal`: four short functions pass them
+// on.
 ghost use Rattle.std.specs.Prelude.{◌≡◌, ◌++◌, ◌+◌, ◌≤◌, length, drop};
 ghost use Rattle.text.specs.Decimal.{decimal as decimal_of};
 ghost use Rattle.stampmerge.specs.Messages.{path_of, at_line, fault_words, message_of};
 
-use merge::lists::{Fault, Machine};
+use merge::lists::{Fault, ListError, Machine};
 use text::{copy, decimal, places};
 
 // Enough for every message: a name of 4,096 bytes, and at most 51 bytes for a line number and what is
@@ -16,7 +18,7 @@ use text::{copy, decimal, places};
 const MESSAGE: usize = 4160;
 
 // A name is cut here. No argument is longer.
-const MAX_NAME: usize = 4096;
+const MAX_NAME: usize = streams::MAX_ARGUMENT;
 
 // The array that a message is written into.
 pub fn empty_message() -> [u8; 4160]
@@ -27,29 +29,22 @@ pub fn empty_message() -> [u8; 4160]
 
 // Puts the message at the end of `room`. `first` and `second` are the paths of the two lists, as the
 // arguments have them.
-pub fn put_message<'a>(
-    machine: Machine,
-    fault: Fault,
-    first: &'a [u8],
-    second: &'a [u8],
-    room: &mut [u8],
-) -> usize
+pub fn put_message(error: ListError, first: &[u8], second: &[u8], room: &mut [u8]) -> usize
     requires { 4160 ≤ length room.old }
-    ensures { drop result room.new ≡ message_of machine fault first.now second.now }
+    ensures { drop result room.new ≡ message_of error.machine error.fault first.now second.now }
 {
-    let at = put_fault(fault, room.len(), room);
-    let name = streams::name_of(path_of(machine, first, second), b"standard input");
+    let at = put_fault(error.fault, room.len(), room);
+    let name = streams::name_of(path_of(error.machine, first, second), b"standard input");
     put_text(places::up_to(name, MAX_NAME), at, room)
 }
 
-// The path of the list that is at fault. No fault is neither machine's.
+// The path of the list that is at fault.
 fn path_of<'a>(machine: Machine, first: &'a [u8], second: &'a [u8]) -> &'a [u8]
     ensures { result.now ≡ path_of machine first.now second.now }
 {
     match machine {
         Machine::First => first,
         Machine::Second => second,
-        Machine::Neither => places::up_to(first, 0),
     }
 }
 

@@ -1,5 +1,6 @@
 -- Examples of books (RULES 13), worked out by hand and computed, as one table: each is under the words that it shows.
 -- Assumes nothing.
+use Rattle.std.specs.Prelude.{Ok, Result}
 use Prim.Native.Nat.{ℕ}
 use Prim.Native.String.{String}
 use mathlib.Core.Path.{◌≡◌, refl}
@@ -24,11 +25,10 @@ use Rattle.relative.specs.Relative.{max_pairs, from, named_of, by_pairs, relativ
 use Rattle.relative.proofs.Examples.{times}
 use Rattle.stamps.specs.Stamps.{printed, is_whole_minutes, stamp_of}
 use Rattle.stamps.specs.Lines.{every, is_path_byte, is_path, is_hex_digit, is_key, hull_of, since_of, line_of}
-use Rattle.stamps.specs.Book.{judged, lines_in, first_bad, check_of}
+use Rattle.stamps.specs.Book.{judged, lines_in, first_bad, check_of, refused_at}
 use Rattle.stamps.specs.Copies.{joined}
 use Rattle.stamps.specs.Listing.{listed, listing}
-use Rattle.stamps.specs.declared.book.Checked.{Checked}
-use Rattle.stamps.specs.declared.book.Checked.TheVariants.{Good, Refused}
+use Rattle.stamps.specs.declared.book.BookError.{BookError}
 
 -- a line of `hull`, all with one key, and a line of `since`
 abbrev hull : String → String → List ℕ
@@ -39,7 +39,7 @@ since text seconds offset = bytes "since" ++ tab ∷ text ++ tab ∷ bytes secon
 
 -- ---- what a check returns, and what is listed
 data Example : Type 0 where
-  checks : List ℕ → Checked → Example
+  checks : List ℕ → Result (Unit {0}) BookError → Example
   lists : List (List ℕ) → List (List ℕ) → Example
 
 abbrev AllRight : List Example → Type 0
@@ -50,28 +50,28 @@ AllRight (lists ls kept ∷ es) = (listing max_pairs (joined ls) ≡ joined kept
 abbrev books : List Example
 books =
     -- the empty book is good
-    checks [] Good
+    checks [] (Ok tt)
     -- a line is neither kind if it is empty
-    ∷ checks (newline ∷ []) (Refused Book 1)
+    ∷ checks (newline ∷ []) (refused_at Book 1)
     -- "lines end in a newline": the second line lacks its own
-    ∷ checks (joined (hull "a" "5 +0130" ∷ []) ++ hull "b" "5 +0130") (Refused Book 2)
+    ∷ checks (joined (hull "a" "5 +0130" ∷ []) ++ hull "b" "5 +0130") (refused_at Book 2)
     -- a time is what the header writer writes at an offset of whole minutes; `-0000` is offset 0 with the mark
-    ∷ checks (joined (hull "a" "0 -0000" ∷ [])) Good
-    ∷ checks (joined (hull "a" "0 -000000" ∷ [])) (Refused Book 1)
-    ∷ checks (joined (hull "a" "0 -0060" ∷ [])) (Refused Book 1)
+    ∷ checks (joined (hull "a" "0 -0000" ∷ [])) (Ok tt)
+    ∷ checks (joined (hull "a" "0 -000000" ∷ [])) (refused_at Book 1)
+    ∷ checks (joined (hull "a" "0 -0060" ∷ [])) (refused_at Book 1)
     -- nor is an offset with seconds, a `+` in front of the seconds or a leading zero
-    ∷ checks (joined (hull "a" "5 +013015" ∷ [])) (Refused Book 1)
-    ∷ checks (joined (hull "a" "+5 +0130" ∷ [])) (Refused Book 1)
-    ∷ checks (joined (hull "a" "05 +0130" ∷ [])) (Refused Book 1)
+    ∷ checks (joined (hull "a" "5 +013015" ∷ [])) (refused_at Book 1)
+    ∷ checks (joined (hull "a" "+5 +0130" ∷ [])) (refused_at Book 1)
+    ∷ checks (joined (hull "a" "05 +0130" ∷ [])) (refused_at Book 1)
     -- "some time": the header writer has no range but that of the offset
-    ∷ checks (joined (hull "a" "9223372036854775807 +9959" ∷ [])) Good
+    ∷ checks (joined (hull "a" "9223372036854775807 +9959" ∷ [])) (Ok tt)
     -- the numbers of `since` are the two fields behind the text, not those in it
-    ∷ checks (joined (since (bytes "007 days ago") "1622462400" "0" ∷ [])) Good
-    ∷ checks (joined (since (bytes "7 days ago") "01622462400" "0" ∷ [])) (Refused Book 1)
+    ∷ checks (joined (since (bytes "007 days ago") "1622462400" "0" ∷ [])) (Ok tt)
+    ∷ checks (joined (since (bytes "7 days ago") "01622462400" "0" ∷ [])) (refused_at Book 1)
     -- the text may hold any byte but the tab and the newline: here a carriage return and a zero
-    ∷ checks (joined (since (bytes "1" ++ 13 ∷ bytes "day" ++ 0 ∷ []) "1622462400" "0" ∷ [])) Good
+    ∷ checks (joined (since (bytes "1" ++ 13 ∷ bytes "day" ++ 0 ∷ []) "1622462400" "0" ∷ [])) (Ok tt)
     -- the text must be read at that current time: this one is out of range, even for `now`
-    ∷ checks (joined (since (bytes "now") "253402207201" "0" ∷ [])) (Refused Book 1)
+    ∷ checks (joined (since (bytes "now") "253402207201" "0" ∷ [])) (refused_at Book 1)
     -- a hull above the `since` line is listed whatever its seconds are; below it, one at the cut-off is listed, and one before it is not.
     -- The offset of a hull does not matter
     ∷ lists (hull "a" "1 +0000" ∷ since (bytes "1 second ago") "6" "0" ∷ hull "b" "4 +0000" ∷ hull "c" "5 -0100" ∷ []) (hull "a" "1 +0000" ∷ hull "c" "5 -0100" ∷ [])
@@ -90,6 +90,6 @@ book_examples = (refl, (refl, (refl, (refl, (refl, (refl, (refl, (refl, (refl, (
 abbrev long : List (List ℕ)
 long = hull "a" "1 +0000" ∷ since (times 33 (bytes "1 second ") []) "40" "0" ∷ hull "b" "6 +0000" ∷ hull "c" "7 +0000" ∷ []
 
-long_since_line : (check_of 32 (joined long) ≡ Refused Book 2) × (check_of max_pairs (joined long) ≡ Good) × (listing max_pairs (joined long) ≡ joined (hull "a" "1 +0000" ∷ hull "c" "7 +0000" ∷ []))
+long_since_line : (check_of 32 (joined long) ≡ refused_at Book 2) × (check_of max_pairs (joined long) ≡ Ok tt) × (listing max_pairs (joined long) ≡ joined (hull "a" "1 +0000" ∷ hull "c" "7 +0000" ∷ []))
 unfolding check_of first_bad lines_in judged line_of since_of hull_of is_key is_hex_digit is_path is_path_byte every stamp_of is_whole_minutes printed joined relative_of by_pairs named_of from steps step landed landing pairs_from ago_from known unit_of unit_named singular count_of spelled words_of header_of header_of_words header_offset seconds_of offset_of fields_of last_field field_of five_or_seven time_in_range offset_in_range seconds_in_range whole_minutes sign_byte header_sign header_bytes left taken_by ended_lines fit_signed fit signed_of unsigned_of digits_of read_from has first_place run signed_before signed decimal digits_up_to full pieces words trim_start trim_end trim same_letters same ascii lower_of is_sign is_alphanumeric is_digit is_space listing listed
 long_since_line = (refl, refl, refl)

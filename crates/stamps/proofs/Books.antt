@@ -1,38 +1,37 @@
 -- Books, line by line. In order: the first line of a text that holds a newline, of one that holds none, and of the empty text;
--- lines and their bytes; the first bad line; a book without one; what a check returns; the next line; a book that is judged line
--- by line, from the start, by one line more, and to the end.
+-- lines and their bytes; the first bad line; a book without one; what a pass over a book finds, and what a check returns of it; the
+-- next line; a book that is judged line by line, from the start, by one line more, and to the end.
 -- Assumes nothing.
+use Rattle.std.specs.Prelude.{None, Option, Some, ℤ, Ok, Err, Result}
+use Rattle.std.specs.Option.{option_or}
 use mathlib.Core.Path.{◌≡◌, refl, sym, ap, ◌∙◌}
-use mathlib.Core.Bool.{Bool, true, false, cond, ◌&&◌, false≢true, and-true}
+use mathlib.Core.Bool.{Bool, true, false, cond, ◌&&◌, false≢true, and-true, and-false}
 use mathlib.Core.List.{List, [], ◌∷◌, ◌++◌}
 use Prim.Native.Nat.{ℕ, suc, ◌+◌, ◌≤◌, ◌<◌}
 use native.Mathlib.Omega.{arith}
 use native.Mathlib.Numerals.{add-one}
-use borrow.Author.Tests.{ltb-true, ltb-false, le-leb, lt-leb, eqb-true}
+use borrow.Author.Tests.{ltb-true, ltb-false, lt-ltb, le-ltb, le-leb, lt-leb, eqb-true}
 use lib.Dec.{ltb, eqb}
 use lib.ListN.{length, take, drop, set, length-drop, length-set, length-append, drop_of_length-le, take-append-drop}
 use lib.Seq.{drop-drop, sets}
 use Rattle.text.specs.Places.{first_place, before, has}
 use Rattle.text.specs.Lines.{newline, onto_first, ended_lines, taken_by, left}
-use Rattle.text.specs.declared.number.Integer.{Integer}
-use Rattle.text.specs.declared.number.Integer.TheVariants.{Nothing}
-use Rattle.text.specs.declared.number.Number.{Number}
-use Rattle.text.specs.declared.number.Number.TheVariants.{Value, Nothing as NoNumber}
 use Rattle.time.specs.declared.Refusal.TheVariants.{Book}
 use Rattle.text.proofs.Lists.{by_test, both}
 use Rattle.text.proofs.Lines.{ended_lines-none, ended_lines-cut}
 use Rattle.stamps.specs.Lines.{line_of, is_good}
-use Rattle.stamps.specs.Book.{max_book, judged, lines_in, last_piece, first_bad, bad_number, good_front, checked_at, check_of}
+use Rattle.stamps.specs.Book.{max_book, judged, lines_in, last_piece, first_bad, bad_number, good_front, check_of, refused_at}
 use Rattle.stamps.specs.Copies.{joined}
-use Rattle.stamps.specs.Listing.{is_listed, or_above, cut_off_below, listed, listing}
+use Rattle.stamps.specs.Listing.{is_listed, cut_off_in, or_above, cut_off_below, listed, listing}
 use Rattle.stamps.specs.Theorems.{are_good}
-use Rattle.stamps.specs.Held.{FirstLine, NextLine, mark_of, marks_of}
+use Rattle.stamps.specs.Held.{first_of, next_at, next_of, survey_at, survey_of, mark_of, marks_of}
 use Rattle.stamps.specs.declared.line.Line.{Line}
-use Rattle.stamps.specs.declared.line.Line.TheVariants.{Hull, Since, Bad}
+use Rattle.stamps.specs.declared.line.Line.TheVariants.{Hull, Since}
 use Rattle.stamps.specs.declared.line.First.{First}
-use Rattle.stamps.specs.declared.book.Checked.TheVariants.{Good, Refused}
 use Rattle.stamps.specs.declared.book.Next.{Next}
+use Rattle.stamps.specs.declared.book.BadLine.{BadLine}
 use Rattle.stamps.proofs.Fields.{length_before}
+use Rattle.stamps.proofs.Reading.{first_some, first_none}
 
 -- what follows the first newline
 abbrev pub behind : List ℕ → List ℕ
@@ -106,35 +105,35 @@ pub taken_by-le : (s : List ℕ) → taken_by (ended_lines s) ≤ length s
 taken_by-le s = omega (arith, ap length (joined-ended_lines s), length-append (joined (ended_lines s)) (left s), length-joined (ended_lines s))
 
 -- ---- the first bad line
-pub first_bad-good : (n : ℕ) (l : Line) (ls : List Line) → is_good l ≡ true → first_bad n (l ∷ ls) ≡ first_bad (suc n) ls
+pub first_bad-good : (n : ℕ) (l : Option Line) (ls : List (Option Line)) → is_good l ≡ true → first_bad n (l ∷ ls) ≡ first_bad (suc n) ls
 unfolding first_bad
-first_bad-good n (Hull h) ls g = refl
-first_bad-good n (Since x) ls g = refl
-first_bad-good n Bad ls g = absurd (false≢true g)
+first_bad-good n (Some (Hull h)) ls g = refl
+first_bad-good n (Some (Since x)) ls g = refl
+first_bad-good n None ls g = absurd (false≢true g)
 
-pub first_bad-bad : (n : ℕ) (l : Line) (ls : List Line) → is_good l ≡ false → first_bad n (l ∷ ls) ≡ Value n
+pub first_bad-bad : (n : ℕ) (l : Option Line) (ls : List (Option Line)) → is_good l ≡ false → first_bad n (l ∷ ls) ≡ Some n
 unfolding first_bad
-first_bad-bad n (Hull h) ls g = absurd (false≢true (sym g))
-first_bad-bad n (Since x) ls g = absurd (false≢true (sym g))
-first_bad-bad n Bad ls g = refl
+first_bad-bad n (Some (Hull h)) ls g = absurd (false≢true (sym g))
+first_bad-bad n (Some (Since x)) ls g = absurd (false≢true (sym g))
+first_bad-bad n None ls g = refl
 
 -- it has the number n or a later one
-pub le-first_bad : (n m : ℕ) (ls : List Line) → first_bad n ls ≡ Value m → n ≤ m
+pub le-first_bad : (n m : ℕ) (ls : List (Option Line)) → first_bad n ls ≡ Some m → n ≤ m
 unfolding first_bad
 le-first_bad n m [] e = let z : ◌≡◌ {A = ℕ} 0 1 = cc in absurd (omega arith)
-le-first_bad n m (Hull h ∷ ls) e = omega (arith, le-first_bad (suc n) m ls e)
-le-first_bad n m (Since x ∷ ls) e = omega (arith, le-first_bad (suc n) m ls e)
-le-first_bad n m (Bad ∷ ls) e = let q : n ≡ m = cc in omega arith
+le-first_bad n m (Some (Hull h) ∷ ls) e = omega (arith, le-first_bad (suc n) m ls e)
+le-first_bad n m (Some (Since x) ∷ ls) e = omega (arith, le-first_bad (suc n) m ls e)
+le-first_bad n m (None ∷ ls) e = let q : n ≡ m = cc in omega arith
 
 -- lines are counted from 1, so 0 is the number of none
-pub first_bad_of_zero : (ls : List Line) → bad_number (first_bad 1 ls) ≡ 0 → first_bad 1 ls ≡ NoNumber
+pub first_bad_of_zero : (ls : List (Option Line)) → bad_number (first_bad 1 ls) ≡ 0 → first_bad 1 ls ≡ None
 first_bad_of_zero ls z = told (first_bad 1 ls) refl z
   where
-    told : (x : Number) → first_bad 1 ls ≡ x → bad_number x ≡ 0 → x ≡ NoNumber
-    told (Value m) e z = absurd (omega (arith, le-first_bad 1 m ls e))
-    told NoNumber e z = refl
+    told : (x : Option ℕ) → first_bad 1 ls ≡ x → bad_number x ≡ 0 → x ≡ None
+    told (Some m) e z = absurd (omega (arith, le-first_bad 1 m ls e))
+    told None e z = refl
 
-first_bad-last : (n : ℕ) (s : List ℕ) → 0 < length s → first_bad n (last_piece s) ≡ Value n
+first_bad-last : (n : ℕ) (s : List ℕ) → 0 < length s → first_bad n (last_piece s) ≡ Some n
 unfolding first_bad
 first_bad-last n [] h = absurd (omega arith)
 first_bad-last n (b ∷ s) h = refl
@@ -146,26 +145,26 @@ module _ (bound n : ℕ) (s : List ℕ) where
       ap (first_bad n) (lines_in-first s p.1 bound) ∙ first_bad-good n (line_of bound (before newline s)) (lines_in bound (behind s)) p.0
 
   -- the first line is bad, or it has no newline
-  pub first_bad-stop : 0 < length s → (is_good (line_of bound (before newline s)) && has newline s) ≡ false → first_bad n (lines_in bound s) ≡ Value n
+  pub first_bad-stop : 0 < length s → (is_good (line_of bound (before newline s)) && has newline s) ≡ false → first_bad n (lines_in bound s) ≡ Some n
   first_bad-stop some e =
       by_test (has newline s)
       (λ h. ap (first_bad n) (lines_in-first s h bound) ∙ first_bad-bad n (line_of bound (before newline s)) (lines_in bound (behind s)) (rw (h, and-true) at e))
       (λ h. ap (first_bad n) (lines_in-open bound s (ended_lines-open s h)) ∙ first_bad-last n s some)
 
 -- ---- good lines
-first_bad_of_good : (n : ℕ) (ls : List Line) → are_good ls ≡ true → first_bad n ls ≡ NoNumber
+first_bad_of_good : (n : ℕ) (ls : List (Option Line)) → are_good ls ≡ true → first_bad n ls ≡ None
 unfolding are_good first_bad
 first_bad_of_good n [] g = refl
 first_bad_of_good n (l ∷ ls) g = let p = both (is_good l) (are_good ls) g in first_bad-good n l ls p.0 ∙ first_bad_of_good (suc n) ls p.1
 
-good_of_first_bad : (n : ℕ) (ls : List Line) → first_bad n ls ≡ NoNumber → are_good ls ≡ true
+good_of_first_bad : (n : ℕ) (ls : List (Option Line)) → first_bad n ls ≡ None → are_good ls ≡ true
 unfolding are_good first_bad
 good_of_first_bad n [] e = refl
-good_of_first_bad n (Hull h ∷ ls) e = good_of_first_bad (suc n) ls e
-good_of_first_bad n (Since x ∷ ls) e = good_of_first_bad (suc n) ls e
-good_of_first_bad n (Bad ∷ ls) e = let z : ◌≡◌ {A = ℕ} 0 1 = cc in absurd (omega arith)
+good_of_first_bad n (Some (Hull h) ∷ ls) e = good_of_first_bad (suc n) ls e
+good_of_first_bad n (Some (Since x) ∷ ls) e = good_of_first_bad (suc n) ls e
+good_of_first_bad n (None ∷ ls) e = let z : ◌≡◌ {A = ℕ} 0 1 = cc in absurd (omega arith)
 
-pub are_good-append : (a b : List Line) → are_good (a ++ b) ≡ (are_good a && are_good b)
+pub are_good-append : (a b : List (Option Line)) → are_good (a ++ b) ≡ (are_good a && are_good b)
 unfolding are_good
 are_good-append [] b = refl
 are_good-append (l ∷ a) b = by_test (is_good l) (λ e. rw (e, are_good-append a b)) (λ e. rw e)
@@ -177,64 +176,125 @@ are_good-last_piece (b ∷ s) g = absurd (false≢true g)
 
 module _ (bound : ℕ) (book : List ℕ) where
   -- no line of a book is bad exactly if the lines that have their end are good and nothing is left behind them
-  pub good_book : first_bad 1 (lines_in bound book) ≡ NoNumber → (are_good (judged bound (ended_lines book)) ≡ true) × (left book ≡ [])
+  pub good_book : first_bad 1 (lines_in bound book) ≡ None → (are_good (judged bound (ended_lines book)) ≡ true) × (left book ≡ [])
   unfolding lines_in
   good_book e =
       let lines = judged bound (ended_lines book) in
       let p = both (are_good lines) (are_good (last_piece (left book))) (sym (are_good-append lines (last_piece (left book))) ∙ good_of_first_bad 1 (lines_in bound book) e) in
       (p.0, are_good-last_piece (left book) p.1)
 
-  pub book_of_good : are_good (judged bound (ended_lines book)) ≡ true → left book ≡ [] → first_bad 1 (lines_in bound book) ≡ NoNumber
+  pub book_of_good : are_good (judged bound (ended_lines book)) ≡ true → left book ≡ [] → first_bad 1 (lines_in bound book) ≡ None
   unfolding lines_in are_good
   book_of_good g e = first_bad_of_good 1 (lines_in bound book) (are_good-append (judged bound (ended_lines book)) (last_piece (left book)) ∙ rw (g, e))
 
--- ---- what a check returns, by the number of the first bad line
+good_front_of_good : (bound : ℕ) (ls : List (List ℕ)) → are_good (judged bound ls) ≡ true → good_front bound ls ≡ ls
+unfolding judged are_good good_front
+good_front_of_good bound [] g = refl
+good_front_of_good bound (l ∷ ls) g = let p = both (is_good (line_of bound l)) (are_good (judged bound ls)) g in rw (p.0, good_front_of_good bound ls p.1)
+
+-- the good lines of a text without a bad one are all of it
+pub whole_front : (bound : ℕ) (s : List ℕ) → first_bad 1 (lines_in bound s) ≡ None → length s ≡ taken_by (good_front bound (ended_lines s))
+whole_front bound s e =
+    let p = good_book bound s e in
+    let ls = ended_lines s in
+    omega (arith, ap length (joined-ended_lines s), length-append (joined ls) (left s), length-joined ls, ap length p.1, ap taken_by (good_front_of_good bound ls p.0))
+
+-- ---- what a pass over a book finds
+survey_at-ok : (x : Option ℕ) (start size n : ℕ) → survey_at x start size ≡ Ok n → (x ≡ None) × (n ≡ size)
+survey_at-ok (Some m) start size n e = let z : ◌≡◌ {A = ℕ} 0 1 = cc in absurd (omega arith)
+survey_at-ok None start size n e = let k : n ≡ size = cc in (refl, k)
+
+survey_at-err : (x : Option ℕ) (start size : ℕ) (b : BadLine) → survey_at x start size ≡ Err b → (x ≡ Some b.number) × (b.start ≡ start)
+survey_at-err (Some m) start size b e = let p : record { number = m; start = start } ≡ b = cc in (ap (λ (v : BadLine). Some v.number) p, sym (ap (λ (v : BadLine). v.start) p))
+survey_at-err None start size b e = let z : ◌≡◌ {A = ℕ} 0 1 = cc in absurd (omega arith)
+
 module _ (bound : ℕ) (book : List ℕ) where
-  pub check_of-long : max_book < length book → Refused Book 0 ≡ check_of bound book
+  pub survey_ok : (n : ℕ) → survey_of bound book ≡ Ok n → (first_bad 1 (lines_in bound book) ≡ None) × (n ≡ length (listing bound book))
+  survey_ok n e = survey_at-ok (first_bad 1 (lines_in bound book)) _ (length (listing bound book)) n e
+
+  pub survey_err : (b : BadLine) → survey_of bound book ≡ Err b → (first_bad 1 (lines_in bound book) ≡ Some b.number) × (b.start ≡ taken_by (good_front bound (ended_lines book)))
+  survey_err b e = survey_at-err (first_bad 1 (lines_in bound book)) (taken_by (good_front bound (ended_lines book))) _ b e
+
+-- ---- what a check returns, by the first bad line
+module _ (bound : ℕ) (book : List ℕ) where
+  pub check_of-long : max_book < length book → refused_at Book 0 ≡ check_of bound book
   unfolding check_of
   check_of-long h = rw (lt-leb _ _ h)
 
-  module _ (bad : ℕ) (within : length book ≤ max_book) (e : bad ≡ bad_number (first_bad 1 (lines_in bound book))) where
-    pub check_of-zero : bad ≡ 0 → Good ≡ check_of bound book
-    unfolding check_of
-    check_of-zero z = rw (le-leb _ _ within, first_bad_of_zero (lines_in bound book) (sym e ∙ z))
+  pub check_of-good : length book ≤ max_book → first_bad 1 (lines_in bound book) ≡ None → Ok tt ≡ check_of bound book
+  unfolding check_of
+  check_of-good within e = rw (le-leb _ _ within, e)
 
-    pub check_of-bad : (bad ≡ 0 → ⊥) → Refused Book bad ≡ check_of bound book
-    unfolding check_of
-    check_of-bad n = rw (le-leb _ _ within) (told (first_bad 1 (lines_in bound book)) e)
-      where
-        told : (x : Number) → bad ≡ bad_number x → Refused Book bad ≡ checked_at x
-        told (Value m) e = ap (Refused Book) e
-        told NoNumber e = absurd (n e)
+  pub check_of-bad : (n : ℕ) → length book ≤ max_book → first_bad 1 (lines_in bound book) ≡ Some n → refused_at Book n ≡ check_of bound book
+  unfolding check_of
+  check_of-bad n within e = rw (le-leb _ _ within, e)
 
 -- ---- the next line of a book, by the first line of what is left
-module _ {bound : ℕ} {s : List ℕ} {first : First} (f : FirstLine bound s first) where
-  pub next_size : (size : ℕ) → is_good first.line ≡ true → size ≡ cond (ltb first.length (length s)) (first.length + 1) 0
-      → size ≡ cond (is_good (line_of bound (before newline s)) && has newline s) (first_place newline s + 1) 0
-  unfolding has
-  next_size size g e = e ∙ rw (f.length_is g, ← f.line_is, g)
+good_some : (l : Line) → is_good (Some l) ≡ true
+good_some (Hull h) = refl
+good_some (Since x) = refl
 
-  pub next_none : first.line ≡ Bad → 0 ≡ cond (is_good (line_of bound (before newline s)) && has newline s) (first_place newline s + 1) 0
-  next_none e = rw (← f.line_is, e)
+module _ (bound : ℕ) (s : List ℕ) (c : Option ℤ) where
+  pub next_bad : first_of bound s ≡ None → None ≡ next_of bound s c
+  next_bad e = rw (first_none (first_place newline s) (line_of bound (before newline s)) e)
+
+  module _ (first : First) (e : first_of bound s ≡ Some first) where
+    pub next_good : first.length < length s → Some (next_at (first.length + 1) c (Some first.line)) ≡ next_of bound s c
+    unfolding has
+    next_good h =
+        let p = first_some (first_place newline s) (line_of bound (before newline s)) first e in
+        let g : is_good (line_of bound (before newline s)) ≡ true = ap is_good p.0 ∙ good_some first.line in
+        let t : ltb (first_place newline s) (length s) ≡ true = lt-ltb _ _ (omega (arith, p.1)) in
+        rw (g, t) (λ i. Some (next_at (p.1 i + 1) c (sym p.0 i)))
+
+    pub next_open : length s ≤ first.length → None ≡ next_of bound s c
+    unfolding has
+    next_open h =
+        let p = first_some (first_place newline s) (line_of bound (before newline s)) first e in
+        let t : ltb (first_place newline s) (length s) ≡ false = le-ltb _ _ (omega (arith, p.1)) in
+        rw (t, and-false)
+
+  record NextIs (next : Next) : Type 0 where
+    is_whole : (is_good (line_of bound (before newline s)) && has newline s) ≡ true
+    size_is : next.size ≡ first_place newline s + 1
+    listed_is : next.listed ≡ is_listed c (line_of bound (before newline s))
+    cut_off_is : next.cut_off ≡ cut_off_in (line_of bound (before newline s))
+
+  next_is : (next : Next) → next_of bound s c ≡ Some next → NextIs next
+  next_is next e =
+      let l = line_of bound (before newline s) in
+      by_test (is_good l && has newline s)
+      (λ y.
+      let k = rw y at e in
+      let p : next ≡ next_at (first_place newline s + 1) c l = cc in
+      record { is_whole = y; size_is = ap (λ (v : Next). v.size) p; listed_is = ap (λ (v : Next). v.listed) p; cut_off_is = ap (λ (v : Next). v.cut_off) p })
+      (λ y. let k = rw y at e in let z : ◌≡◌ {A = ℕ} 0 1 = cc in absurd (omega arith))
+
+  pub next_size-pos : (next : Next) → next_of bound s c ≡ Some next → 0 < next.size
+  next_size-pos next e = let f = next_is next e in omega (arith, f.size_is)
+
+  next_is_none : next_of bound s c ≡ None → (is_good (line_of bound (before newline s)) && has newline s) ≡ false
+  next_is_none e =
+      by_test (is_good (line_of bound (before newline s)) && has newline s) (λ y. let k = rw y at e in let z : ◌≡◌ {A = ℕ} 0 1 = cc in absurd (omega arith)) (λ y. y)
 
 -- ---- a book judged line by line
 -- n lines, which end at the place `at`, are good. Their part of the listing has `size` bytes, and c is the cut-off below them
-pub record Judging (bound : ℕ) (book was marks : List ℕ) (at n size : ℕ) (c : Integer) : Type 0 where
+pub record Judging (bound : ℕ) (book was marks : List ℕ) (at n size : ℕ) (c : Option ℤ) : Type 0 where
   pub within : at ≤ length book
   pub fewer : n ≤ at
   pub shorter : size ≤ at
   pub bad : first_bad 1 (lines_in bound book) ≡ first_bad (n + 1) (lines_in bound (drop at book))
   pub front : taken_by (good_front bound (ended_lines book)) ≡ at + taken_by (good_front bound (ended_lines (drop at book)))
   pub length_is : length (listing bound book) ≡ size + length (joined (listed bound c (ended_lines (drop at book))))
-  pub marked : sets was 0 (marks_of bound Nothing (ended_lines book)) ≡ sets marks n (marks_of bound c (ended_lines (drop at book)))
+  pub marked : sets was 0 (marks_of bound None (ended_lines book)) ≡ sets marks n (marks_of bound c (ended_lines (drop at book)))
   pub places : length marks ≡ length was
 
-pub judging_start : (bound : ℕ) (book marks : List ℕ) → Judging bound book marks marks 0 0 0 Nothing
+pub judging_start : (bound : ℕ) (book marks : List ℕ) → Judging bound book marks marks 0 0 0 None
 unfolding listing
 judging_start bound book marks = record { within = omega arith; fewer = omega arith; shorter = omega arith; bad = refl; front = omega arith; length_is = omega arith; marked = refl; places = refl }
 
 -- a line more adds its bytes and its newline to the listing if it is listed
-length-listed-cons : (bound : ℕ) (c : Integer) (l : List ℕ) (ls : List (List ℕ))
+length-listed-cons : (bound : ℕ) (c : Option ℤ) (l : List ℕ) (ls : List (List ℕ))
     → length (joined (listed bound c (l ∷ ls))) ≡ cond (is_listed c (line_of bound l)) (length l + 1) 0 + length (joined (listed bound (cut_off_below c (line_of bound l)) ls))
 unfolding listed joined
 length-listed-cons bound c l ls =
@@ -261,60 +321,66 @@ module _ (bound : ℕ) (s : List ℕ) where
       (λ h. let bad : is_good (line_of bound (before newline s)) ≡ false = rw (h, and-true) at e in ap (λ (ls : List (List ℕ)). taken_by (good_front bound ls)) (ended_lines-first s h) ∙ rw bad)
       (λ h. ap (λ (ls : List (List ℕ)). taken_by (good_front bound ls)) (ended_lines-open s h))
 
--- what a pass over the book finds
-abbrev Judged : ℕ → List ℕ → List ℕ → List ℕ → ℕ → ℕ → ℕ → Type 0
-Judged bound book was marks bad end size =
-    ((bad ≡ bad_number (first_bad 1 (lines_in bound book))) × (end ≡ taken_by (good_front bound (ended_lines book))))
-    × ((bad ≡ 0 → size ≡ length (listing bound book)) × (bad ≡ 0 → marks ≡ sets was 0 (marks_of bound Nothing (ended_lines book))))
+-- std's word for it
+pub or_is : (x y : Option ℤ) → option_or x y ≡ or_above x y
+or_is (Some c) y = refl
+or_is None y = refl
 
-module _ {bound : ℕ} {book was marks : List ℕ} {at n size : ℕ} {c : Integer} (j : Judging bound book was marks at n size c) where
+-- the length of a listing with a line that is listed, and with one that is not
+pub with_listed : (listed : Bool) (n size : ℕ) → listed ≡ true → size + n ≡ size + cond listed n 0
+with_listed listed n size e = rw e refl
+
+pub without_listed : (listed : Bool) (n size : ℕ) → listed ≡ false → size ≡ size + cond listed n 0
+without_listed listed n size e = rw e (omega arith)
+
+-- what a pass over the book returns and marks
+pub record Judged (bound : ℕ) (book was marks : List ℕ) (r : Result ℕ BadLine) : Type 0 where
+  pub value : r ≡ survey_of bound book
+  pub marks_after : first_bad 1 (lines_in bound book) ≡ None → marks ≡ sets was 0 (marks_of bound None (ended_lines book))
+
+module _ {bound : ℕ} {book was marks : List ℕ} {at n size : ℕ} {c : Option ℤ} (j : Judging bound book was marks at n size c) where
   -- no line is left
-  pub judging_end : length book ≤ at → Judged bound book was marks 0 at size
-  unfolding lines_in judged left taken_by first_bad listed joined marks_of good_front
+  pub judging_end : length book ≤ at → Judged bound book was marks (Ok size)
+  unfolding lines_in judged left taken_by first_bad listed joined marks_of
   judging_end h =
       let d : drop at book ≡ [] = drop_of_length-le book h in
-      let e : ended_lines (drop at book) ≡ [] = ap ended_lines d ∙ ended_lines-nil in (
-        (
-          sym (ap bad_number (j.bad ∙ ap (λ (s : List ℕ). first_bad (n + 1) (lines_in bound s)) d ∙ ap (first_bad (n + 1)) (lines_in-open bound [] ended_lines-nil))),
-          omega (arith, j.front, ap (λ (ls : List (List ℕ)). taken_by (good_front bound ls)) e),
-        ),
-        (
-          λ z. omega (arith, j.length_is, ap (λ (ls : List (List ℕ)). length (joined (listed bound c ls))) e),
-          λ z. sym (j.marked ∙ ap (λ (ls : List (List ℕ)). sets marks n (marks_of bound c ls)) e),
-        ),
-      )
+      let e : ended_lines (drop at book) ≡ [] = ap ended_lines d ∙ ended_lines-nil in
+      let none : first_bad 1 (lines_in bound book) ≡ None =
+      j.bad ∙ ap (λ (s : List ℕ). first_bad (n + 1) (lines_in bound s)) d ∙ ap (first_bad (n + 1)) (lines_in-open bound [] ended_lines-nil) in
+      let k : size ≡ length (listing bound book) = omega (arith, j.length_is, ap (λ (ls : List (List ℕ)). length (joined (listed bound c ls))) e) in
+      record {
+        value = rw none (ap Ok k);
+        marks_after = λ z. sym (j.marked ∙ ap (λ (ls : List (List ℕ)). sets marks n (marks_of bound c ls)) e);
+      }
 
-  module _ (s : List ℕ) (next : Next) (is : s ≡ drop at book) (some : at < length book) (f : NextLine bound s c next) where
+  module _ (s : List ℕ) (is : s ≡ drop at book) (some : at < length book) where
     -- the next line is bad
-    pub judging_stop : next.size ≡ 0 → Judged bound book was marks (n + 1) at 0
-    judging_stop z =
+    pub judging_stop : next_of bound s c ≡ None → Judged bound book was marks (Err (record { number = n + 1; start = at }))
+    judging_stop none =
         let l : 0 < length s = omega (arith, ap length is, length-drop at book) in
-        by_test (is_good (line_of bound (before newline s)) && has newline s) (λ e. absurd (omega (arith, rw e at f.size_is)))
-        (λ e. (
-          (
-            sym (ap bad_number (j.bad ∙ ap (λ (t : List ℕ). first_bad (n + 1) (lines_in bound t)) (sym is) ∙ first_bad-stop bound (n + 1) s l e)),
-            omega (arith, j.front, ap (λ (t : List ℕ). taken_by (good_front bound (ended_lines t))) is, good_front-stop bound s e),
-          ),
-          (λ z. absurd (omega (arith, z)), λ z. absurd (omega (arith, z))),
-        ))
+        let e = next_is_none bound s c none in
+        let bad : first_bad 1 (lines_in bound book) ≡ Some (n + 1) =
+        j.bad ∙ ap (λ (t : List ℕ). first_bad (n + 1) (lines_in bound t)) (sym is) ∙ first_bad-stop bound (n + 1) s l e in
+        let start : at ≡ taken_by (good_front bound (ended_lines book)) =
+        omega (arith, j.front, ap (λ (t : List ℕ). taken_by (good_front bound (ended_lines t))) is, good_front-stop bound s e) in
+        record { value = rw bad (λ i. Err (record { number = n + 1; start = start i })); marks_after = λ z. let q : ◌≡◌ {A = ℕ} 0 1 = cc in absurd (omega arith) }
 
     -- the next line is good
-    pub judging_again : (marks' : List ℕ) (k : ℕ) → marks' ≡ set marks n (mark_of next.listed) → k ≡ cond next.listed next.size 0 → (next.size ≡ 0 → ⊥)
-        → (below : Integer) → below ≡ or_above next.cut_off c → Judging bound book was marks' (at + next.size) (n + 1) (size + k) below
+    pub judging_again : (next : Next) → next_of bound s c ≡ Some next → (marks' : List ℕ) (size' : ℕ) → marks' ≡ set marks n (mark_of next.listed) → size' ≡ size + cond next.listed next.size 0
+        → (below : Option ℤ) → below ≡ or_above next.cut_off c → Judging bound book was marks' (at + next.size) (n + 1) size' below
     unfolding marks_of
-    judging_again marks' k set_is k-is z below below-is =
-        by_test (is_good (line_of bound (before newline s)) && has newline s)
-        (λ e.
+    judging_again next next-is marks' size' set_is size'-is below below-is =
+        let f = next_is bound s c next next-is in
+        let e = f.is_whole in
         let h = (both (is_good (line_of bound (before newline s))) (has newline s) e).1 in
         let l = before newline s in
-        let e-s : next.size ≡ first_place newline s + 1 = rw e at f.size_is in
-        let e-l : next.size ≡ length l + 1 = omega (arith, length_before newline s) in
-        let d : behind s ≡ drop (at + next.size) book = (λ i. drop (sym e-s i) (is i)) ∙ drop-drop next.size at book in
+        let e-l : next.size ≡ length l + 1 = omega (arith, f.size_is, length_before newline s) in
+        let d : behind s ≡ drop (at + next.size) book = (λ i. drop (sym f.size_is i) (is i)) ∙ drop-drop next.size at book in
         let rest = ended_lines (drop (at + next.size) book) in
         let cut : ended_lines (drop at book) ≡ l ∷ rest = ap ended_lines (sym is) ∙ ended_lines-first s h ∙ ap (λ (t : List ℕ). l ∷ ended_lines t) d in
         let m : suc (n + 1) ≡ n + 1 + 1 = omega arith in
-        let e-c : below ≡ cut_off_below c (line_of bound l) = below-is ∙ ap (λ (x : Integer). or_above x c) f.cut_off_is in
-        let added : k ≡ cond (is_listed c (line_of bound l)) (length l + 1) 0 = k-is ∙ (λ i. cond (f.listed_is i) (e-l i) 0) in
+        let e-c : below ≡ cut_off_below c (line_of bound l) = below-is ∙ ap (λ (x : Option ℤ). or_above x c) f.cut_off_is in
+        let added : size' ≡ size + cond (is_listed c (line_of bound l)) (length l + 1) 0 = size'-is ∙ (λ i. size + cond (f.listed_is i) (e-l i) 0) in
         record {
           within = omega (arith, first_place-lt s h, ap length is, length-drop at book, j.within);
           fewer = omega (arith, j.fewer);
@@ -333,11 +399,10 @@ module _ {bound : ℕ} {book was marks : List ℕ} {at n size : ℕ} {c : Intege
             j.length_is,
             ap (λ (ls : List (List ℕ)). length (joined (listed bound c ls))) cut,
             length-listed-cons bound c l rest,
-            ap (λ (x : Integer). length (joined (listed bound x rest))) e-c,
+            ap (λ (x : Option ℤ). length (joined (listed bound x rest))) e-c,
           );
           marked = j.marked ∙ ap (λ (ls : List (List ℕ)). sets marks n (marks_of bound c ls)) cut
               ∙ (λ i. sets (set marks n (mark_of (sym f.listed_is i))) (sym (add-one n) i) (marks_of bound (sym e-c i) rest))
               ∙ ap (λ (ms : List ℕ). sets ms (n + 1) (marks_of bound below rest)) (sym set_is);
           places = ap length set_is ∙ length-set marks n (mark_of next.listed) ∙ j.places;
-        })
-        (λ e. absurd (z (rw e at f.size_is)))
+        }

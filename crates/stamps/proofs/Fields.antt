@@ -2,6 +2,7 @@
 -- of one class; the first field of a line in front of a newline; the field that begins at a place of a text, and the line that
 -- goes on behind it; a field that is a number, and such a field at the end of a line.
 -- Assumes nothing.
+use Rattle.std.specs.Prelude.{None, Option}
 use mathlib.Core.Path.{◌≡◌, refl, sym, ap, ◌∙◌}
 use mathlib.Core.Bool.{Bool, true, false, not, ◌&&◌, false≢true}
 use mathlib.Core.List.{List, [], ◌∷◌, ◌++◌}
@@ -22,10 +23,9 @@ use Rattle.text.proofs.Runs.{has_nil, run-le-length, run_drop, run-le-run, run_l
 use Rattle.text.proofs.FirstPlaces.{Free}
 use Rattle.text.proofs.Texts.{not_has_cons}
 use Rattle.text.proofs.Numbers.{digit_range, numeral-le-run, numeral_leading}
-use Rattle.stamps.specs.Lines.{every, is_path_byte, is_hex_digit, is_good}
-use Rattle.stamps.specs.Held.{is_text_byte, ends_here, part_from, left_at, EndsLine}
+use Rattle.stamps.specs.Lines.{every, is_path_byte, is_hex_digit}
+use Rattle.stamps.specs.Held.{is_text_byte, ends_here, part_from, left_at, first_at, first_from}
 use Rattle.stamps.specs.declared.line.Line.{Line}
-use Rattle.stamps.specs.declared.line.Line.TheVariants.{Bad}
 use Rattle.stamps.specs.declared.line.First.{First}
 
 -- ---- a text cut at its first b, and at its first tab
@@ -109,12 +109,12 @@ is_text_byte_of_is_sign b =
 
 -- ---- the first field of the first line of a text
 -- it ends at the first tab or newline
-pub field_before_lem : (s : List ℕ) → field (before newline s) ≡ leading is_text_byte s
+pub field_before-leading : (s : List ℕ) → field (before newline s) ≡ leading is_text_byte s
 unfolding first_place run is_text_byte
-field_before_lem [] = refl
-field_before_lem (b ∷ s) =
+field_before-leading [] = refl
+field_before-leading (b ∷ s) =
     by_test (eqb b newline) (λ e. by_test (eqb b tab) (λ d. rw (e, d)) (λ d. rw (e, d)))
-    (λ e. by_test (eqb b tab) (λ d. rw (e, d)) (λ d. rw (e, d) (ap (λ (t : List ℕ). b ∷ t) (field_before_lem s))))
+    (λ e. by_test (eqb b tab) (λ d. rw (e, d)) (λ d. rw (e, d) (ap (λ (t : List ℕ). b ∷ t) (field_before-leading s))))
 
 -- if a tab is there, the line goes on behind it
 rest_before : (s : List ℕ) → opens_with tab (drop (run is_text_byte s) s) ≡ true → rest (before newline s) ≡ before newline (drop (suc (run is_text_byte s)) s)
@@ -188,11 +188,11 @@ pub record FieldEnds (s : List ℕ) (at e : ℕ) : Type 0 where
   pub line_is : at + first_place newline (drop at s) ≡ e + 1 + first_place newline (drop (e + 1) s)
 
 -- a line that goes on behind that tab, and a bad line
-pub ends_behind : {s : List ℕ} {at e : ℕ} {line behind : Line} {r : First} → FieldEnds s at e → line ≡ behind → EndsLine s (e + 1) behind r → EndsLine s at line r
-ends_behind f e h = record { line_is = h.line_is ∙ sym e; end_is = λ g. h.end_is g ∙ sym f.line_is }
+pub ends_behind : {s : List ℕ} {at e : ℕ} {line behind : Option Line} {r : Option First} → FieldEnds s at e → line ≡ behind → r ≡ first_from s (e + 1) behind → r ≡ first_from s at line
+ends_behind f e h = h ∙ λ i. first_at (sym f.line_is i) (sym e i)
 
-pub ends_bad : {s : List ℕ} {at : ℕ} {line : Line} {r : First} → r.line ≡ Bad → line ≡ Bad → EndsLine s at line r
-ends_bad e f = record { line_is = e ∙ sym f; end_is = λ g. absurd (false≢true (sym (ap is_good e) ∙ g)) }
+pub ends_bad : (s : List ℕ) (at : ℕ) {line : Option Line} → line ≡ None → None ≡ first_from s at line
+ends_bad s at e = sym (ap (first_from s at) e)
 
 module _ (s : List ℕ) (at : ℕ) where
   pub field_ends : (n : ℕ) → n ≤ run is_text_byte (drop at s) → opens_with tab (drop (at + n) s) ≡ true → FieldEnds s at (at + n)
@@ -205,7 +205,7 @@ module _ (s : List ℕ) (at : ℕ) where
       let w : drop (suc (run is_text_byte d)) d ≡ drop (at + n + 1) s = drop-drop (suc (run is_text_byte d)) at s ∙ ap (λ (v : ℕ). drop v s) k in
       let c : run is_text_byte d ≡ at + n - at = omega arith in
       record {
-        field_is = field_before_lem d ∙ ap (λ (v : ℕ). take v d) c;
+        field_is = field_before-leading d ∙ ap (λ (v : ℕ). take v d) c;
         rest_is = rest_before d o ∙ ap (λ (v : List ℕ). before newline v) w;
         line_is = omega (arith, first_place-before d o, ap (first_place newline) w);
       }
@@ -230,14 +230,14 @@ module _ (s : List ℕ) (at : ℕ) where
     run_of_every_field : every p (field (left_at s at)) ≡ true → run p (drop at s) ≡ run is_text_byte (drop at s)
     run_of_every_field e =
         let d = drop at s in
-        let f : every p (leading is_text_byte d) ≡ true = ap (every p) (sym (field_before_lem d)) ∙ e in
+        let f : every p (leading is_text_byte d) ≡ true = ap (every p) (sym (field_before-leading d)) ∙ e in
         sym (run_leading p is_text_byte inside d) ∙ run_of_every p (leading is_text_byte d) f ∙ length-take-le (run is_text_byte d) d (run-le-length is_text_byte d)
 
     pub past_of_every : every p (field (left_at s at)) ≡ true → at + length (field (left_at s at)) ≡ past p s at
     unfolding past
     past_of_every e =
         let d = drop at s in
-        omega (arith, run_of_every_field e, ap length (field_before_lem d), length-take-le (run is_text_byte d) d (run-le-length is_text_byte d))
+        omega (arith, run_of_every_field e, ap length (field_before-leading d), length-take-le (run is_text_byte d) d (run-le-length is_text_byte d))
 
     pub rest-nil_of_every : every p (field (left_at s at)) ≡ true → opens_with tab (drop (past p s at) s) ≡ false → rest (left_at s at) ≡ []
     unfolding past
@@ -246,7 +246,7 @@ module _ (s : List ℕ) (at : ℕ) where
         rest_before-nil d (ap (λ (v : ℕ). opens_with tab (drop v d)) (sym (run_of_every_field e)) ∙ ap (opens_with tab) (drop-drop (run p d) at s) ∙ o)
 
   pub every_field : every is_text_byte (field (left_at s at)) ≡ true
-  every_field = ap (every is_text_byte) (field_before_lem (drop at s)) ∙ every_leading is_text_byte (drop at s)
+  every_field = ap (every is_text_byte) (field_before-leading (drop at s)) ∙ every_leading is_text_byte (drop at s)
 
   -- of a number: if no tab follows its sign and digits, the field holds another byte, or it is the last
   pub field_ends_numeral : opens_with tab (drop (at + numeral (drop at s)) s) ≡ true → FieldEnds s at (at + numeral (drop at s))
@@ -259,9 +259,9 @@ module _ (s : List ℕ) (at : ℕ) where
       omega (
         arith,
         h,
-        ap length (field_before_lem d),
+        ap length (field_before-leading d),
         length-take-le (run is_text_byte d) d (run-le-length is_text_byte d),
-        ap numeral (field_before_lem d),
+        ap numeral (field_before-leading d),
         numeral_leading is_text_byte is_text_byte_of_is_sign is_text_byte_of_is_digit d,
         numeral-le-run is_text_byte is_text_byte_of_is_sign is_text_byte_of_is_digit d,
       )

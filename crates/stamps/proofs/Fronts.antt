@@ -1,6 +1,7 @@
 -- A stamp at the front of a longer text. In order: how many bytes are its seconds; the bytes of a header; a stamp that is read
 -- there in two steps, seconds and tail, is the stamp of the line.
 -- Assumes nothing.
+use Rattle.std.specs.Prelude.{None, Option, Some}
 use mathlib.Core.Path.{◌≡◌, refl, sym, ap, ◌∙◌}
 use mathlib.Core.Bool.{Bool, false}
 use mathlib.Core.List.{List, [], ◌∷◌, ◌++◌, append_assoc}
@@ -15,8 +16,6 @@ use Rattle.text.specs.Places.{run, first_place, before}
 use Rattle.text.specs.Lines.{newline}
 use Rattle.text.specs.Decimal.{decimal, signed, two_before}
 use Rattle.text.specs.Number.{fit_signed, numeral}
-use Rattle.text.specs.declared.number.Integer.{Integer}
-use Rattle.text.specs.declared.number.Integer.TheVariants.{Is, Nothing as NoInteger}
 use Rattle.text.proofs.Numbers.{is_digit_of_le, numeral_of_digits, fit_signed-value}
 use Rattle.text.proofs.Digits.{is_sign_of_digit}
 use Rattle.text.proofs.Decimals.{Between, decimal_digits, length-decimal-pos, two_before-between}
@@ -29,12 +28,9 @@ use Rattle.stamps.specs.Stamps.{printed, stamp_of}
 use Rattle.stamps.specs.Held.{OpensPrinted, tail_of}
 use Rattle.stamps.specs.declared.stamp.PrintedNumber.{PrintedNumber}
 use Rattle.stamps.specs.declared.stamp.Tail.{Tail}
-use Rattle.stamps.specs.declared.stamp.Tail.TheVariants.{Is as IsTail, Nothing as NoTail}
-use Rattle.stamps.specs.declared.stamp.Stamp.{Stamp}
-use Rattle.stamps.specs.declared.stamp.Stamp.TheVariants.{At, Nothing as NoStamp}
 use Rattle.stamps.proofs.Scans.{ends_here-first_place, before_of_ends_here, Free_of_between}
 use Rattle.stamps.proofs.Printed.{printed_bytes, fit_signed-printed_signed}
-use Rattle.stamps.proofs.Tails.{tail_bytes, tail_of-tail_bytes, HasTail, HasTail_of_tail_of}
+use Rattle.stamps.proofs.Tails.{tail_at, tail_bytes, tail_of-tail_bytes, HasTail, HasTail_of_tail_of}
 use Rattle.stamps.proofs.Stamps.{stamp_of-bytes, stamp_of-good, stamp_of-settled, stamp_of-header_bytes, In_of_fit_signed}
 
 -- ---- the seconds are as many bytes as their plain decimal has
@@ -73,20 +69,20 @@ header_bytes-between t h =
 
 -- ---- a stamp in two steps
 -- the stamp of these seconds and this tail, if both are there
-abbrev pub stamp_with : Integer → Tail → Stamp
-stamp_with (Is z) (IsTail o m) = At (time_marked z o m)
-stamp_with (Is z) NoTail = NoStamp
-stamp_with NoInteger x = NoStamp
+abbrev pub stamp_with : Option ℤ → Option Tail → Option Time
+stamp_with (Some z) (Some t) = Some (time_marked z t.offset t.mark)
+stamp_with (Some z) None = None
+stamp_with None x = None
 
 module _ (d : List ℕ) where
-  abbrev seconds : Integer
+  abbrev seconds : Option ℤ
   seconds = fit_signed (2 ^ 63) (printed (take (numeral d) d))
 
-  abbrev tail : Tail
+  abbrev tail : Option Tail
   tail = tail_of (drop (numeral d) d)
 
   -- if both are there, the line is their header
-  module _ (z o : ℤ) (m : Bool) (e : seconds ≡ Is z) (k : tail ≡ IsTail o m) where
+  module _ (z o : ℤ) (m : Bool) (e : seconds ≡ Some z) (k : tail ≡ Some (tail_at o m)) where
     abbrev time : Time
     time = time_marked z o m
 
@@ -102,14 +98,14 @@ module _ (d : List ℕ) where
         ap (before newline) whole
         ∙ before_of_ends_here (header_bytes time) u (Free_of_between newline 32 57 (omega arith) (header_bytes time) (header_bytes-between time has_tail.small)) has_tail.ends
 
-    stamp_of_of_both : stamp_of (before newline d) ≡ At time
+    stamp_of_of_both : stamp_of (before newline d) ≡ Some time
     stamp_of_of_both =
         ap stamp_of before_is
         ∙ stamp_of-header_bytes time (In_of_fit_signed (2 ^ 63) (printed (take (numeral d) d)) z e) has_tail.small has_tail.whole
-        ∙ (λ i. At (time_marked z o (sym has_tail.settled_is i)))
+        ∙ (λ i. Some (time_marked z o (sym has_tail.settled_is i)))
 
   -- if the line is a stamp, both are there
-  module _ (t : Time) (e : stamp_of (before newline d) ≡ At t) where
+  module _ (t : Time) (e : stamp_of (before newline d) ≡ Some t) where
     abbrev behind : List ℕ
     behind = drop (first_place newline d) d
 
@@ -120,29 +116,29 @@ module _ (d : List ℕ) where
     unfolding is_digit
     numeral_is = ap numeral whole_is ∙ numeral_signed t.seconds (code " ") _ refl
 
-    seconds_are : seconds ≡ Is t.seconds
+    seconds_are : seconds ≡ Some t.seconds
     seconds_are =
         ap (λ (w : List ℕ). fit_signed (2 ^ 63) (printed w)) ((λ i. take (numeral_is i) (whole_is i)) ∙ take-append_seam (signed t.seconds) (tail_bytes t ++ behind))
         ∙ fit_signed-printed_signed t.seconds (stamp_of-good (before newline d) t e).2
 
-    tail_is : tail ≡ IsTail t.offset t.mark
+    tail_is : tail ≡ Some (tail_at t.offset t.mark)
     tail_is =
         let good = stamp_of-good (before newline d) t e in
         ap tail_of ((λ i. drop (numeral_is i) (whole_is i)) ∙ drop-append_seam (signed t.seconds) (tail_bytes t ++ behind))
         ∙ tail_of-tail_bytes t.seconds t.offset t.mark behind good.1 good.0 (ends_here-first_place d)
-        ∙ ap (IsTail t.offset) (sym (stamp_of-settled (before newline d) t e))
+        ∙ ap (λ (m : Bool). Some (tail_at t.offset m)) (sym (stamp_of-settled (before newline d) t e))
 
   pub stamp_of-before : stamp_of (before newline d) ≡ stamp_with seconds tail
   stamp_of-before = go (stamp_of (before newline d)) refl
     where
-      neither : (x : Integer) (y : Tail) → seconds ≡ x → tail ≡ y → stamp_of (before newline d) ≡ NoStamp → NoStamp ≡ stamp_with x y
-      neither (Is z) (IsTail o m) e k n = let both-there = stamp_of_of_both z o m e k in let q : ◌≡◌ {A = ℕ} 0 1 = cc in absurd (omega arith)
-      neither (Is z) NoTail e k n = refl
-      neither NoInteger y e k n = refl
+      neither : (x : Option ℤ) (y : Option Tail) → seconds ≡ x → tail ≡ y → stamp_of (before newline d) ≡ None → None ≡ stamp_with x y
+      neither (Some z) (Some w) e k n = let both-there = stamp_of_of_both z w.offset w.mark e k in let q : ◌≡◌ {A = ℕ} 0 1 = cc in absurd (omega arith)
+      neither (Some z) None e k n = refl
+      neither None y e k n = refl
 
-      go : (x : Stamp) → stamp_of (before newline d) ≡ x → x ≡ stamp_with seconds tail
-      go (At t) e = sym (λ i. stamp_with (seconds_are t e i) (tail_is t e i))
-      go NoStamp e = neither seconds tail refl refl e
+      go : (x : Option Time) → stamp_of (before newline d) ≡ x → x ≡ stamp_with seconds tail
+      go (Some t) e = sym (λ i. stamp_with (seconds_are t e i) (tail_is t e i))
+      go None e = neither seconds tail refl refl e
 
 -- the same at a place of a text, where the seconds are read first
 module _ (s : List ℕ) (at : ℕ) (r : PrintedNumber) (p : OpensPrinted (2 ^ 63) (drop at s) at r) where
@@ -152,12 +148,12 @@ module _ (s : List ℕ) (at : ℕ) (r : PrintedNumber) (p : OpensPrinted (2 ^ 63
       let e : drop r.end s ≡ drop (numeral d) d = ap (λ (i : ℕ). drop i s) p.end_is ∙ sym (drop-drop (numeral d) at s) in
       stamp_of-before d ∙ sym (λ i. stamp_with (p.number_is i) (tail_of (e i)))
 
-  pub stamp_of_no_seconds : r.number ≡ NoInteger → NoStamp ≡ stamp_of (before newline (drop at s))
-  stamp_of_no_seconds e = sym (stamp_of_with ∙ ap (λ (x : Integer). stamp_with x (tail_of (drop r.end s))) e)
+  pub stamp_of_no_seconds : r.number ≡ None → None ≡ stamp_of (before newline (drop at s))
+  stamp_of_no_seconds e = sym (stamp_of_with ∙ ap (λ (x : Option ℤ). stamp_with x (tail_of (drop r.end s))) e)
 
-  module _ (z : ℤ) (e : r.number ≡ Is z) (y : Tail) (k : y ≡ tail_of (drop r.end s)) where
-    pub stamp_of_no_tail : y ≡ NoTail → NoStamp ≡ stamp_of (before newline (drop at s))
+  module _ (z : ℤ) (e : r.number ≡ Some z) (y : Option Tail) (k : y ≡ tail_of (drop r.end s)) where
+    pub stamp_of_no_tail : y ≡ None → None ≡ stamp_of (before newline (drop at s))
     stamp_of_no_tail n = sym (stamp_of_with ∙ λ i. stamp_with (e i) ((sym k ∙ n) i))
 
-    pub stamp_of-seconds_tail : (o : ℤ) (m : Bool) → y ≡ IsTail o m → At (time_marked z o m) ≡ stamp_of (before newline (drop at s))
-    stamp_of-seconds_tail o m n = sym (stamp_of_with ∙ λ i. stamp_with (e i) ((sym k ∙ n) i))
+    pub stamp_of-seconds_tail : (t : Tail) → y ≡ Some t → Some (time_marked z t.offset t.mark) ≡ stamp_of (before newline (drop at s))
+    stamp_of-seconds_tail t n = sym (stamp_of_with ∙ λ i. stamp_with (e i) ((sym k ∙ n) i))

@@ -2,6 +2,7 @@
 -- of a good book have their places; marked lines that are copied one after the other, from the start, by one line more, and to
 -- the end.
 -- Assumes nothing.
+use Rattle.std.specs.Prelude.{None, Option, ℤ}
 use mathlib.Core.Path.{◌≡◌, refl, sym, ap, ◌∙◌}
 use mathlib.Core.Bool.{Bool, true, cond, ◌&&◌, false≢true}
 use mathlib.Core.List.{List, [], ◌∷◌, ◌++◌, append_assoc}
@@ -18,9 +19,6 @@ use Rattle.text.specs.Quote.{bytes}
 use Rattle.text.specs.Number.{signed_of}
 use Rattle.text.specs.Places.{first_place, before, has}
 use Rattle.text.specs.Lines.{tab, newline, field, rest, ended_lines, taken_by, left}
-use Rattle.text.specs.declared.number.Integer.{Integer}
-use Rattle.text.specs.declared.number.Integer.TheVariants.{Nothing}
-use Rattle.text.specs.declared.number.Number.TheVariants.{Nothing as NoNumber}
 use Rattle.text.proofs.Lists.{by_test, both, drop-cons-add-one, get_or_of_length-le}
 use Rattle.text.proofs.FirstPlaces.{get_or-first_place}
 use Rattle.stamps.specs.Stamps.{printed}
@@ -35,7 +33,7 @@ use Rattle.stamps.proofs.SinceLines.{since_with_no_offset}
 use Rattle.stamps.proofs.Books.{taken_by-le, good_book, behind, first_place-lt, ended_lines-first, left_first, ended_lines-open, left_open, ended_lines-nil}
 
 -- ---- the marks of lines pick those that are listed
-pub picked-marks_of : (bound : ℕ) (c : Integer) (ls : List (List ℕ)) (more : List ℕ) → picked (marks_of bound c ls ++ more) ls ≡ listed bound c ls
+pub picked-marks_of : (bound : ℕ) (c : Option ℤ) (ls : List (List ℕ)) (more : List ℕ) → picked (marks_of bound c ls ++ more) ls ≡ listed bound c ls
 unfolding marks_of picked listed
 picked-marks_of bound c [] [] = refl
 picked-marks_of bound c [] (m ∷ more) = refl
@@ -43,16 +41,16 @@ picked-marks_of bound c (l ∷ ls) more =
     by_test (is_listed c (line_of bound l)) (λ e. rw (e, picked-marks_of bound (cut_off_below c (line_of bound l)) ls more))
     (λ e. rw (e, picked-marks_of bound (cut_off_below c (line_of bound l)) ls more))
 
-length-marks_of : (bound : ℕ) (c : Integer) (ls : List (List ℕ)) → length (marks_of bound c ls) ≡ length ls
+length-marks_of : (bound : ℕ) (c : Option ℤ) (ls : List (List ℕ)) → length (marks_of bound c ls) ≡ length ls
 unfolding marks_of
 length-marks_of bound c [] = refl
 length-marks_of bound c (l ∷ ls) = ap suc (length-marks_of bound (cut_off_below c (line_of bound l)) ls)
 
 -- set in a buffer that has a place for each
-picked_sets : (bound : ℕ) (ls : List (List ℕ)) (ms : List ℕ) → length ls ≤ length ms → picked (sets ms 0 (marks_of bound Nothing ls)) ls ≡ listed bound Nothing ls
+picked_sets : (bound : ℕ) (ls : List (List ℕ)) (ms : List ℕ) → length ls ≤ length ms → picked (sets ms 0 (marks_of bound None ls)) ls ≡ listed bound None ls
 picked_sets bound ls ms h =
-    let marks = marks_of bound Nothing ls in
-    ap (λ (v : List ℕ). picked v ls) (sets-eq marks ms 0 (omega (arith, length-marks_of bound Nothing ls))) ∙ picked-marks_of bound Nothing ls (drop (0 + length marks) ms)
+    let marks = marks_of bound None ls in
+    ap (λ (v : List ℕ). picked v ls) (sets-eq marks ms 0 (omega (arith, length-marks_of bound None ls))) ∙ picked-marks_of bound None ls (drop (0 + length marks) ms)
 
 -- ---- a good line has at least 10 bytes
 -- a field, its tab and what follows
@@ -102,8 +100,8 @@ lines_fit bound [] g = omega arith
 lines_fit bound (l ∷ ls) g = let p = both (is_good (line_of bound l)) (are_good (judged bound ls)) g in omega (arith, length-good bound l p.0, lines_fit bound ls p.1)
 
 -- the marks of a good book pick its listing
-pub marked_book : (bound : ℕ) (book was marks : List ℕ) → length book ≤ max_book → 5957 ≤ length was → first_bad 1 (lines_in bound book) ≡ NoNumber
-    → marks ≡ sets was 0 (marks_of bound Nothing (ended_lines book)) → (left book ≡ []) × (joined (picked marks (ended_lines book)) ≡ listing bound book)
+pub marked_book : (bound : ℕ) (book was marks : List ℕ) → length book ≤ max_book → 5957 ≤ length was → first_bad 1 (lines_in bound book) ≡ None
+    → marks ≡ sets was 0 (marks_of bound None (ended_lines book)) → (left book ≡ []) × (joined (picked marks (ended_lines book)) ≡ listing bound book)
 unfolding lines_in listing
 marked_book bound book was marks within places good is =
     let ls = ended_lines book in

@@ -4,6 +4,7 @@
 -- order: texts without tab and newline; four such texts with tabs between; a line with its newline; the room; the text between
 -- two places of a line; a line of a hull; a line of a cut-off.
 -- Assumes nothing.
+use Rattle.std.specs.Prelude.{Err, Ok, Option, Result, Some}
 use mathlib.Core.Path.{◌≡◌, refl, sym, ap, ◌∙◌}
 use mathlib.Core.Bool.{Bool, true, false, not, ◌&&◌, false≢true}
 use mathlib.Core.List.{List, [], ◌∷◌, ◌++◌, append_assoc}
@@ -28,10 +29,6 @@ use Rattle.time.specs.Answers.{unmarked, is_written}
 use Rattle.time.specs.Header.{header_bytes}
 use Rattle.time.specs.Range.{time_in_range, seconds_in_range, offset_in_range, least_seconds, most_seconds, least_offset, most_offset}
 use Rattle.time.specs.declared.Time.{Time}
-use Rattle.time.specs.declared.Now.TheVariants.{At as CurrentAt}
-use Rattle.time.specs.declared.Answer.{Answer}
-use Rattle.time.specs.declared.Answer.TheVariants.{Time as Read, Refused as NotRead}
-use Rattle.time.specs.declared.Written.TheVariants.{Length}
 use Rattle.header.specs.Theorems.{Seconds64}
 use Rattle.relative.specs.Relative.{relative_of}
 use Rattle.relative.proofs.Unmarked.{current_mark_ignored}
@@ -42,7 +39,6 @@ use Rattle.stamps.specs.Copies.{joined}
 use Rattle.stamps.specs.Theorems.{settled, are_good}
 use Rattle.stamps.specs.Held.{is_text_byte}
 use Rattle.stamps.specs.declared.line.Line.{Line}
-use Rattle.stamps.specs.declared.stamp.Stamp.TheVariants.{At}
 use Rattle.stamps.proofs.Printed.{printed_signed}
 use Rattle.stamps.proofs.Stamps.{stamp_of-header_bytes}
 use Rattle.stamps.proofs.Fronts.{header_bytes-between}
@@ -52,6 +48,7 @@ use Rattle.stamps.proofs.SinceLines.{not-read_of_not-time_in_range}
 use Rattle.stamps.proofs.Reading.{line_of-hull, line_of-since}
 use Rattle.stamps.proofs.Listings.{ended_lines-joined, left_joined}
 use Rattle.stamps.proofs.Writing.{every-is_text_byte, good_hull, length-ended-hull_line, length-ended-since_line}
+use Rattle.time.specs.declared.Refusal.{Refusal}
 
 -- ---- texts without tab and newline
 abbrev Text : List ℕ → Type 0
@@ -79,9 +76,9 @@ pub no_tab : (s : List ℕ) → Text s → Free tab s
 unfolding is_text_byte
 no_tab s e = Free_of_Text tab refl s e
 
-no_newline_lem : (s : List ℕ) → Text s → Free newline s
+no_newline_of_Text : (s : List ℕ) → Text s → Free newline s
 unfolding is_text_byte
-no_newline_lem s e = Free_of_Text newline refl s e
+no_newline_of_Text s e = Free_of_Text newline refl s e
 
 pub Free-append : (c : ℕ) (s t : List ℕ) → Free c s → Free c t → Free c (s ++ t)
 Free-append c [] t f g = g
@@ -107,9 +104,9 @@ four_fields w a b c tw ta tb tc =
     let l-is : l ≡ w ++ tab ∷ from_Second = append_assoc (w ++ tab ∷ a) (tab ∷ b) (tab ∷ c) ∙ append_assoc w (tab ∷ a) (tab ∷ from-third) in
     let r₁ : rest l ≡ from_Second = ap rest l-is ∙ rest-append w from_Second (no_tab w tw) in
     let r₂ : rest (rest l) ≡ from-third = ap rest r₁ ∙ rest-append a from-third (no_tab a ta) in
-    let g : (s t : List ℕ) → Text s → Free newline t → Free newline (s ++ tab ∷ t) = λ s t ts ft. Free-append newline s (tab ∷ t) (no_newline_lem s ts) (refl, ft) in
+    let g : (s t : List ℕ) → Text s → Free newline t → Free newline (s ++ tab ∷ t) = λ s t ts ft. Free-append newline s (tab ∷ t) (no_newline_of_Text s ts) (refl, ft) in
     record {
-      one_line = ap (has newline) l-is ∙ has_of_Free newline (w ++ tab ∷ from_Second) (g w from_Second tw (g a from-third ta (g b c tb (no_newline_lem c tc))));
+      one_line = ap (has newline) l-is ∙ has_of_Free newline (w ++ tab ∷ from_Second) (g w from_Second tw (g a from-third ta (g b c tb (no_newline_of_Text c tc))));
       first_is = ap field l-is ∙ field-append w from_Second (no_tab w tw);
       second_is = ap field r₁ ∙ field-append a from-third (no_tab a ta);
       third_is = ap field r₂ ∙ field-append b c (no_tab b tb);
@@ -128,14 +125,14 @@ record InRoom (good : Bool) (l room : List ℕ) (n : ℕ) : Type 0 where
   values_good : good ≡ true
   bytes_are : take n (room_after (is_written (line_written good l room)) (ended l) room) ≡ ended l
 
-in_room : (good : Bool) (l room : List ℕ) (n : ℕ) → line_written good l room ≡ Length n → InRoom good l room n
+in_room_of_fits : (l room : List ℕ) (n : ℕ) → fits (ended l) room ≡ true → ◌≡◌ {A = Result ℕ Refusal} (Ok (length (ended l))) (Ok n) → InRoom true l room n
+in_room_of_fits l room n y p =
+    let m : n ≡ length (ended l) = cc in
+    record { values_good = refl; bytes_are = rw (y, m) (take-append_seam (ended l) (drop (length (ended l)) room)) }
+
+in_room : (good : Bool) (l room : List ℕ) (n : ℕ) → line_written good l room ≡ Ok n → InRoom good l room n
 in_room false l room n e = let z : ◌≡◌ {A = ℕ} 0 1 = cc in absurd (omega arith)
-in_room true l room n e = by_test (fits (ended l) room) (λ y. in_room_of_fits y (rw y at e)) (λ y. let k = rw y at e in let z : ◌≡◌ {A = ℕ} 0 1 = cc in absurd (omega arith))
-  where
-    in_room_of_fits : fits (ended l) room ≡ true → Length (length (ended l)) ≡ Length n → InRoom true l room n
-    in_room_of_fits y p =
-        let m : n ≡ length (ended l) = cc in
-        record { values_good = refl; bytes_are = rw (y, m) (take-append_seam (ended l) (drop (length (ended l)) room)) }
+in_room true l room n e = by_test (fits (ended l) room) (λ y. in_room_of_fits l room n y (rw y at e)) (λ y. let k = rw y at e in let z : ◌≡◌ {A = ℕ} 0 1 = cc in absurd (omega arith))
 
 -- ---- the text between two places of a line
 -- what stands behind its first n bytes
@@ -178,7 +175,7 @@ part-hull_line-key path key t =
 
 -- the line of good values is read as a line of that time, without a mark that means nothing, and within its bounds are the path and the key
 pub hull_read_back : (bound : ℕ) (path key : List ℕ) (t : Time) → is_hull path key t ≡ true → Seconds64 t.seconds
-    → (line_of bound (hull_line path key t) ≡ hull_at path key (At (settled t)))
+    → (line_of bound (hull_line path key t) ≡ hull_at path key (Some (settled t)))
     × (part (hull_line path key t) (span_at 5 path) ≡ path)
     × (part (hull_line path key t) (span_at (5 + length path + 1) key) ≡ key)
 hull_read_back bound path key t e r =
@@ -191,7 +188,7 @@ hull_read_back bound path key t e r =
       part-hull_line-key path key t,
     )
 
-module _ (path key : List ℕ) (t : Time) (room : List ℕ) (n : ℕ) (e : hull_written path key t room ≡ Length n) where
+module _ (path key : List ℕ) (t : Time) (room : List ℕ) (n : ℕ) (e : hull_written path key t room ≡ Ok n) where
   -- a call that wrote n bytes has left the line and its newline in the first n bytes of the room
   pub hull_in_room : take n (room_after (is_written (hull_written path key t room)) (ended (hull_line path key t)) room) ≡ ended (hull_line path key t)
   unfolding hull_written
@@ -200,7 +197,7 @@ module _ (path key : List ℕ) (t : Time) (room : List ℕ) (n : ℕ) (e : hull_
   -- and so a book of one good line
   pub hull_read_back_in_room : (bound : ℕ) → Seconds64 t.seconds
       → let written = take n (room_after (is_written (hull_written path key t room)) (ended (hull_line path key t)) room) in
-      (lines_in bound written ≡ hull_at path key (At (settled t)) ∷ []) × (part written (span_at 5 path) ≡ path) × (part written (span_at (5 + length path + 1) key) ≡ key)
+      (lines_in bound written ≡ hull_at path key (Some (settled t)) ∷ []) × (part written (span_at 5 path) ≡ path) × (part written (span_at (5 + length path + 1) key) ≡ key)
   unfolding hull_written
   hull_read_back_in_room bound r =
       let l = hull_line path key t in
@@ -208,40 +205,40 @@ module _ (path key : List ℕ) (t : Time) (room : List ℕ) (n : ℕ) (e : hull_
       let back = hull_read_back bound path key t good r in
       let k : length (ended l) ≡ length l + 1 = length-append l (newline ∷ []) in
       let m = length-ended-hull_line path key t in (
-        ap (lines_in bound) hull_in_room ∙ lines_in-ended bound l (hull_fields path key t good).one_line ∙ ap (λ (x : Line). x ∷ []) back.0,
+        ap (lines_in bound) hull_in_room ∙ lines_in-ended bound l (hull_fields path key t good).one_line ∙ ap (λ (x : Option Line). x ∷ []) back.0,
         ap (λ (s : List ℕ). part s (span_at 5 path)) hull_in_room ∙ part-append l (newline ∷ []) path 5 (omega (arith, k, m)) ∙ back.1,
         ap (λ (s : List ℕ). part s (span_at (5 + length path + 1) key)) hull_in_room ∙ part-append l (newline ∷ []) key (5 + length path + 1) (omega (arith, k, m)) ∙ back.2,
       )
 
 -- ---- a line of a cut-off
 -- a relative date is read only at a current time in range
-time_in_range_of_read : (bound : ℕ) (s : List ℕ) (x : Time) → is_read (relative_of bound s (CurrentAt x)) ≡ true → time_in_range x ≡ true
+time_in_range_of_read : (bound : ℕ) (s : List ℕ) (x : Time) → is_read (relative_of bound s (Some x)) ≡ true → time_in_range x ≡ true
 time_in_range_of_read bound s x e = by_test (time_in_range x) (λ y. y) (λ y. absurd (false≢true (sym (not-read_of_not-time_in_range bound s x y) ∙ e)))
 
 -- so its seconds and its offset have 64 bits
 record GoodSince (bound : ℕ) (text : List ℕ) (current : Time) : Type 0 where
-  read : is_read (relative_of bound text (CurrentAt current)) ≡ true
+  read : is_read (relative_of bound text (Some current)) ≡ true
   text_is : Text text
-  seconds_in_lem : Seconds64 current.seconds
-  offset_in : Seconds64 current.offset
+  seconds_fit : Seconds64 current.seconds
+  offset_fits : Seconds64 current.offset
 
 good_since : (bound : ℕ) (text : List ℕ) (current : Time) → is_since bound text current ≡ true → GoodSince bound text current
 unfolding is_since time_in_range seconds_in_range offset_in_range
 good_since bound text current e =
-    let p = both (not (has tab text) && not (has newline text)) (is_read (relative_of bound text (CurrentAt current))) e in
+    let p = both (not (has tab text) && not (has newline text)) (is_read (relative_of bound text (Some current))) e in
     let q = both (seconds_in_range current.seconds) (offset_in_range current.offset) (time_in_range_of_read bound text current p.1) in
     let s = In_of_is_in least_seconds most_seconds current.seconds q.0 in
     let o = In_of_is_in least_offset most_offset current.offset q.1 in
     record {
       read = p.1;
       text_is = every-is_text_byte text ∙ p.0;
-      seconds_in_lem = record { low = omega (ints, s.low); high = omega (ints, s.high) };
-      offset_in = record { low = omega (ints, o.low); high = omega (ints, o.high) };
+      seconds_fit = record { low = omega (ints, s.low); high = omega (ints, s.high) };
+      offset_fits = record { low = omega (ints, o.low); high = omega (ints, o.high) };
     }
 
-since_at-good : (text : List ℕ) (current : Time) (a : Answer) → is_read a ≡ true → is_good (since_at text current a) ≡ true
-since_at-good text current (Read t) e = refl
-since_at-good text current (NotRead r) e = e
+since_at-good : (text : List ℕ) (current : Time) (a : Result Time Refusal) → is_read a ≡ true → is_good (since_at text current a) ≡ true
+since_at-good text current (Ok t) e = refl
+since_at-good text current (Err r) e = e
 
 since_fields : (bound : ℕ) (text : List ℕ) (current : Time) → is_since bound text current ≡ true
     → FourFields (since_line text current) (bytes "since") text (signed current.seconds) (signed current.offset)
@@ -263,26 +260,26 @@ part-since_line-text text current =
 -- the line of good values is read as a good line of that current time, without its mark, whose cut-off is the time that the text means at it; and
 -- within its bounds is the text
 pub since_read_back : (bound : ℕ) (text : List ℕ) (current : Time) → is_since bound text current ≡ true
-    → (line_of bound (since_line text current) ≡ since_at text (unmarked current) (relative_of bound text (CurrentAt current)))
+    → (line_of bound (since_line text current) ≡ since_at text (unmarked current) (relative_of bound text (Some current)))
     × (is_good (line_of bound (since_line text current)) ≡ true)
     × (part (since_line text current) (span_at 6 text) ≡ text)
 unfolding since_of
 since_read_back bound text current e =
     let good = good_since bound text current e in
     let f = since_fields bound text current e in
-    let line_is : line_of bound (since_line text current) ≡ since_at text (unmarked current) (relative_of bound text (CurrentAt current)) =
+    let line_is : line_of bound (since_line text current) ≡ since_at text (unmarked current) (relative_of bound text (Some current)) =
     line_of-since bound (since_line text current) f.one_line f.first_is ∙ (λ i. since_of bound (f.second_is i) (f.third_is i) (f.fourth_is i))
-    ∙ (λ i. since_with bound text (printed_signed current.seconds good.seconds_in_lem i) (printed_signed current.offset good.offset_in i))
+    ∙ (λ i. since_with bound text (printed_signed current.seconds good.seconds_fit i) (printed_signed current.offset good.offset_fits i))
     ∙ ap (since_at text (unmarked current)) (sym (current_mark_ignored bound text current)) in
-    (line_is, ap is_good line_is ∙ since_at-good text (unmarked current) (relative_of bound text (CurrentAt current)) good.read, part-since_line-text text current)
+    (line_is, ap is_good line_is ∙ since_at-good text (unmarked current) (relative_of bound text (Some current)) good.read, part-since_line-text text current)
 
-module _ (bound : ℕ) (text : List ℕ) (current : Time) (room : List ℕ) (n : ℕ) (e : since_written bound text current room ≡ Length n) where
+module _ (bound : ℕ) (text : List ℕ) (current : Time) (room : List ℕ) (n : ℕ) (e : since_written bound text current room ≡ Ok n) where
   pub since_in_room : take n (room_after (is_written (since_written bound text current room)) (ended (since_line text current)) room) ≡ ended (since_line text current)
   unfolding since_written
   since_in_room = (in_room (is_since bound text current) (since_line text current) room n e).bytes_are
 
   pub since_read_back_in_room : let written = take n (room_after (is_written (since_written bound text current room)) (ended (since_line text current)) room) in
-      (lines_in bound written ≡ since_at text (unmarked current) (relative_of bound text (CurrentAt current)) ∷ []) × (are_good (lines_in bound written) ≡ true) × (part written (span_at 6 text) ≡ text)
+      (lines_in bound written ≡ since_at text (unmarked current) (relative_of bound text (Some current)) ∷ []) × (are_good (lines_in bound written) ≡ true) × (part written (span_at 6 text) ≡ text)
   unfolding since_written are_good
   since_read_back_in_room =
       let l = since_line text current in
@@ -290,7 +287,7 @@ module _ (bound : ℕ) (text : List ℕ) (current : Time) (room : List ℕ) (n :
       let back = since_read_back bound text current good in
       let one = ap (lines_in bound) since_in_room ∙ lines_in-ended bound l (since_fields bound text current good).one_line in
       let k : length (ended l) ≡ length l + 1 = length-append l (newline ∷ []) in (
-        one ∙ ap (λ (x : Line). x ∷ []) back.0,
+        one ∙ ap (λ (x : Option Line). x ∷ []) back.0,
         ap are_good one ∙ ap (λ (b : Bool). b && true) back.1,
         ap (λ (s : List ℕ). part s (span_at 6 text)) since_in_room ∙ part-append l (newline ∷ []) text 6 (omega (arith, k, length-ended-since_line text current)) ∙ back.2,
       )

@@ -3,17 +3,17 @@
 -- that is written for them.
 -- Assumes nothing.
 use mathlib.Core.Path.{◌≡◌, refl, sym, ap, ◌∙◌}
+use Rattle.std.specs.Prelude.{None, Some}
 use mathlib.Core.Bool.{Bool, true, false, cond, ◌&&◌, and-false, or-false}
 use mathlib.Core.List.{List, [], ◌∷◌, ◌++◌}
 use Prim.Native.Char.{code}
 use Prim.Native.Nat.{ℕ, zero, suc, ◌+◌, ◌*◌, ◌/◌, ◌%◌, ◌<◌}
-use native.Mathlib.Nat.{add-zero}
 use native.Mathlib.Omega.{arith}
 use borrow.Author.Tests.{eqb-true, eq-eqb, lt-ltb, ltb-true}
 use lib.Dec.{ltb, eqb, eqb-suc-zero}
 use lib.IntN.{ℤ, pos, negsuc, neg_ℤ, nat_abs}
 use lib.ListN.{length, drop, get_or}
-use lib.Seq.{get_or-drop, drop-drop}
+use lib.Seq.{drop-drop}
 use Rattle.text.specs.Bytes.{is_digit, is_sign}
 use Rattle.text.specs.Decimal.{two_before}
 use Rattle.text.proofs.Lists.{by_test, both, get_or_of_length-le}
@@ -24,7 +24,11 @@ use Rattle.time.specs.declared.Time.{Time}
 use Rattle.header.specs.Held.{two_digits}
 use Rattle.stamps.specs.Stamps.{is_whole_minutes}
 use Rattle.stamps.specs.Held.{clock_size, tail_with, four_digits, ends_here, is_tail, tail_of}
-use Rattle.stamps.specs.declared.stamp.Tail.TheVariants.{Is, Nothing as NoTail}
+use Rattle.stamps.specs.declared.stamp.Tail.{Tail}
+
+-- the tail with these two fields
+abbrev pub tail_at : ℤ → Bool → Tail
+tail_at o m = record { offset = o; mark = m }
 
 all_five : (a b c d e : Bool) → (a && b && c && d && e) ≡ true → (a ≡ true) × (b ≡ true) × (c ≡ true) × (d ≡ true) × (e ≡ true)
 all_five a b c d e k =
@@ -34,33 +38,22 @@ all_five a b c d e k =
     let one = both a b two.0 in
     (one.0, one.1, two.1, three.1, four.1)
 
--- ---- its tests at a place of a text
-module _ (s : List ℕ) (at : ℕ) where
-  abbrev pub tests : Bool
-  tests =
-      eqb (get_or s at 0) (code " ") && is_sign (get_or s (at + 1) 0) && four_digits (get_or s (at + 2) 0) (get_or s (at + 3) 0) (get_or s (at + 4) 0) (get_or s (at + 5) 0)
-      && ltb (get_or s (at + 4) 0) (code "6") && ends_here (drop (at + 6) s)
+-- ---- its tests
+pub tail_of_of_tests : (s : List ℕ) → is_tail s ≡ true
+    → tail_of s ≡ Some (tail_with (eqb (get_or s 1 0) (code "-")) (clock_size (get_or s 2 0) (get_or s 3 0) (get_or s 4 0) (get_or s 5 0)))
+unfolding tail_of
+tail_of_of_tests s e = rw e
 
-  is_tail-drop : is_tail (drop at s) ≡ tests
-  unfolding is_tail
-  is_tail-drop = simp (get_or-drop, drop-drop, add-zero)
+pub tail_of_of_no_test : (s : List ℕ) → is_tail s ≡ false → tail_of s ≡ None
+unfolding tail_of
+tail_of_of_no_test s e = rw e
 
-  pub tail_of_of_tests : tests ≡ true
-      → tail_of (drop at s) ≡ tail_with (eqb (get_or s (at + 1) 0) (code "-")) (clock_size (get_or s (at + 2) 0) (get_or s (at + 3) 0) (get_or s (at + 4) 0) (get_or s (at + 5) 0))
-  unfolding tail_of
-  tail_of_of_tests e = rw (is_tail-drop, e) (simp get_or-drop)
-
-  pub four_digits_of_tests : tests ≡ true → four_digits (get_or s (at + 2) 0) (get_or s (at + 3) 0) (get_or s (at + 4) 0) (get_or s (at + 5) 0) ≡ true
-  four_digits_of_tests e =
-      (all_five (eqb (get_or s at 0) (code " ")) (is_sign (get_or s (at + 1) 0)) (four_digits (get_or s (at + 2) 0) (get_or s (at + 3) 0) (get_or s (at + 4) 0) (get_or s (at + 5) 0))
-      (ltb (get_or s (at + 4) 0) (code "6")) (ends_here (drop (at + 6) s)) e).2
-
-  pub tail_of_of_no_test : tests ≡ false → tail_of (drop at s) ≡ NoTail
-  unfolding tail_of
-  tail_of_of_no_test e = rw (is_tail-drop, e)
+-- the end of the line behind a tail that begins at a place
+pub ends_behind_tail : (s d : List ℕ) (at : ℕ) → d ≡ drop at s → ends_here (drop (at + 6) s) ≡ ends_here (drop 6 d)
+ends_behind_tail s d at e = ap ends_here (sym (drop-drop 6 at s) ∙ ap (drop 6) (sym e))
 
 -- ---- a text that is too short
-pub tail_of_of_length : (s : List ℕ) → length s < 6 → tail_of s ≡ NoTail
+pub tail_of_of_length : (s : List ℕ) → length s < 6 → tail_of s ≡ None
 unfolding tail_of is_tail is_digit
 tail_of_of_length s h =
     rw (
@@ -98,7 +91,7 @@ module _ (n : ℕ) (h : n < 360000) (w : n % 60 ≡ 0) where
   minutes_lt = lt-ltb (48 + minutes / 10) (code "6") (omega arith)
 
 pub tail_of-tail_bytes : (z o : ℤ) (m : Bool) (t : List ℕ) → nat_abs o < 360000 → is_whole_minutes o ≡ true → ends_here t ≡ true
-    → tail_of (tail_bytes (time_marked z o m) ++ t) ≡ Is o (is_minus_zero (time_marked z o m))
+    → tail_of (tail_bytes (time_marked z o m) ++ t) ≡ Some (tail_at o (is_minus_zero (time_marked z o m)))
 unfolding tail_of is_tail tail_with is_sign is_digit header_sign sign_byte whole_minutes is_whole_minutes
 tail_of-tail_bytes z (pos zero) true t h w e = rw e
 tail_of-tail_bytes z (pos zero) false t h w e = rw e
@@ -129,11 +122,11 @@ with_sign b (suc n) z e =
     by_test (eqb b (code "-")) (λ m. rw (m, eqb-suc-zero) (record { size_is = refl; sign_is = sym (eqb-true b (code "-") m); settled_is = refl }))
     (λ m. rw m (record { size_is = refl; sign_is = sym (plus_of_is_sign b e m); settled_is = refl }))
 
-with_sign_of_tail_with : (b n : ℕ) (z o : ℤ) (m : Bool) → is_sign b ≡ true → tail_with (eqb b (code "-")) n ≡ Is o m → WithSign b n (time_marked z o m)
+with_sign_of_tail_with : (b n : ℕ) (z o : ℤ) (m : Bool) → is_sign b ≡ true → tail_with (eqb b (code "-")) n ≡ tail_at o m → WithSign b n (time_marked z o m)
 unfolding tail_with
 with_sign_of_tail_with b n z o m e k =
-    let size : cond (eqb b (code "-")) (neg_ℤ (pos n)) (pos n) ≡ o = cc in
-    let mark : (eqb b (code "-") && eqb n 0) ≡ m = cc in
+    let size : cond (eqb b (code "-")) (neg_ℤ (pos n)) (pos n) ≡ o = ap (λ (t : Tail). t.offset) k in
+    let mark : (eqb b (code "-") && eqb n 0) ≡ m = ap (λ (t : Tail). t.mark) k in
     rw (← size, ← mark) (with_sign b n z e)
 
 -- its digits
@@ -181,7 +174,7 @@ module _ (a b h hh m mm : ℕ) (t : List ℕ) (z o : ℤ) (mark : Bool) where
         ∙ ap (λ (w : List ℕ). a ∷ b ∷ w) (two_before-two_digits h hh (two_before (two_digits m mm) t) u.0 u.1)
         ∙ ap (λ (w : List ℕ). a ∷ b ∷ h ∷ hh ∷ w) (two_before-two_digits m mm t v.0 v.1))
 
-  HasTail_of_digits : a ≡ code " " → is_sign b ≡ true → four_digits h hh m mm ≡ true → m < code "6" → ends_here t ≡ true → tail_with (eqb b (code "-")) (clock_size h hh m mm) ≡ Is o mark → HasTail text time
+  HasTail_of_digits : a ≡ code " " → is_sign b ≡ true → four_digits h hh m mm ≡ true → m < code "6" → ends_here t ≡ true → tail_with (eqb b (code "-")) (clock_size h hh m mm) ≡ tail_at o mark → HasTail text time
   unfolding is_whole_minutes
   HasTail_of_digits x e d l n k =
       let p = both (is_digit h && is_digit hh) (is_digit m && is_digit mm) d in
@@ -199,20 +192,22 @@ module _ (a b h hh m mm : ℕ) (t : List ℕ) (z o : ℤ) (mark : Bool) where
         settled_is = q.settled_is;
       }
 
-  HasTail_of_tests : is_tail text ≡ true → tail_of text ≡ Is o mark → HasTail text time
+  HasTail_of_tests : is_tail text ≡ true → tail_of text ≡ Some (tail_at o mark) → HasTail text time
   unfolding is_tail tail_of
   HasTail_of_tests k e =
       let p = all_five (eqb a (code " ")) (is_sign b) (four_digits h hh m mm) (ltb m (code "6")) (ends_here t) k in
-      HasTail_of_digits (eqb-true a (code " ") p.0) p.1 p.2 (ltb-true m (code "6") p.3) p.4 (rw k at e)
+      let found = rw k at e in
+      let tail_is : tail_with (eqb b (code "-")) (clock_size h hh m mm) ≡ tail_at o mark = cc in
+      HasTail_of_digits (eqb-true a (code " ") p.0) p.1 p.2 (ltb-true m (code "6") p.3) p.4 tail_is
 
-all_tests : (s : List ℕ) (o : ℤ) (mark : Bool) → tail_of s ≡ Is o mark → is_tail s ≡ true
+all_tests : (s : List ℕ) (o : ℤ) (mark : Bool) → tail_of s ≡ Some (tail_at o mark) → is_tail s ≡ true
 unfolding tail_of
 all_tests s o mark e = by_test (is_tail s) (λ k. k) (λ k. let q = rw k at e in let z : ◌≡◌ {A = ℕ} 0 1 = cc in absurd (omega arith))
 
-no_tail : (s : List ℕ) (z o : ℤ) (mark : Bool) → length s < 6 → tail_of s ≡ Is o mark → HasTail s (time_marked z o mark)
+no_tail : (s : List ℕ) (z o : ℤ) (mark : Bool) → length s < 6 → tail_of s ≡ Some (tail_at o mark) → HasTail s (time_marked z o mark)
 no_tail s z o mark h e = let q = rw (tail_of_of_length s h) at e in let z : ◌≡◌ {A = ℕ} 0 1 = cc in absurd (omega arith)
 
-pub HasTail_of_tail_of : (s : List ℕ) (z o : ℤ) (mark : Bool) → tail_of s ≡ Is o mark → HasTail s (time_marked z o mark)
+pub HasTail_of_tail_of : (s : List ℕ) (z o : ℤ) (mark : Bool) → tail_of s ≡ Some (tail_at o mark) → HasTail s (time_marked z o mark)
 HasTail_of_tail_of (a ∷ b ∷ h ∷ hh ∷ m ∷ mm ∷ t) z o mark e =
     HasTail_of_tests a b h hh m mm t z o mark (all_tests (a ∷ b ∷ h ∷ hh ∷ m ∷ mm ∷ t) o mark e) e
 HasTail_of_tail_of [] z o mark e = no_tail [] z o mark (omega arith) e

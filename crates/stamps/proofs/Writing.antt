@@ -2,13 +2,14 @@
 -- text of a `since` line, tested by a scan; what the tests say of a hull; how many bytes a line has with its newline; the three
 -- answers of a call that writes it.
 -- Assumes nothing.
+use Rattle.std.specs.Prelude.{Err, Ok, Result, Some}
 use mathlib.Core.Path.{◌≡◌, sym, ap, ◌∙◌}
-use mathlib.Core.Bool.{Bool, true, false, not, ◌&&◌, false≢true, and-true, and-false}
+use mathlib.Core.Bool.{Bool, true, false, not, ◌&&◌, false≢true, and-false}
 use mathlib.Core.List.{List, [], ◌∷◌, ◌++◌}
 use Prim.Native.Nat.{ℕ, ◌+◌, ◌≤◌, ◌<◌}
 use native.Mathlib.Omega.{arith}
 use borrow.Author.Tests.{eq-eqb, ne_eqb, le-leb, lt-leb, ltb-true}
-use lib.Dec.{ltb, eqb}
+use lib.Dec.{ltb, leb, eqb}
 use lib.IntN.{nat_abs}
 use lib.ListN.{length, take, drop, length-append}
 use lib.Seq.{take-length}
@@ -22,16 +23,14 @@ use Rattle.text.proofs.Runs.{past-le-length, has_cons, has_nil}
 use Rattle.time.specs.Answers.{is_written}
 use Rattle.time.specs.Header.{header_bytes}
 use Rattle.time.specs.declared.Time.{Time}
-use Rattle.time.specs.declared.Now.TheVariants.{At as CurrentAt}
 use Rattle.time.specs.declared.Refusal.TheVariants.{Room, Book}
-use Rattle.time.specs.declared.Written.{Written}
-use Rattle.time.specs.declared.Written.TheVariants.{Length, Refused}
 use Rattle.relative.specs.Relative.{relative_of}
 use Rattle.stamps.specs.Stamps.{is_whole_minutes}
 use Rattle.stamps.specs.Lines.{every, is_path_byte, is_path, is_hex_digit, is_key}
 use Rattle.stamps.specs.Writing.{hull_line, since_line, ended, is_hull, is_read, is_since, line_written}
 use Rattle.stamps.specs.Held.{is_text_byte}
 use Rattle.stamps.proofs.Fields.{every_leading, run_of_every}
+use Rattle.time.specs.declared.Refusal.{Refusal}
 
 -- ---- bytes that are all of one class
 every_of_run : (p : ℕ → Bool) (s : List ℕ) → run p s ≡ length s → every p s ≡ true
@@ -52,13 +51,13 @@ every-is_text_byte (b ∷ s) =
     (λ d. rw (has_cons tab b s, has_cons newline b s, e, d) (every-is_text_byte s)))
 
 -- ---- a path
-pub is_path_of_lt : (s : List ℕ) → 255 < length s → is_path s ≡ false
+pub is_path_of_size : (s : List ℕ) → (ltb 0 (length s) && leb (length s) 255) ≡ true → is_path s ≡ eqb (past is_path_byte s 0) (length s)
 unfolding is_path
-is_path_of_lt s h = rw (lt-leb (length s) 255 h, and-false (ltb 0 (length s)))
+is_path_of_size s e = rw e (every_past is_path_byte s)
 
-pub is_path_of_le : (s : List ℕ) → length s ≤ 255 → is_path s ≡ (ltb 0 (length s) && eqb (past is_path_byte s 0) (length s))
+pub is_path_of_no_size : (s : List ℕ) → (ltb 0 (length s) && leb (length s) 255) ≡ false → is_path s ≡ false
 unfolding is_path
-is_path_of_le s h = rw (le-leb (length s) 255 h, and-true (ltb 0 (length s)), every_past is_path_byte s)
+is_path_of_no_size s e = rw e
 
 -- ---- a key
 pub is_key_of_ne : (s : List ℕ) → (length s ≡ 16 → ⊥) → is_key s ≡ false
@@ -77,7 +76,7 @@ module _ (bound : ℕ) (text : List ℕ) (current : Time) where
       let e : every is_text_byte text ≡ false = every_past is_text_byte text ∙ ne_eqb (past is_text_byte text 0) (length text) (λ r. omega arith) in
       rw (sym (every-is_text_byte text) ∙ e)
 
-  pub is_since_of_le : length text ≤ past is_text_byte text 0 → is_since bound text current ≡ is_read (relative_of bound text (CurrentAt current))
+  pub is_since_of_le : length text ≤ past is_text_byte text 0 → is_since bound text current ≡ is_read (relative_of bound text (Some current))
   unfolding is_since
   is_since_of_le h =
       let r : past is_text_byte text 0 ≡ length text = omega (arith, past-le-length is_text_byte text 0 (omega arith)) in
@@ -115,17 +114,17 @@ length-ended-since_line text t =
     omega (arith, length-append (h ++ tab ∷ s ++ tab ∷ o) (newline ∷ []), length-append (h ++ tab ∷ s) (tab ∷ o), length-append h (tab ∷ s), length-append (bytes "since") (tab ∷ text))
 
 -- ---- the three answers: r, with the room that it leaves
-abbrev pub Wrote : Bool → List ℕ → List ℕ → Written → List ℕ → Type 0
+abbrev pub Wrote : Bool → List ℕ → List ℕ → Result ℕ Refusal → List ℕ → Type 0
 Wrote good l room r after = (r ≡ line_written good l room) × (after ≡ room_after (is_written (line_written good l room)) (ended l) room)
 
 module _ {good : Bool} (l room : List ℕ) where
-  pub wrote_nothing : good ≡ false → Wrote good l room (Refused Book) room
+  pub wrote_nothing : good ≡ false → Wrote good l room (Err Book) room
   wrote_nothing e = (rw e, rw e)
 
-  pub wrote_too_short : good ≡ true → length room < length (ended l) → Wrote good l room (Refused Room) room
+  pub wrote_too_short : good ≡ true → length room < length (ended l) → Wrote good l room (Err Room) room
   wrote_too_short e h = let k = lt-leb (length (ended l)) (length room) h in (rw (e, k), rw (e, k))
 
   pub wrote_line : good ≡ true → (after : List ℕ) (n : ℕ) → n ≡ length (ended l) → n ≤ length room → after ≡ ended l ++ drop (length (ended l)) room
-      → Wrote good l room (Length n) after
+      → Wrote good l room (Ok n) after
   wrote_line e after n m h a =
-      let k = le-leb (length (ended l)) (length room) (omega arith) in (rw (e, k) (ap Length m), rw (e, k) a)
+      let k = le-leb (length (ended l)) (length room) (omega arith) in (rw (e, k) (ap Ok m), rw (e, k) a)

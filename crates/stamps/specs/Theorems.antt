@@ -1,8 +1,6 @@
 -- What the theorems about books speak of (docs/PROMISES.md). No contract cites these.
 -- Assumes nothing.
-use Rattle.std.specs.Prelude.{ℕ, ◌≡◌, Bool, true, false, cond, ◌&&◌, ◌||◌, List, [], ◌∷◌, ◌++◌, length}
-use Rattle.text.specs.declared.number.Integer.{Integer}
-use Rattle.text.specs.declared.number.Integer.TheVariants.{Nothing}
+use Rattle.std.specs.Prelude.{ℕ, ◌≡◌, Bool, true, false, cond, ◌&&◌, ◌||◌, List, [], ◌∷◌, ◌++◌, length, None, Option, Some, ℤ}
 use Rattle.text.specs.Places.{part}
 use Rattle.text.specs.Lines.{ended_lines}
 use Rattle.time.specs.Answers.{time_marked}
@@ -15,27 +13,27 @@ use Rattle.stamps.specs.Writing.{hull_line, since_line, is_hull, is_since}
 use Rattle.stamps.specs.Listing.{cut_off_in, or_above}
 use Rattle.stamps.specs.declared.line.Since.{Since as SinceValue}
 use Rattle.stamps.specs.declared.line.Line.{Line}
-use Rattle.stamps.specs.declared.line.Line.TheVariants.{Hull, Since, Bad}
+use Rattle.stamps.specs.declared.line.Line.TheVariants.{Hull, Since}
 
 -- a time without a mark that means nothing: beside offset 0 the mark stays, beside any other offset it is dropped
 abbrev pub settled : Time → Time
 settled t = time_marked t.seconds t.offset (is_minus_zero t)
 
 -- whether all of these lines are good
-unfoldable pub are_good : List Line → Bool
+unfoldable pub are_good : List (Option Line) → Bool
 are_good [] = true
 are_good (l ∷ ls) = is_good l && are_good ls
 
 -- whether a line is one of `hull`, or one of `since`
-abbrev pub is_hull_line : Line → Bool
-is_hull_line (Hull h) = true
-is_hull_line (Since x) = false
-is_hull_line Bad = false
+abbrev pub is_hull_line : Option Line → Bool
+is_hull_line (Some (Hull h)) = true
+is_hull_line (Some (Since x)) = false
+is_hull_line None = false
 
-abbrev pub is_since_line : Line → Bool
-is_since_line (Hull h) = false
-is_since_line (Since x) = true
-is_since_line Bad = false
+abbrev pub is_since_line : Option Line → Bool
+is_since_line (Some (Hull h)) = false
+is_since_line (Some (Since x)) = true
+is_since_line None = false
 
 -- the `hull` lines among these
 unfoldable pub hulls_of : ℕ → List (List ℕ) → List (List ℕ)
@@ -48,16 +46,16 @@ has_since bound [] = false
 has_since bound (l ∷ ls) = is_since_line (line_of bound l) || has_since bound ls
 
 -- the cut-off of the last `since` line among these
-unfoldable pub last_cut_off : ℕ → List (List ℕ) → Integer
-last_cut_off bound [] = Nothing
+unfoldable pub last_cut_off : ℕ → List (List ℕ) → Option ℤ
+last_cut_off bound [] = None
 last_cut_off bound (l ∷ ls) = or_above (last_cut_off bound ls) (cut_off_in (line_of bound l))
 
 -- the line that is written from the values that were read from a line; nothing if the writer refuses them. A bad line has no
 -- values and gives nothing
-abbrev pub rewritten : ℕ → List ℕ → Line → List ℕ
-rewritten bound l (Hull h) = cond (is_hull (part l h.path) (part l h.key) h.time) (hull_line (part l h.path) (part l h.key) h.time) []
-rewritten bound l (Since x) = cond (is_since bound (part l x.text) x.current) (since_line (part l x.text) x.current) []
-rewritten bound l Bad = []
+abbrev pub rewritten : ℕ → List ℕ → Option Line → List ℕ
+rewritten bound l (Some (Hull h)) = cond (is_hull (part l h.path) (part l h.key) h.time) (hull_line (part l h.path) (part l h.key) h.time) []
+rewritten bound l (Some (Since x)) = cond (is_since bound (part l x.text) x.current) (since_line (part l x.text) x.current) []
+rewritten bound l None = []
 
 -- these lines, each read and written again
 unfoldable pub rewritten_lines : ℕ → List (List ℕ) → List (List ℕ)
@@ -73,5 +71,5 @@ pub record LongLineBehind (a b n : ℕ) (book : List ℕ) : Type 0 where
   pub lines_are : ended_lines book ≡ above ++ line ∷ below
   pub number_is : length above ≡ n
   pub above_are_good : are_good (judged a above) ≡ true
-  pub line_is : line_of b line ≡ Since since
+  pub line_is : line_of b line ≡ Some (Since since)
   pub beyond : BeyondBound a (part line since.text)

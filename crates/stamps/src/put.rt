@@ -1,5 +1,5 @@
 // Times and numbers put into a room at a place. Each call returns the place past the bytes that it put,
-// and leaves all other bytes as they were.
+// and leaves all other bytes as they were. The place and the room stay two parameters, as in `text::copy`.
 ghost use Rattle.std.specs.Prelude.{◌≡◌, ◌+◌, ◌≤◌, ◌<◌, nat_abs, length};
 ghost use Rattle.text.specs.Decimal.{signed};
 ghost use Rattle.text.specs.Room.{put_at};
@@ -14,8 +14,7 @@ pub fn put_time(t: Time, at: usize, room: &mut [u8]) -> usize
     ensures value { result ≡ at + length (header_bytes t) }
     ensures room_after { room.new ≡ put_at (header_bytes t) at room.old }
 {
-    t.write_to(&mut room[at..]);
-    at + t.size()
+    at + t.write_to(&mut room[at..]).unwrap()
 }
 
 // Puts a number in plain decimal from place `at` on.

@@ -1,47 +1,49 @@
-// One scan over the bytes of a class, and tests of the byte at a place.
+// The classes of bytes of a line's fields, and tests of the byte at a place.
 ghost use Rattle.std.specs.Prelude.{◌≡◌, ◌&&◌, ◌≤◌, ltb, eqb, length, drop, get_or};
-ghost use Rattle.text.specs.Places.{past as past_of};
-ghost use Rattle.stamps.specs.Held.{is_of, ends_here};
+ghost use Rattle.stamps.specs.Lines.{is_path_byte, is_hex_digit};
+ghost use Rattle.stamps.specs.Held.{is_text_byte, ends_here};
 
 use text::bytes;
-
-// The bytes of a path (32 to 126), of a key (lower-case hexadecimal digits), and of the text in a
-// `since` line (any but tab and newline).
-#[derive(Clone, Copy)]
-pub enum Class {
-    Path,
-    Hex,
-    Text,
-}
+use text::scan::Class;
 
 // The first and the last byte that a path may have: the space and `~`.
 const FIRST_PATH_BYTE: u8 = b' ';
 
 const LAST_PATH_BYTE: u8 = b'~';
 
-// The place past the bytes from `at` on that are of the class.
-pub fn past(s: &[u8], at: usize, class: Class) -> usize
-    ensures { result ≡ past_of (is_of class) s.now at }
-{
-    let mut i = at;
-    while i < s.len() {
-        if is_of(class, s[i]) {
-            i += 1;
-        } else {
-            return i;
-        }
+// The bytes of a path: 32 to 126.
+pub struct Path;
+
+// The bytes of a key: lower-case hexadecimal digits.
+pub struct Hex;
+
+// The bytes of the text in a `since` line: any but tab and newline.
+pub struct Text;
+
+impl Class for Path {
+    ghost holds = { is_path_byte };
+
+    #[tactic(auto, unfolding(crate::specs::Lines::is_path_byte))]
+    fn has(b: u8) -> bool {
+        (FIRST_PATH_BYTE <= b) & (b <= LAST_PATH_BYTE)
     }
-    i
 }
 
-// Whether b is of the class.
-fn is_of(class: Class, b: u8) -> bool
-    ensures { result ≡ is_of class b }
-{
-    match class {
-        Class::Path => (FIRST_PATH_BYTE <= b) & (b <= LAST_PATH_BYTE),
-        Class::Hex => bytes::is_digit(b) | ((b'a' <= b) & (b <= b'f')),
-        Class::Text => (b != b'\t') & (b != b'\n'),
+impl Class for Hex {
+    ghost holds = { is_hex_digit };
+
+    #[tactic(auto, unfolding(crate::specs::Lines::is_hex_digit))]
+    fn has(b: u8) -> bool {
+        bytes::is_digit(b) | ((b'a' <= b) & (b <= b'f'))
+    }
+}
+
+impl Class for Text {
+    ghost holds = { is_text_byte };
+
+    #[tactic(auto, unfolding(crate::specs::Held::is_text_byte))]
+    fn has(b: u8) -> bool {
+        (b != b'\t') & (b != b'\n')
     }
 }
 
@@ -49,18 +51,12 @@ fn is_of(class: Class, b: u8) -> bool
 pub fn is_at(s: &[u8], at: usize, b: u8) -> bool
     ensures { result ≡ (ltb at (length s.now) && eqb (get_or s.now at 0) b) }
 {
-    if s.len() <= at {
-        return false;
-    }
-    s[at] == b
+    at < s.len() && s[at] == b
 }
 
 // Whether a line ends at a place: a newline is there, or the text ends.
 pub fn ends_at(s: &[u8], at: usize) -> bool
     ensures { result ≡ ends_here (drop at s.now) }
 {
-    if s.len() <= at {
-        return true;
-    }
-    s[at] == b'\n'
+    s.len() <= at || s[at] == b'\n'
 }

@@ -1,11 +1,6 @@
 // The text that `stampsalvage --help` writes. `.ci/help` tests that docs/stampsalvage.1 has each of its
 // lines.
-use crate::write_out;
-
-pub fn write_help(rt: &HostRuntime) {
-    write_out(
-        rt,
-        b"Usage: stampsalvage BOOK OUT
+pub const TEXT: &[u8] = b"Usage: stampsalvage BOOK OUT
        stampsalvage -h | --help
        stampsalvage --version
 
@@ -49,6 +44,4 @@ If no line is bad, nothing is written to standard error. Any message that is not
 about a dropped line says why nothing was salvaged: that the book is too long,
 that OUT is BOOK, or what failed. The exit status does not say it. It is 0
 unless a signal ends the program, because a Rattle program has no other.
-",
-    );
-}
+";

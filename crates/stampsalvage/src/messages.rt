@@ -2,7 +2,7 @@
 // how many bytes it has without its newline.
 //
 // The numbers are those of the report's row, which has them in plain decimal with a tab between. They
-// are copied as they are.
+// are copied as they are. The place and the room stay two parameters, as in `text::copy`.
 ghost use Rattle.std.specs.Prelude.{◌≡◌, ◌++◌, ◌+◌, ◌≤◌, length};
 ghost use Rattle.text.specs.Lines.{field, rest};
 ghost use Rattle.text.specs.Room.{put_at};
@@ -14,7 +14,7 @@ use text::{bytes, copy, places};
 pub const MAX_ROW: usize = 32;
 
 // A name is cut here. No argument is longer.
-const MAX_NAME: usize = 4096;
+const MAX_NAME: usize = streams::MAX_ARGUMENT;
 
 // Enough for every message: a name of 4,096 bytes, two numbers that are no longer than a row, and 18
 // bytes of words.
@@ -47,7 +47,7 @@ fn size_of(row: &[u8]) -> &[u8]
 }
 
 // Where the line is, and how many bytes were dropped there.
-fn put_words<'a>(number: &'a [u8], size: &'a [u8], at: usize, room: &mut [u8]) -> usize
+fn put_words(number: &[u8], size: &[u8], at: usize, room: &mut [u8]) -> usize
     requires { at + length (place_words number.now ++ size_words size.now) ≤ length room.old }
     ensures value { result ≡ at + length (place_words number.now ++ size_words size.now) }
     ensures room_after { room.new ≡ put_at (place_words number.now ++ size_words size.now) at room.old }
@@ -75,7 +75,8 @@ fn put_size(size: &[u8], at: usize, room: &mut [u8]) -> usize
 {
     let next = copy::put_part(size, at, room);
     if bytes::same(size, b"1") {
-        return copy::put_part(b" byte dropped\n", next, room);
+        copy::put_part(b" byte dropped\n", next, room)
+    } else {
+        copy::put_part(b" bytes dropped\n", next, room)
     }
-    copy::put_part(b" bytes dropped\n", next, room)
 }

@@ -5,10 +5,10 @@
 // The damaged book is kept: no other file has the bytes that are dropped.
 ghost use Rattle.std.specs.Prelude.{◌≡◌, ◌+◌, ◌≤◌, length};
 
-use crate::{messages, write_out};
-use salvage::Salvaged;
+use crate::messages;
+use calendar::MonthTable;
 use stamps::book;
-use streams::{Reading, files, say};
+use streams::{Reported, Tool, is_standard, name_of};
 use text::{bytes, places};
 
 const ROOM: usize = book::MAX_BOOK + 1;
@@ -20,42 +20,25 @@ const REPORT: usize = salvage::REPORT_PER_BYTE * book::MAX_BOOK;
 const MESSAGES: usize = 65536;
 
 // Writes the good lines of the book in a file to another file. `-` is standard input or output.
-pub fn salvage_to<'a>(rt: &HostRuntime, path: &'a [u8], out: &'a [u8]) {
-    if is_kept_by(rt, path, out) {
-        salvage_from(rt, path, out);
-        return;
+pub fn salvage_to(tool: &Tool, path: &[u8], out: &[u8]) -> Result<(), Reported> {
+    if !is_kept_by(tool, path, out) {
+        return Err(tool.report(b"OUT is BOOK; name another file"));
     }
-    say(rt, b"stampsalvage: OUT is BOOK; name another file\n");
+    let mut room = [0u8; ROOM];
+    let n = tool.read(path, &mut room)?;
+    let name = name_of(path, b"standard input");
+    write_salvaged(tool, name, places::up_to(&room, n), out)
 }
 
 // Whether writing to OUT leaves BOOK as it is.
-fn is_kept_by<'a>(rt: &HostRuntime, path: &'a [u8], out: &'a [u8]) -> bool {
-    if bytes::same(out, b"-") {
-        return true;
+fn is_kept_by(tool: &Tool, path: &[u8], out: &[u8]) -> bool {
+    if is_standard(out) {
+        true
+    } else if is_standard(path) {
+        !tool.is_input(out)
+    } else {
+        !(bytes::same(path, out) || tool.is_same_file(path, out))
     }
-    if bytes::same(path, b"-") {
-        return !files::is_input(rt, out);
-    }
-    if bytes::same(path, out) {
-        return false;
-    }
-    !files::is_same_file(rt, path, out)
-}
-
-fn salvage_from<'a>(rt: &HostRuntime, path: &'a [u8], out: &'a [u8]) {
-    let mut room = book_room();
-    let reading = read_book(rt, path, &mut room);
-    if reading.failed {
-        return;
-    }
-    let name = streams::name_of(path, b"standard input");
-    write_salvaged(rt, name, places::up_to(&room, reading.length), out);
-}
-
-fn book_room() -> [u8; ROOM]
-    ensures { 65537 ≡ length result }
-{
-    [0; ROOM]
 }
 
 fn report_room() -> [u8; REPORT]
@@ -71,72 +54,55 @@ fn zeros<const N: usize>() -> [u8; N]
     [0; N]
 }
 
-fn read_book(rt: &HostRuntime, path: &[u8], room: &mut [u8]) -> Reading {
-    if bytes::same(path, b"-") {
-        return streams::read_input(rt, b"stampsalvage", room);
-    }
-    streams::read_file(rt, b"stampsalvage", path, room)
-}
-
 // Writes the good lines, and then the report: if the lines cannot be written, there is no report. Both
 // rooms are long enough for every book, so a refusal says that the book is too long.
-fn write_salvaged(rt: &HostRuntime, name: &[u8], book: &[u8], out: &[u8]) {
-    let months = calendar::months();
+fn write_salvaged(tool: &Tool, name: &[u8], book: &[u8], out: &[u8]) -> Result<(), Reported> {
     let mut kept = [0u8; book::MAX_BOOK];
     let mut report = report_room();
-    let salvaged = salvage::salvage_with(&months, book, &mut kept, &mut report);
-    match salvaged {
-        Salvaged::Lengths(n, k, _) => {
-            if write_to(rt, out, places::up_to(&kept, n)) {
-                say_dropped(rt, name, places::up_to(&report, k));
-            }
-        }
-        Salvaged::Refused(_) => streams::bad_book(rt, name, 0),
-    }
-}
-
-fn write_to(rt: &HostRuntime, path: &[u8], kept: &[u8]) -> bool {
-    if bytes::same(path, b"-") {
-        return write_out(rt, kept);
-    }
-    files::write_file(rt, b"stampsalvage", path, kept)
+    let Ok(salvaged) = salvage::salvage_with(MonthTable::whole(), book, &mut kept, &mut report)
+    else {
+        return Err(tool.bad_book(name, 0));
+    };
+    tool.write(out, places::up_to(&kept, salvaged.length))?;
+    say_dropped(tool, name, places::up_to(&report, salvaged.report_length));
+    Ok(())
 }
 
 // Says on standard error which lines were dropped.
-fn say_dropped<'a>(rt: &HostRuntime, name: &'a [u8], report: &'a [u8]) {
+fn say_dropped(tool: &Tool, name: &[u8], report: &[u8]) {
     let mut room = [0u8; MESSAGES];
-    say_rows(rt, name, report, &mut room);
+    say_rows(tool, name, report, &mut room);
 }
 
 // Says one message for each row of the report. The messages are gathered in `room`, and many are written
 // at once: a book may have 65,536 bad lines. No row is longer than `MAX_ROW`, so none is cut.
-fn say_rows<'a>(rt: &HostRuntime, name: &'a [u8], report: &'a [u8], room: &mut [u8])
+fn say_rows(tool: &Tool, name: &[u8], report: &[u8], room: &mut [u8])
     requires { 4178 ≤ length room.old }
 {
     let mut held: usize = 0;
-    let mut at: usize = 0;
-    while at < report.len() {
-        let next = make_room(rt, held, room);
-        let row = places::before(places::from(report, at), b'\n');
-        held = messages::put_message(name, places::up_to(row, messages::MAX_ROW), next, room);
-        at += row.len() + 1;
+    for line in report.split_inclusive(|&b| b == b'\n') {
+        let next = make_room(tool, held, room);
+        let row = places::up_to(places::before(line, b'\n'), messages::MAX_ROW);
+        held = messages::put_message(name, row, next, room);
     }
-    write_messages(rt, held, room);
+    write_messages(tool, held, room);
 }
 
 // The place for the next message: behind those that are gathered, or the front if they had to be written
 // first.
-fn make_room(rt: &HostRuntime, held: usize, room: &[u8]) -> usize
+fn make_room(tool: &Tool, held: usize, room: &[u8]) -> usize
     requires { (held ≤ length room.now) × (4178 ≤ length room.now) }
     ensures { result + 4178 ≤ length room.now }
 {
     if room.len() - held < messages::MESSAGE {
-        write_messages(rt, held, room);
-        return 0;
+        write_messages(tool, held, room);
+        0
+    } else {
+        held
     }
-    held
 }
 
-fn write_messages(rt: &HostRuntime, held: usize, room: &[u8]) {
-    streams::write_error(rt, b"stampsalvage", places::up_to(room, held));
+// If they cannot be written, the messages after them are tried all the same.
+fn write_messages(tool: &Tool, held: usize, room: &[u8]) {
+    let _ = tool.write_error(places::up_to(room, held));
 }

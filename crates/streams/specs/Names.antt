@@ -1,9 +1,23 @@
--- The name of an input in a message. A path is an argument as it was given.
+-- Arguments: the name of an input in a message; options; what every program answers by itself. A path and a word are arguments as they
+-- were given.
 -- Assumes nothing.
-use Rattle.std.specs.Prelude.{ℕ, cond, List}
+use Rattle.std.specs.Prelude.{ℕ, Bool, cond, ◌&&◌, ◌||◌, List, leb, eqb, length, get_or}
+use Prim.Native.Char.{code}
 use Rattle.text.specs.Bytes.{same}
 use Rattle.text.specs.Quote.{bytes}
 
 -- its path, or these words for standard input if the path is `-`
 abbrev pub name_of : List ℕ → List ℕ → List ℕ
 name_of input path = cond (same path (bytes "-")) input path
+
+-- the path is `-`
+abbrev pub is_standard : List ℕ → Bool
+is_standard path = same path (bytes "-")
+
+-- `-` and something behind it
+abbrev pub is_option : List ℕ → Bool
+is_option word = leb 2 (length word) && eqb (get_or word 0 0) (code "-")
+
+-- the options that every program has
+abbrev pub is_common_option : List ℕ → Bool
+is_common_option word = same word (bytes "-h") || same word (bytes "--help") || same word (bytes "--version")

@@ -11,12 +11,10 @@
 //
 // std closes a file where it is dropped, and does not say how that went. The bytes of a new file are on
 // the device by then; for a device or a pipe, a close that fails is not noticed.
-ghost use Rattle.std.specs.Prelude.{◌≤◌, ◌≡◌, length};
+ghost use Rattle.std.specs.Prelude.{◌≤◌, length};
+ghost use Rattle.std.specs.Result.{IfOk};
 
-use crate::{
-    Reading, fail, read_whole, refuse, refuse_name, say, say_number, say_reason, unread,
-    write_whole,
-};
+use crate::{Reported, Tool};
 use std::fs::{File, Metadata, OpenOptions, Permissions};
 use std::io::ErrorKind;
 use std::os::unix::fs::{MetadataExt, OpenOptionsExt, PermissionsExt, fchown};
@@ -55,6 +53,7 @@ struct Kept {
 }
 
 // What is open: a regular file, something else, or something that the system tells nothing about.
+// Three cases, each answered in its own way, so no Option of what is kept.
 #[derive(Clone, Copy)]
 enum Kind {
     Regular(Kept),
@@ -62,147 +61,167 @@ enum Kind {
     Unknown,
 }
 
-// Reads a file that `replace_file` can replace, to its end or until `room` is full. What is not a
-// regular file is refused, and so is a symbolic link.
-pub fn read_regular(rt: &HostRuntime, program: &[u8], path: &[u8], room: &mut [u8]) -> Reading
-    ensures { result.length ≤ length room.new }
-{
-    let Ok(text) = str::from_utf8(path) else {
-        refuse_name(rt, program, path);
-        return unread();
-    };
-    match fs::open(rt, text) {
-        Ok(mut file) => {
-            if may_replace(rt, program, text, &file) {
-                return read_whole(rt, program, path, &mut file, room);
-            }
-            unread()
-        }
-        Err(error) => {
-            fail(rt, program, path, &error);
-            unread()
+impl<'a> Tool<'a> {
+    // Reads a file that `replace_file` can replace, to its end or until `room` is full, and returns how
+    // many bytes were read. What is not a regular file is refused, and so is a symbolic link.
+    pub fn read_regular(&self, path: &[u8], room: &mut [u8]) -> Result<usize, Reported>
+        ensures { IfOk result (λ n. n ≤ length room.new) }
+    {
+        let text = self.text_of(path)?;
+        let mut file = fs::open(self.rt, text).map_err(|error| self.fail(path, &error))?;
+        self.may_replace(text, &file)?;
+        self.read_whole(path, &mut file, room)
+    }
+
+    // Refuses the file that is open for reading unless it is regular and is not named by a symbolic link.
+    fn may_replace(&self, path: &str, file: &File) -> Result<(), Reported> {
+        match kind_of(file) {
+            Kind::Regular(_) => self.refuse_link(path),
+            Kind::Other | Kind::Unknown => Err(self.refuse_kind(path)),
         }
     }
-}
 
-// Whether the file that is open for reading is regular and is not named by a symbolic link. If not, the
-// reason goes to standard error.
-fn may_replace(rt: &HostRuntime, program: &[u8], path: &str, file: &File) -> bool {
-    match kind_of(file) {
-        Kind::Regular(_) => {
-            if is_link(rt, path) {
-                refuse_link(rt, program, path);
-                return false;
-            }
-            true
-        }
-        Kind::Other | Kind::Unknown => {
-            refuse_kind(rt, program, path);
-            false
+    fn refuse_link(&self, path: &str) -> Result<(), Reported> {
+        if is_link(self.rt, path) {
+            Err(self.refuse(path.as_bytes(), b"a symbolic link; name the file itself"))
+        } else {
+            Ok(())
         }
     }
-}
 
-fn refuse_link(rt: &HostRuntime, program: &[u8], path: &str) {
-    refuse(
-        rt,
-        program,
-        path.as_bytes(),
-        b"a symbolic link; name the file itself",
-    );
-}
+    fn refuse_kind(&self, path: &str) -> Reported {
+        self.refuse(path.as_bytes(), b"not a regular file")
+    }
 
-fn refuse_kind(rt: &HostRuntime, program: &[u8], path: &str) {
-    refuse(rt, program, path.as_bytes(), b"not a regular file");
-}
-
-// Replaces the regular file at `path`, or makes it, and returns true. It then holds `s`; permissions,
-// owner and group are those of the file before it, as far as the user may set them. If anything fails,
-// the reason goes to standard error, the answer is false, and the file is as it was. A file that the
-// user may not write is not replaced.
-pub fn replace_file(rt: &HostRuntime, program: &[u8], path: &[u8], s: &[u8]) -> bool {
-    let Ok(text) = str::from_utf8(path) else {
-        refuse_name(rt, program, path);
-        return false;
-    };
-    match open_append(rt, text) {
-        Ok(file) => {
-            let kind = kind_of(&file);
-            drop(file);
-            match kind {
-                Kind::Regular(old) => replace(rt, program, text, Some(old), s),
-                Kind::Other | Kind::Unknown => {
-                    refuse_kind(rt, program, text);
-                    false
+    // Replaces the regular file at `path`, or makes it. It then holds `s`; permissions, owner and group are
+    // those of the file before it, as far as the user may set them. If anything fails, the file is as it
+    // was. A file that the user may not write is not replaced.
+    pub fn replace_file(&self, path: &[u8], s: &[u8]) -> Result<(), Reported> {
+        let text = self.text_of(path)?;
+        match open_append(self.rt, text) {
+            Ok(file) => {
+                let kind = kind_of(&file);
+                drop(file);
+                match kind {
+                    Kind::Regular(old) => self.replace(text, Some(old), s),
+                    Kind::Other | Kind::Unknown => Err(self.refuse_kind(text)),
                 }
             }
+            Err(error) => self.replace_missing(text, &error, s),
         }
-        Err(error) => replace_missing(rt, program, text, &error, s),
     }
-}
 
-// The same for a file that may also be a device or a pipe, which is written to as it is. Opening a file
-// to append neither makes it nor empties it. Opening it to read could wait for ever: a pipe waits until
-// somebody writes to it.
-pub fn write_file(rt: &HostRuntime, program: &[u8], path: &[u8], s: &[u8]) -> bool {
-    let Ok(text) = str::from_utf8(path) else {
-        refuse_name(rt, program, path);
-        return false;
-    };
-    match open_append(rt, text) {
-        Ok(mut file) => match kind_of(&file) {
-            Kind::Regular(old) => {
-                drop(file);
-                replace(rt, program, text, Some(old), s)
-            }
-            Kind::Unknown => {
-                drop(file);
-                refuse_kind(rt, program, text);
-                false
-            }
-            Kind::Other => write_whole(rt, program, path, &mut file, s),
-        },
-        Err(error) => replace_missing(rt, program, text, &error, s),
+    // The same for a file that may also be a device or a pipe, which is written to as it is. Opening a file
+    // to append neither makes it nor empties it. Opening it to read could wait for ever: a pipe waits until
+    // somebody writes to it.
+    pub fn write_file(&self, path: &[u8], s: &[u8]) -> Result<(), Reported> {
+        let text = self.text_of(path)?;
+        match open_append(self.rt, text) {
+            Ok(mut file) => match kind_of(&file) {
+                Kind::Regular(old) => {
+                    drop(file);
+                    self.replace(text, Some(old), s)
+                }
+                Kind::Unknown => {
+                    drop(file);
+                    Err(self.refuse_kind(text))
+                }
+                Kind::Other => self.write_whole(path, &mut file, s),
+            },
+            Err(error) => self.replace_missing(text, &error, s),
+        }
+    }
+
+    // Makes the file at `path`, which could not be opened, if the reason is that there is none.
+    fn replace_missing(&self, path: &str, error: &io::Error, s: &[u8]) -> Result<(), Reported> {
+        if error.kind() == ErrorKind::NotFound {
+            self.replace(path, None, s)
+        } else {
+            Err(self.fail(path.as_bytes(), error))
+        }
+    }
+
+    // Replaces the file at `path`, which is regular, or makes it if there is none before it. Where a file is
+    // replaced, the new one can be read by its owner alone until it has the permissions of the old one.
+    fn replace(&self, path: &str, old: Option<Kept>, s: &[u8]) -> Result<(), Reported> {
+        self.refuse_link(path)?;
+        let made = match old {
+            Some(_) => create_private(self.rt, path),
+            None => create_shared(self.rt, path),
+        };
+        let new = made.map_err(|error| self.fail_beside(path, old, &error))?;
+        self.replace_by(path, new, old, s)
+    }
+
+    // Says why no file was made beside the one at `path`.
+    fn fail_beside(&self, path: &str, old: Option<Kept>, error: &io::Error) -> Reported {
+        self.say_name();
+        self.say(path.as_bytes());
+        self.say(b".tmp.");
+        match old {
+            Some(_) => self.say(b"XXXXXX"),
+            None => self.say_number(process::id(self.rt.process()) as usize),
+        }
+        self.say_reason(error);
+        Reported
+    }
+
+    // Fills the new file and renames it over the old one. If that fails, the new file is removed.
+    fn replace_by(
+        &self,
+        path: &str,
+        new: New,
+        old: Option<Kept>,
+        s: &[u8],
+    ) -> Result<(), Reported> {
+        let New { name, mut file } = new;
+        let filled = self.fill(name.as_str(), &mut file, old, s);
+        drop(file);
+        let replaced = filled.and_then(|()| self.rename(name.as_str(), path));
+        if replaced.is_err() {
+            let _ = fs::remove_file(self.rt, name.as_str());
+        }
+        replaced
+    }
+
+    fn rename(&self, new: &str, path: &str) -> Result<(), Reported> {
+        fs::rename(self.rt, new, path).map_err(|error| self.fail(path.as_bytes(), &error))
+    }
+
+    // Gives the new file its owner and permissions, before it holds a byte, and then its bytes, and waits
+    // until they are on the device.
+    fn fill(
+        &self,
+        new: &str,
+        file: &mut File,
+        old: Option<Kept>,
+        s: &[u8],
+    ) -> Result<(), Reported> {
+        take_over(file, old).map_err(|error| self.fail(new.as_bytes(), &error))?;
+        self.write_whole(new.as_bytes(), file, s)?;
+        file.sync_all()
+            .map_err(|error| self.fail(new.as_bytes(), &error))
+    }
+
+    // Whether two paths name the same regular file: by the same name, by two spellings of it, or by a link.
+    // The answer is false if a path names no file, or a file that the system tells nothing about.
+    pub fn is_same_file(&self, path: &[u8], other: &[u8]) -> bool {
+        are_same(known_at(self.rt, path), known_at(self.rt, other))
+    }
+
+    // Whether standard input is read from the regular file that a path names. Where the system cannot be
+    // asked, the answer is true for every regular file, so that no caller overwrites its input.
+    pub fn is_input(&self, path: &[u8]) -> bool {
+        let file = known_at(self.rt, path);
+        match fs::metadata(self.rt, INPUT) {
+            Ok(input) => are_same(Some(input), file),
+            Err(_) => is_regular(file) & !lists_descriptors(self.rt),
+        }
     }
 }
 
 fn open_append(rt: &HostRuntime, path: &str) -> io::Result<File> {
     OpenOptions::new().append(true).open(rt, path)
-}
-
-// Makes the file at `path`, which could not be opened, if the reason is that there is none.
-fn replace_missing(
-    rt: &HostRuntime,
-    program: &[u8],
-    path: &str,
-    error: &io::Error,
-    s: &[u8],
-) -> bool {
-    if error.kind() == ErrorKind::NotFound {
-        return replace(rt, program, path, None, s);
-    }
-    fail(rt, program, path.as_bytes(), error);
-    false
-}
-
-// Replaces the file at `path`, which is regular, or makes it if there is none before it. Where a file is
-// replaced, the new one can be read by its owner alone until it has the permissions of the old one.
-fn replace(rt: &HostRuntime, program: &[u8], path: &str, old: Option<Kept>, s: &[u8]) -> bool {
-    if is_link(rt, path) {
-        refuse_link(rt, program, path);
-        return false;
-    }
-    let made = match old {
-        Some(_) => create_private(rt, path),
-        None => create_shared(rt, path),
-    };
-    match made {
-        Ok(new) => replace_by(rt, program, path, new, old, s),
-        Err(error) => {
-            fail_beside(rt, program, path, old, &error);
-            false
-        }
-    }
 }
 
 // A file that is made beside another, and its name.
@@ -238,11 +257,8 @@ fn create_private(rt: &HostRuntime, path: &str) -> io::Result<New> {
             .open(rt, name.as_str());
         match made {
             Ok(file) => return Ok(New { name, file }),
-            Err(error) => {
-                if error.kind() != ErrorKind::AlreadyExists {
-                    return Err(error);
-                }
-            }
+            Err(error) if error.kind() != ErrorKind::AlreadyExists => return Err(error),
+            Err(_) => {}
         }
     }
     Err(io::Error::from_raw_os_error(EEXIST))
@@ -253,68 +269,9 @@ fn private_name(rt: &HostRuntime, path: &str) -> io::Result<String> {
     rt.fill_bytes(&mut drawn)?;
     let mut name = format!(in rt.alloc(); "{path}.tmp.")?;
     for byte in drawn {
-        name.push(char::from(LETTERS[byte as usize % LETTERS.len()]))?;
+        name.push(char::from(LETTERS[usize::from(byte) % LETTERS.len()]))?;
     }
     Ok(name)
-}
-
-// Says why no file was made beside the one at `path`.
-fn fail_beside(rt: &HostRuntime, program: &[u8], path: &str, old: Option<Kept>, error: &io::Error) {
-    say(rt, program);
-    say(rt, b": ");
-    say(rt, path.as_bytes());
-    say(rt, b".tmp.");
-    match old {
-        Some(_) => say(rt, b"XXXXXX"),
-        None => say_number(rt, process::id(rt.process()) as usize),
-    }
-    say_reason(rt, error);
-}
-
-// Fills the new file and renames it over the old one. If that fails, the new file is removed.
-fn replace_by(
-    rt: &HostRuntime,
-    program: &[u8],
-    path: &str,
-    new: New,
-    old: Option<Kept>,
-    s: &[u8],
-) -> bool {
-    let New { name, mut file } = new;
-    let filled = fill(rt, program, name.as_str(), &mut file, old, s);
-    drop(file);
-    if filled {
-        match fs::rename(rt, name.as_str(), path) {
-            Ok(()) => return true,
-            Err(error) => fail(rt, program, path.as_bytes(), &error),
-        }
-    }
-    let _ = fs::remove_file(rt, name.as_str());
-    false
-}
-
-// Gives the new file its owner and permissions, before it holds a byte, and then its bytes, and waits
-// until they are on the device.
-fn fill(
-    rt: &HostRuntime,
-    program: &[u8],
-    new: &str,
-    file: &mut File,
-    old: Option<Kept>,
-    s: &[u8],
-) -> bool {
-    match take_over(file, old) {
-        Ok(()) => {
-            if write_whole(rt, program, new.as_bytes(), file, s) {
-                return sync(rt, program, new, file);
-            }
-            false
-        }
-        Err(error) => {
-            fail(rt, program, new.as_bytes(), &error);
-            false
-        }
-    }
 }
 
 // Gives the new file what is known of the old one, and fails if the permissions cannot be set. Most
@@ -329,47 +286,15 @@ fn take_over(file: &File, old: Option<Kept>) -> io::Result<()> {
     }
 }
 
-fn sync(rt: &HostRuntime, program: &[u8], new: &str, file: &File) -> bool {
-    match file.sync_all() {
-        Ok(()) => true,
-        Err(error) => {
-            fail(rt, program, new.as_bytes(), &error);
-            false
-        }
-    }
-}
-
 // Whether a symbolic link is at `path`.
 fn is_link(rt: &HostRuntime, path: &str) -> bool {
-    match fs::symlink_metadata(rt, path) {
-        Ok(about) => about.is_symlink(),
-        Err(_) => false,
-    }
-}
-
-// Whether two paths name the same regular file: by the same name, by two spellings of it, or by a link. The
-// answer is false if a path names no file, or a file that the system tells nothing about.
-pub fn is_same_file(rt: &HostRuntime, path: &[u8], other: &[u8]) -> bool {
-    are_same(known_at(rt, path), known_at(rt, other))
-}
-
-// Whether standard input is read from the regular file that a path names. Where the system cannot be
-// asked, the answer is true for every regular file, so that no caller overwrites its input.
-pub fn is_input(rt: &HostRuntime, path: &[u8]) -> bool {
-    let file = known_at(rt, path);
-    match fs::metadata(rt, INPUT) {
-        Ok(input) => are_same(Some(input), file),
-        Err(_) => is_regular(file) & !lists_descriptors(rt),
-    }
+    fs::symlink_metadata(rt, path).is_ok_and(|about| about.is_symlink())
 }
 
 // Whether the system names the descriptors that are open: if it does, and names no standard input, that
 // is closed.
 fn lists_descriptors(rt: &HostRuntime) -> bool {
-    match fs::metadata(rt, DESCRIPTORS) {
-        Ok(about) => about.is_dir(),
-        Err(_) => false,
-    }
+    fs::metadata(rt, DESCRIPTORS).is_ok_and(|about| about.is_dir())
 }
 
 fn are_same(one: Option<Metadata>, other: Option<Metadata>) -> bool {
@@ -380,10 +305,7 @@ fn are_same(one: Option<Metadata>, other: Option<Metadata>) -> bool {
 }
 
 fn is_regular(about: Option<Metadata>) -> bool {
-    match about {
-        Some(about) => about.is_file(),
-        None => false,
-    }
+    about.is_some_and(|about| about.is_file())
 }
 
 // Of what kind an open file is.
@@ -406,11 +328,6 @@ fn kind_of(file: &File) -> Kind {
 // What is known of the file that a path names. A symbolic link is followed. Nothing is opened, because
 // opening a pipe could wait for ever.
 fn known_at(rt: &HostRuntime, path: &[u8]) -> Option<Metadata> {
-    let Ok(text) = str::from_utf8(path) else {
-        return None;
-    };
-    match fs::metadata(rt, text) {
-        Ok(about) => Some(about),
-        Err(_) => None,
-    }
+    let text = str::from_utf8(path).ok()?;
+    fs::metadata(rt, text).ok()
 }

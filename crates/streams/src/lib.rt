@@ -1,5 +1,5 @@
-// What the programs share: a whole input read, standard output written, and messages on standard
-// error. `program` is the name of the program, which a message opens with.
+// What the programs share: a whole input read, standard output written, messages on standard error, and
+// arguments. Each program has one `Tool`, made in its `main`.
 //
 // No contract can say which bytes are read or written: what is proved here is that every call is safe
 // and ends. A read or a write that a signal interrupts is made again, and so is one on a descriptor
@@ -10,11 +10,13 @@
 pub mod files;
 
 ghost use Rattle.std.specs.Prelude.{◌≤◌, ◌≡◌, length};
-ghost use Rattle.streams.specs.Names.{name_of};
+ghost use Rattle.std.specs.Option.{IfSome};
+ghost use Rattle.std.specs.Result.{IfOk};
+ghost use Rattle.streams.specs.Names.{name_of, is_standard, is_option, is_common_option};
 
 use std::env::FillError;
 use std::io::{Cursor, ErrorKind, Read, Write};
-use std::rt::{Clock, Env};
+use std::rt::Env;
 use std::time::Duration;
 use std::{fs, io, str, thread};
 use text::{bytes, places};
@@ -25,273 +27,333 @@ const PAUSE: u64 = 1;
 // Room for the reason of a failure, as std words it.
 const REASON: usize = 256;
 
-// No argument of a program is longer.
+// No argument of a program is longer. Rooms for arguments, books and messages are arrays, here and in the
+// programs: but for the name of a new file, nothing is on the heap.
 pub const MAX_ARGUMENT: usize = 4096;
 
-// What reading an input gave: how many bytes, and whether it failed.
+// A failure whose message is on standard error already.
 #[derive(Clone, Copy)]
-pub struct Reading {
-    pub length: usize,
-    pub failed: bool,
+pub struct Reported;
+
+// A program: the runtime that it runs by, and its name, which a message opens with.
+#[derive(Clone, Copy)]
+pub struct Tool<'a> {
+    rt: &'a HostRuntime,
+    name: &'a [u8],
 }
 
 // The name of an input in a message: `-` is standard input.
 pub fn name_of<'a>(path: &'a [u8], input: &'a [u8]) -> &'a [u8]
     ensures { result.now ≡ name_of input.now path.now }
 {
-    if bytes::same(path, b"-") {
-        return input;
-    }
-    path
+    if is_standard(path) { input } else { path }
 }
 
-// Whether the program was given an argument `i`. Argument 0 is the name of the program.
-pub fn has_argument(rt: &impl Env, i: usize) -> bool {
-    match rt.arg(i, &mut []) {
-        Ok(_) => true,
-        Err(FillError::TooLong) => true,
-        Err(FillError::NotPresent) => false,
-    }
-}
-
-// Reads a file to its end, or until `room` is full. If the file cannot be opened or read, the reason
-// goes to standard error. The bytes read are at the front of `room`.
-pub fn read_file(rt: &HostRuntime, program: &[u8], path: &[u8], room: &mut [u8]) -> Reading
-    ensures { result.length ≤ length room.new }
+// Whether a path names standard input or output.
+pub fn is_standard(path: &[u8]) -> bool
+    ensures { result ≡ is_standard path.now }
 {
-    let Ok(text) = str::from_utf8(path) else {
-        refuse_name(rt, program, path);
-        return unread();
-    };
-    match fs::open(rt, text) {
-        Ok(mut file) => read_whole(rt, program, path, &mut file, room),
-        Err(error) => {
-            fail(rt, program, path, &error);
-            unread()
+    bytes::same(path, b"-")
+}
+
+// Whether an argument is an option: `-` alone names standard input or output.
+pub fn is_option(word: &[u8]) -> bool
+    ensures { result ≡ is_option word.now }
+{
+    matches!(word, [b'-', _, ..])
+}
+
+impl<'a> Tool<'a> {
+    pub fn new(rt: &'a HostRuntime, name: &'a [u8]) -> Tool<'a>
+        ensures { result.name.now ≡ name.now }
+    {
+        Tool { rt, name }
+    }
+
+    // ---- arguments
+
+    // Whether the program was given an argument `i`. Argument 0 is the name of the program.
+    pub fn has_argument(&self, i: usize) -> bool {
+        !matches!(self.rt.arg(i, &mut []), Err(FillError::NotPresent))
+    }
+
+    // Copies argument `i` to the front of `room` and returns its length; `None` if there is no such
+    // argument. One that is longer than the room is refused with a message.
+    pub fn argument(&self, i: usize, room: &mut [u8]) -> Result<Option<usize>, Reported>
+        ensures { IfOk result (λ found. IfSome found (λ n. n ≤ length room.new)) }
+    {
+        match self.rt.arg(i, room) {
+            Ok(n) => Ok(Some(n)),
+            Err(FillError::NotPresent) => Ok(None),
+            Err(FillError::TooLong) => Err(self.complain(b"argument of more than 4,096 bytes")),
         }
     }
-}
 
-// Reads standard input in the same way.
-pub fn read_input(rt: &HostRuntime, program: &[u8], room: &mut [u8]) -> Reading
-    ensures { result.length ≤ length room.new }
-{
-    let mut input = rt.stdin();
-    read_whole(rt, program, b"standard input", &mut input, room)
-}
-
-// Reads what `name` names. A proved loop has to end, and nothing says that an input does not interrupt
-// its reads for ever, so the loop counts its reads down from a number that no run uses up. What is
-// behind the loop is never reached.
-fn read_whole<I: Read>(
-    rt: &HostRuntime,
-    program: &[u8],
-    name: &[u8],
-    input: &mut I,
-    room: &mut [u8],
-) -> Reading
-    ensures { result.length ≤ length room.new }
-{
-    let mut held: usize = 0;
-    for _ in 0..u64::MAX {
-        if room.len() <= held {
-            return Reading {
-                length: held,
-                failed: false,
-            };
+    // Answers `--help` by the help text and `--version` by the name and the version, and says whether
+    // the word was one of them.
+    pub fn answers(&self, word: &[u8], help: &[u8], version: &[u8]) -> Result<bool, Reported>
+        ensures { IfOk result (λ known. known ≡ is_common_option word.now) }
+    {
+        if bytes::same(word, b"-h") | bytes::same(word, b"--help") {
+            self.write_out(help)?;
+            Ok(true)
+        } else if bytes::same(word, b"--version") {
+            self.write_out(version)?;
+            Ok(true)
+        } else {
+            Ok(false)
         }
-        let got = input.read(&mut room[held..]);
-        match got {
-            Ok(0) => {
-                return Reading {
-                    length: held,
-                    failed: false,
-                };
+    }
+
+    // ---- reading
+
+    // Reads a file to its end, or until `room` is full, and returns how many bytes were read: they are
+    // at the front of `room`.
+    pub fn read_file(&self, path: &[u8], room: &mut [u8]) -> Result<usize, Reported>
+        ensures { IfOk result (λ n. n ≤ length room.new) }
+    {
+        let text = self.text_of(path)?;
+        let mut file = fs::open(self.rt, text).map_err(|error| self.fail(path, &error))?;
+        self.read_whole(path, &mut file, room)
+    }
+
+    // Reads standard input in the same way.
+    pub fn read_input(&self, room: &mut [u8]) -> Result<usize, Reported>
+        ensures { IfOk result (λ n. n ≤ length room.new) }
+    {
+        let mut input = self.rt.stdin();
+        self.read_whole(b"standard input", &mut input, room)
+    }
+
+    // Reads a file in the same way, or standard input if the path is `-`.
+    pub fn read(&self, path: &[u8], room: &mut [u8]) -> Result<usize, Reported>
+        ensures { IfOk result (λ n. n ≤ length room.new) }
+    {
+        if is_standard(path) {
+            self.read_input(room)
+        } else {
+            self.read_file(path, room)
+        }
+    }
+
+    // Reads once from standard input and returns how many bytes were read; `None` if the read has to be
+    // made again.
+    pub fn read_once(&self, room: &mut [u8]) -> Result<Option<usize>, Reported>
+        ensures { IfOk result (λ got. IfSome got (λ n. n ≤ length room.new)) }
+    {
+        let mut input = self.rt.stdin();
+        self.read_part(b"standard input", &mut input, room)
+    }
+
+    // Reads what `name` names. A proved loop has to end, and nothing says that an input does not
+    // interrupt its reads for ever, so the loop counts its reads down from a number that no run uses up.
+    // What is behind the loop is never reached.
+    fn read_whole<I: Read>(
+        &self,
+        name: &[u8],
+        input: &mut I,
+        room: &mut [u8],
+    ) -> Result<usize, Reported>
+        ensures { IfOk result (λ n. n ≤ length room.new) }
+    {
+        let mut held: usize = 0;
+        for _ in 0..u64::MAX {
+            if room.len() <= held {
+                return Ok(held);
             }
-            Ok(n) => held += n,
+            match self.read_part(name, input, &mut room[held..])? {
+                Some(0) => return Ok(held),
+                Some(n) => held += n,
+                None => {}
+            }
+        }
+        Err(Reported)
+    }
+
+    // Makes one read of what `name` names; `None` if it has to be made again.
+    fn read_part<I: Read>(
+        &self,
+        name: &[u8],
+        input: &mut I,
+        room: &mut [u8],
+    ) -> Result<Option<usize>, Reported>
+        ensures { IfOk result (λ got. IfSome got (λ n. n ≤ length room.new)) }
+    {
+        match input.read(room) {
+            Ok(n) => Ok(Some(n)),
             Err(error) => {
-                if has_failed(rt, &error) {
-                    fail(rt, program, name, &error);
-                    return Reading {
-                        length: held,
-                        failed: true,
-                    };
-                }
+                self.pass(name, &error)?;
+                Ok(None)
             }
         }
     }
-    Reading {
-        length: held,
-        failed: true,
+
+    // ---- writing
+
+    // Writes all of `s` to standard output. If a write fails, some of `s` may have been written by then.
+    pub fn write_out(&self, s: &[u8]) -> Result<(), Reported> {
+        let mut out = self.rt.stdout();
+        self.write_whole(b"standard output", &mut out, s)
     }
-}
 
-// What reading a file gave that could not be opened.
-fn unread() -> Reading
-    ensures { result.length ≡ 0 }
-{
-    Reading {
-        length: 0,
-        failed: true,
+    // The same for standard error, where `s` is an answer and not a message. If a write fails, there may
+    // be nowhere to say so.
+    pub fn write_error(&self, s: &[u8]) -> Result<(), Reported> {
+        let mut out = self.rt.stderr();
+        self.write_whole(b"standard error", &mut out, s)
     }
-}
 
-// Writes all of `s` to standard output and returns true. If a write fails, the reason goes to
-// standard error and the answer is false; some of `s` may have been written by then.
-pub fn write_out(rt: &HostRuntime, program: &[u8], s: &[u8]) -> bool {
-    let mut out = rt.stdout();
-    write_whole(rt, program, b"standard output", &mut out, s)
-}
-
-// The same for standard error, where `s` is an answer and not a message. If a write fails, there may be
-// nowhere to say so.
-pub fn write_error(rt: &HostRuntime, program: &[u8], s: &[u8]) -> bool {
-    let mut out = rt.stderr();
-    write_whole(rt, program, b"standard error", &mut out, s)
-}
-
-// Writes all of `s` in the same way to what `name` names. std's `write_all` does not wait for a
-// descriptor that is not ready, so the loop is here. A proved loop has to end: it counts its writes down
-// from a number that no run uses up.
-fn write_whole<O: Write>(
-    rt: &HostRuntime,
-    program: &[u8],
-    name: &[u8],
-    out: &mut O,
-    s: &[u8],
-) -> bool {
-    let mut done: usize = 0;
-    for _ in 0..u64::MAX {
-        if s.len() <= done {
-            return true;
+    // Writes all of `s` to a file as `write_file` does, or to standard output if the path is `-`.
+    pub fn write(&self, path: &[u8], s: &[u8]) -> Result<(), Reported> {
+        if is_standard(path) {
+            self.write_out(s)
+        } else {
+            self.write_file(path, s)
         }
-        let wrote = write_once(rt, program, name, out, &s[done..]);
-        if wrote.failed {
-            return false;
-        }
-        done += wrote.taken;
     }
-    false
-}
 
-// How many bytes a write took, and whether it failed for good.
-#[derive(Clone, Copy)]
-struct Wrote {
-    taken: usize,
-    failed: bool,
-}
+    // Writes all of `s` in the same way to what `name` names. std's `write_all` does not wait for a
+    // descriptor that is not ready, so the loop is here. A proved loop has to end: it counts its writes
+    // down from a number that no run uses up.
+    fn write_whole<O: Write>(&self, name: &[u8], out: &mut O, s: &[u8]) -> Result<(), Reported> {
+        let mut left = s;
+        for _ in 0..u64::MAX {
+            if left.is_empty() {
+                return Ok(());
+            }
+            let taken = self.write_part(name, out, left)?;
+            left = &left[taken..];
+        }
+        Err(Reported)
+    }
 
-// Makes one write of `s`, which is not empty. It may take only a part of `s`, or nothing if it has to
-// be made again.
-fn write_once<O: Write>(
-    rt: &HostRuntime,
-    program: &[u8],
-    name: &[u8],
-    out: &mut O,
-    s: &[u8],
-) -> Wrote
-    ensures { result.taken ≤ length s.now }
-{
-    let put = out.write(s);
-    match put {
-        Ok(0) => {
-            refuse(rt, program, name, b"no byte was taken");
-            Wrote {
-                taken: 0,
-                failed: true,
+    // Makes one write of `s`, which is not empty, and returns how many bytes it took. It may take only a
+    // part of `s`, or nothing if it has to be made again.
+    fn write_part<O: Write>(&self, name: &[u8], out: &mut O, s: &[u8]) -> Result<usize, Reported>
+        ensures { IfOk result (λ n. n ≤ length s.now) }
+    {
+        match out.write(s) {
+            Ok(0) => Err(self.refuse(name, b"no byte was taken")),
+            Ok(taken) => Ok(taken),
+            Err(error) => {
+                self.pass(name, &error)?;
+                Ok(0)
             }
         }
-        Ok(taken) => Wrote {
-            taken,
-            failed: false,
-        },
-        Err(error) => {
-            let failed = has_failed(rt, &error);
-            if failed {
-                fail(rt, program, name, &error);
+    }
+
+    // Passes over the error of a read or a write that is to be made again: a signal interrupted it, or
+    // its descriptor does not block and is not ready yet. Any other has failed for good.
+    fn pass(&self, name: &[u8], error: &io::Error) -> Result<(), Reported> {
+        match error.kind() {
+            ErrorKind::Interrupted => Ok(()),
+            ErrorKind::WouldBlock => {
+                thread::sleep(self.rt, Duration::from_millis(PAUSE));
+                Ok(())
             }
-            Wrote { taken: 0, failed }
+            _ => Err(self.fail(name, error)),
         }
     }
-}
 
-// Whether a read or a write that ended in `error` has failed for good. It has not if a signal
-// interrupted it, or if its descriptor does not block and is not ready yet: then the caller makes the
-// call again.
-pub fn has_failed(rt: &impl Clock, error: &io::Error) -> bool {
-    match error.kind() {
-        ErrorKind::Interrupted => false,
-        ErrorKind::WouldBlock => {
-            thread::sleep(rt, Duration::from_millis(PAUSE));
-            false
-        }
-        _ => true,
+    // ---- messages
+
+    // Writes a part of a message to standard error. If the write fails, there is nowhere to say so.
+    pub fn say(&self, part: &[u8]) {
+        let _ = Print::write_all(&self.rt.stderr(), part);
     }
-}
 
-// Writes `PROGRAM: NAME: reason` to standard error, where the reason is that of `error`.
-pub fn fail(rt: &HostRuntime, program: &[u8], name: &[u8], error: &io::Error) {
-    say(rt, program);
-    say(rt, b": ");
-    say(rt, name);
-    say_reason(rt, error);
-}
+    // Writes a number to standard error, in plain decimal.
+    pub fn say_number(&self, n: usize) {
+        let _ = self.rt.stderr().print(n);
+    }
 
-// Writes the end of a message: a colon and the reason of a failure.
-fn say_reason(rt: &HostRuntime, error: &io::Error) {
-    let mut reason = Cursor::new([0u8; REASON]);
-    let _ = write!(reason, "{error}");
-    let said = places::before(reason.get_ref(), 0);
-    say(rt, b": ");
-    say(rt, system_words(said));
-    say(rt, b"\n");
+    // Writes `PROGRAM: what; try --help`: what is wrong with the arguments.
+    pub fn complain(&self, what: &[u8]) -> Reported {
+        self.say_name();
+        self.say(what);
+        self.say(b"; try --help\n");
+        Reported
+    }
+
+    // Writes `PROGRAM: what 'WORD'; try --help`: what is wrong with one argument.
+    pub fn complain_of(&self, what: &[u8], word: &[u8]) -> Reported {
+        self.say_name();
+        self.say(what);
+        self.say(b" '");
+        self.say(word);
+        self.say(b"'; try --help\n");
+        Reported
+    }
+
+    // Writes `PROGRAM: what`: why the program stops.
+    pub fn report(&self, what: &[u8]) -> Reported {
+        self.say_name();
+        self.say(what);
+        self.say(b"\n");
+        Reported
+    }
+
+    // Says on standard error where a book is bad: `NAME:LINE: bad line`, or that it is too long if the
+    // line is 0. It is the message of every program that reads a book.
+    pub fn bad_book(&self, name: &[u8], line: usize) -> Reported {
+        self.say(name);
+        if line == 0 {
+            self.say(b": too long: more than 65,536 bytes\n");
+        } else {
+            self.say(b":");
+            self.say_number(line);
+            self.say(b": bad line\n");
+        }
+        Reported
+    }
+
+    // Writes `PROGRAM: NAME: reason`, where the reason is that of `error`.
+    fn fail(&self, name: &[u8], error: &io::Error) -> Reported {
+        self.say_name();
+        self.say(name);
+        self.say_reason(error);
+        Reported
+    }
+
+    // Writes `PROGRAM: NAME: why`.
+    fn refuse(&self, name: &[u8], why: &[u8]) -> Reported {
+        self.say_name();
+        self.say(name);
+        self.say(b": ");
+        self.say(why);
+        self.say(b"\n");
+        Reported
+    }
+
+    // Writes the start of a message: the program's name, a colon and a blank.
+    pub fn say_name(&self) {
+        self.say(self.name);
+        self.say(b": ");
+    }
+
+    // Writes the end of a message: a colon and the reason of a failure.
+    fn say_reason(&self, error: &io::Error) {
+        let mut reason = Cursor::new([0u8; REASON]);
+        let _ = write!(reason, "{error}");
+        let said = places::before(reason.get_ref(), 0);
+        self.say(b": ");
+        self.say(system_words(said));
+        self.say(b"\n");
+    }
+
+    // A path as text. std opens a file by a name that is text in UTF-8, and by no other.
+    fn text_of<'p>(&self, path: &'p [u8]) -> Result<&'p str, Reported> {
+        str::from_utf8(path).map_err(|_| self.refuse(path, b"the name is not UTF-8"))
+    }
 }
 
 // The reason in the system's words: std puts ` (os error N)` behind them.
 fn system_words(said: &[u8]) -> &[u8] {
-    match str::from_utf8(said) {
-        Ok(text) => match text.split_once(" (os error ") {
-            Some((words, _)) => words.as_bytes(),
-            None => said,
-        },
-        Err(_) => said,
+    let Ok(text) = str::from_utf8(said) else {
+        return said;
+    };
+    match text.split_once(" (os error ") {
+        Some((words, _)) => words.as_bytes(),
+        None => said,
     }
-}
-
-// Writes `PROGRAM: NAME: why` to standard error.
-fn refuse(rt: &HostRuntime, program: &[u8], name: &[u8], why: &[u8]) {
-    say(rt, program);
-    say(rt, b": ");
-    say(rt, name);
-    say(rt, b": ");
-    say(rt, why);
-    say(rt, b"\n");
-}
-
-// std opens a file by a name that is text in UTF-8, and by no other.
-fn refuse_name(rt: &HostRuntime, program: &[u8], path: &[u8]) {
-    refuse(rt, program, path, b"the name is not UTF-8");
-}
-
-// Writes a part of a message to standard error. If the write fails, there is nowhere to say so.
-pub fn say(rt: &HostRuntime, part: &[u8]) {
-    let _ = Print::write_all(&rt.stderr(), part);
-}
-
-// Writes a number to standard error, in plain decimal.
-pub fn say_number(rt: &HostRuntime, n: usize) {
-    let _ = rt.stderr().print(n);
-}
-
-// Says on standard error where a book is bad: `NAME:LINE: bad line`, or that it is too long if the line
-// is 0. It is the message of every program that reads a book.
-pub fn bad_book(rt: &HostRuntime, name: &[u8], line: usize) {
-    say(rt, name);
-    if line == 0 {
-        say(rt, b": too long: more than 65,536 bytes\n");
-        return;
-    }
-    say(rt, b":");
-    say_number(rt, line);
-    say(rt, b": bad line\n");
 }

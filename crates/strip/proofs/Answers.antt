@@ -2,6 +2,7 @@
 -- otherwise 6 with all 0 (`strip_iff`, `strip_refused`); and each date of those years is shown by the strip of its month, once and under its
 -- weekday (`date_in_strip`).
 -- Assumes nothing.
+use Rattle.std.specs.Prelude.{None}
 use mathlib.Core.Path.{◌≡◌, sym, ap, ◌∙◌}
 use mathlib.Core.Logic.{◌↔◌, ◌⊎◌, inl, inr, ⊎_elim}
 use Prim.Native.Nat.{ℕ, ◌+◌, ◌-◌, ◌%◌, ◌≤◌, ◌<◌}
@@ -14,7 +15,6 @@ use Rattle.text.proofs.Lists.{by_test}
 use Rattle.calendar.specs.Calendar.{first_day}
 use Rattle.calendar.specs.Civil.{Civil, IsCivil, month_count, year_count, is_year, civil_day}
 use Rattle.calendar.specs.Dates.{month_number}
-use Rattle.calendar.specs.declared.Found.TheVariants.{Nothing}
 use Rattle.strip.specs.Weeks.{weekday}
 use Rattle.strip.specs.declared.Answered.{Answered}
 use Rattle.strip.specs.Strip.{shown_at, month_in, month_strip, no_strip, strip_at, strip_of}
@@ -26,12 +26,12 @@ pub strip_of_In : (y m : ℤ) → In (negsuc 9998) (pos 9999) y → In (pos 1) (
 unfolding strip_of
 strip_of_In y m p q = ap strip_at (month_in_of_In y m p q)
 
-pub strip_of_Nothing : (y m : ℤ) → month_in y m ≡ Nothing → strip_of y m ≡ record { number = 6; strip = no_strip }
+pub strip_of_None : (y m : ℤ) → month_in y m ≡ None → strip_of y m ≡ record { number = 6; strip = no_strip }
 unfolding strip_of
-strip_of_Nothing y m e = ap strip_at e
+strip_of_None y m e = ap strip_at e
 
 -- one or the other
-by_month : (y m : ℤ) → (In (negsuc 9998) (pos 9999) y × In (pos 1) (pos 12) m) ⊎ (month_in y m ≡ Nothing)
+by_month : (y m : ℤ) → (In (negsuc 9998) (pos 9999) y × In (pos 1) (pos 12) m) ⊎ (month_in y m ≡ None)
 by_month y m =
     by_test (is_year y)
     (λ a. by_test (is_in (pos 1) (pos 12) m) (λ b. inl (In_of_is_in (negsuc 9998) (pos 9999) y a, In_of_is_in (pos 1) (pos 12) m b)) (λ b. inr (month_in_of_month y m b)))
@@ -40,11 +40,11 @@ by_month y m =
 -- the number is 0 exactly if there is such a month
 pub strip_iff : (y m : ℤ) → ((strip_of y m).number ≡ 0) ↔ (In (negsuc 9998) (pos 9999) y × In (pos 1) (pos 12) m)
 strip_iff y m =
-    (λ e. ⊎_elim (λ p. p) (λ n. absurd (omega (arith, e, ap (λ (a : Answered). a.number) (strip_of_Nothing y m n)))) (by_month y m), λ p. ap (λ (a : Answered). a.number) (strip_of_In y m p.0 p.1))
+    (λ e. ⊎_elim (λ p. p) (λ n. absurd (omega (arith, e, ap (λ (a : Answered). a.number) (strip_of_None y m n)))) (by_month y m), λ p. ap (λ (a : Answered). a.number) (strip_of_In y m p.0 p.1))
 
 -- and otherwise 6, with all 0
 pub strip_refused : (y m : ℤ) → ((strip_of y m).number ≡ 0 → ⊥) → strip_of y m ≡ record { number = 6; strip = no_strip }
-strip_refused y m n = ⊎_elim (λ p. absurd (n ((strip_iff y m).1 p))) (strip_of_Nothing y m) (by_month y m)
+strip_refused y m n = ⊎_elim (λ p. absurd (n ((strip_iff y m).1 p))) (strip_of_None y m) (by_month y m)
 
 -- a date is shown by the strip of its month, at one place, under the weekday of its day
 pub date_in_strip : (c : Civil) → IsCivil c → let m = month_count c in let i = place_of m c.day in

@@ -68,6 +68,18 @@ Filled-set f n k l x h e p =
       left = λ i a b. get_or-set_other l k i x 0 (λ same. omega arith) ∙ p.left i (omega arith) b;
     }
 
+-- a place that stays 0
+pub Filled-skip : (f : ℕ → ℕ) (n k : ℕ) (l : List ℕ) → k < n → f k ≡ 0 → Filled f n k l → Filled f n (suc k) l
+Filled-skip f n k l h e p =
+    record {
+      size = p.size;
+      done = λ i a. elim (dec_lt i k) [
+        | yes b ↦ p.done i b
+        | no b ↦ let same : i ≡ k = omega arith in rw same (p.left k (omega arith) h ∙ sym e)
+      ];
+      left = λ i a b. p.left i (omega arith) b;
+    }
+
 pub along_of_Filled : (f : ℕ → ℕ) (n k : ℕ) (l : List ℕ) → Filled f n k l → ((i : ℕ) → k ≤ i → i < n → f i ≡ 0) → l ≡ along f n 0
 along_of_Filled f n k l p z =
     ext_get_or 0 l (along f n 0) (p.size ∙ sym (length-along f n 0)) (λ i h.

@@ -2,14 +2,12 @@
 -- shown at a place, by the days before the month's first in its week, and by the month's length. week_from: the week of a row, by the
 -- Monday of the first row, and by the first day of the next month.
 -- Assumes nothing.
-use Rattle.std.specs.Prelude.{cond, ◌&&◌, ℕ, ◌+◌, ◌*◌, ◌-◌, ◌≤◌, ◌<◌, leb, ltb}
-use Rattle.calendar.specs.declared.Found.{Found}
-use Rattle.calendar.specs.declared.Found.TheVariants.{At, Nothing}
+use Rattle.std.specs.Prelude.{cond, ◌&&◌, ℕ, ◌+◌, ◌*◌, ◌-◌, ◌≤◌, ◌<◌, leb, ltb, None, Option, Some}
 use Rattle.strip.specs.Weeks.{week}
 
-abbrev pub HasStrip : Found → Type 0
-HasStrip (At m) = (12 ≤ m) × (m < 240000)
-HasStrip Nothing = Unit {0}
+abbrev pub HasStrip : Option ℕ → Type 0
+HasStrip (Some m) = (12 ≤ m) × (m < 240000)
+HasStrip None = Unit {0}
 
 unfoldable pub number_from : ℕ → ℕ → ℕ → ℕ
 number_from before length i = cond (leb before i && ltb i (before + length)) (i - before + 1) 0

@@ -2,20 +2,17 @@
 -- counted as in Calendar: month 0 is January, and day 0 is 1 January, of year -10000; January 1970 is month 143,640, and 1 January
 -- 1970 is day 4,371,953.
 -- Assumes nothing.
-use Rattle.std.specs.Prelude.{cond, ◌&&◌, List, [], ◌∷◌, ◌++◌, ℕ, zero, suc, ◌+◌, ◌*◌, ◌-◌, eqb, ltb, leb, ℤ, pos, nat_abs, length, replicate}
+use Rattle.std.specs.Prelude.{cond, ◌&&◌, List, [], ◌∷◌, ◌++◌, ℕ, zero, suc, ◌+◌, ◌*◌, ◌-◌, eqb, ltb, leb, ℤ, pos, nat_abs, length, replicate, Err, None, Ok, Option, Result, Some}
 use Rattle.ints.specs.Range.{is_in}
 use Rattle.calendar.specs.Calendar.{first_day, month_length, month_of}
 use Rattle.calendar.specs.Civil.{year_count, is_year}
 use Rattle.calendar.specs.Dates.{month_number}
-use Rattle.calendar.specs.declared.Found.{Found}
-use Rattle.calendar.specs.declared.Found.TheVariants.{At, Nothing}
 use Rattle.time.specs.Answers.{number_of}
 use Rattle.time.specs.declared.Refusal.TheVariants.{Range, Room}
-use Rattle.time.specs.declared.Written.{Written}
-use Rattle.time.specs.declared.Written.TheVariants.{Length, Refused}
 use Rattle.strip.specs.Weeks.{weekday, monday, week}
 use Rattle.strip.specs.declared.Strip.{Strip}
 use Rattle.strip.specs.declared.Answered.{Answered}
+use Rattle.time.specs.declared.Refusal.{Refusal}
 
 -- f i, f (i + 1) and so on, n of them
 unfoldable pub along : (ℕ → ℕ) → ℕ → ℕ → List ℕ
@@ -58,13 +55,13 @@ unfoldable pub no_strip : Strip
 no_strip = record { length = 0; weekday = 0; weeks = replicate 6 0; days = replicate 42 0 }
 
 -- the month that a year from -9999 to 9999 and a month from 1 to 12 name
-unfoldable pub month_in : ℤ → ℤ → Found
-month_in y m = cond (is_year y && is_in (pos 1) (pos 12) m) (At (month_number (year_count y) (nat_abs m))) Nothing
+unfoldable pub month_in : ℤ → ℤ → Option ℕ
+month_in y m = cond (is_year y && is_in (pos 1) (pos 12) m) (Some (month_number (year_count y) (nat_abs m))) None
 
 -- its strip; any other year and month are refused by 6, with all 0 in the strip
-abbrev pub strip_at : Found → Answered
-strip_at (At m) = record { number = 0; strip = month_strip m }
-strip_at Nothing = record { number = number_of Range; strip = no_strip }
+abbrev pub strip_at : Option ℕ → Answered
+strip_at (Some m) = record { number = 0; strip = month_strip m }
+strip_at None = record { number = number_of Range; strip = no_strip }
 
 unfoldable pub strip_of : ℤ → ℤ → Answered
 strip_of y m = strip_at (month_in y m)
@@ -74,9 +71,9 @@ unfoldable pub strip_bytes : Strip → List ℕ
 strip_bytes s = s.length ∷ s.weekday ∷ s.weeks ++ s.days
 
 -- what writing them answers: 6, then 8 for a room of fewer than 50 bytes
-abbrev pub written_for : Found → List ℕ → Written
-written_for (At m) room = cond (leb 50 (length room)) (Length 50) (Refused Room)
-written_for Nothing room = Refused Range
+abbrev pub written_for : Option ℕ → List ℕ → Result ℕ Refusal
+written_for (Some m) room = cond (leb 50 (length room)) (Ok 50) (Err Room)
+written_for None room = Err Range
 
-unfoldable pub strip_written : ℤ → ℤ → List ℕ → Written
+unfoldable pub strip_written : ℤ → ℤ → List ℕ → Result ℕ Refusal
 strip_written y m room = written_for (month_in y m) room

@@ -1,6 +1,7 @@
 -- Plain decimal. In order: the two clauses of `decimal`, and a proof by them; a text after the digits; the promise about the
 -- digits; reading them gives the number back; how many digits there are.
 -- Assumes nothing.
+use Rattle.std.specs.Prelude.{Some}
 use mathlib.Core.Path.{◌≡◌, sym, ap, ◌∙◌, refl}
 use mathlib.Core.List.{List, [], ◌∷◌, ◌++◌, append_assoc, append-nil}
 use Prim.Native.Nat.{ℕ, zero, suc, ◌+◌, ◌*◌, ◌/◌, ◌%◌, ◌^◌, ◌≤◌, ◌<◌}
@@ -12,7 +13,6 @@ use lib.Dec.{ltb}
 use lib.ListN.{length, get_or, length-append, get_or-append}
 use Rattle.text.specs.Number.{read_from}
 use Rattle.text.specs.Decimal.{digit, digits_up_to, decimal, decimal_before, two_before}
-use Rattle.text.specs.declared.number.Number.TheVariants.{Value}
 use Rattle.text.proofs.Lists.{by_test}
 use Rattle.text.proofs.Numbers.{read_from-cons, is_digit_of_le}
 
@@ -117,7 +117,7 @@ read_from-decimal_before =
     ∙ read_from-cons t (n / 10) (48 + n % 10) (n % 10) (is_digit_of_le (48 + n % 10) (omega arith) (omega arith)) (omega arith)
     ∙ ap (λ (v : ℕ). read_from v t) v)
 
-pub read_from-decimal : (n : ℕ) → read_from 0 (decimal n) ≡ Value n
+pub read_from-decimal : (n : ℕ) → read_from 0 (decimal n) ≡ Some n
 unfolding decimal_before read_from
 read_from-decimal n = ap (read_from 0) (sym (append-nil (decimal n))) ∙ read_from-decimal_before n []
 

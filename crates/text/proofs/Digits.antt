@@ -1,5 +1,6 @@
 -- Digits. In order: a digit is no sign, no white space and no other mark; two digits of a number below 100, and their value.
 -- Assumes nothing.
+use Rattle.std.specs.Prelude.{Some}
 use mathlib.Core.Path.{◌≡◌, refl, sym, ap, ◌∙◌}
 use mathlib.Core.Bool.{Bool, true, false, ◌&&◌, false≢true}
 use mathlib.Core.List.{List, [], ◌∷◌}
@@ -12,7 +13,6 @@ use Rattle.text.specs.Bytes.{is_digit, is_space, is_sign}
 use Rattle.text.specs.Decimal.{two_before}
 use Rattle.text.specs.Number.{read_from, digits_of, unsigned_of, fit}
 use Rattle.text.specs.Places.{run, leading}
-use Rattle.text.specs.declared.number.Number.TheVariants.{Value}
 use Rattle.text.proofs.Lists.{by_test, both}
 use Rattle.text.proofs.Numbers.{digit_range, is_digit_of_le}
 
@@ -79,18 +79,18 @@ tens n h = is_digit_of_le (48 + n / 10) (omega arith) (omega arith)
 pub ones : (n : ℕ) → is_digit (48 + n % 10) ≡ true
 ones n = is_digit_of_le (48 + n % 10) (omega arith) (omega arith)
 
-pub unsigned_of-two-digits : (a b : ℕ) → is_digit a ≡ true → is_digit b ≡ true → unsigned_of (a ∷ b ∷ []) ≡ Value (10 * (a - 48) + (b - 48))
+pub unsigned_of-two-digits : (a b : ℕ) → is_digit a ≡ true → is_digit b ≡ true → unsigned_of (a ∷ b ∷ []) ≡ Some (10 * (a - 48) + (b - 48))
 unfolding unsigned_of digits_of read_from
 unsigned_of-two-digits a b x y =
     let e : 10 * (10 * 0 + (a - 48)) + (b - 48) ≡ 10 * (a - 48) + (b - 48) = omega arith in
-    rw (no_plus a x, x, y) (ap Value e)
+    rw (no_plus a x, x, y) (ap Some e)
 
-pub unsigned_of-two : (n : ℕ) → n < 100 → unsigned_of (two_before n []) ≡ Value n
+pub unsigned_of-two : (n : ℕ) → n < 100 → unsigned_of (two_before n []) ≡ Some n
 unsigned_of-two n h =
     let e : 10 * (48 + n / 10 - 48) + (48 + n % 10 - 48) ≡ n = omega arith in
-    unsigned_of-two-digits (48 + n / 10) (48 + n % 10) (tens n h) (ones n) ∙ ap Value e
+    unsigned_of-two-digits (48 + n / 10) (48 + n % 10) (tens n h) (ones n) ∙ ap Some e
 
 -- in any width that holds n
-pub fit-two : (n limit : ℕ) → n < 100 → n ≤ limit → fit limit (unsigned_of (two_before n [])) ≡ Value n
+pub fit-two : (n limit : ℕ) → n < 100 → n ≤ limit → fit limit (unsigned_of (two_before n [])) ≡ Some n
 unfolding fit
 fit-two n limit h k = ap (fit limit) (unsigned_of-two n h) ∙ rw (le-leb n limit k)

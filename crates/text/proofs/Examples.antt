@@ -1,5 +1,6 @@
 -- Examples of RULES 4, 9 and 10, computed: each is under the words that it shows.
 -- Assumes nothing.
+use Rattle.std.specs.Prelude.{Err, None, Some}
 use mathlib.Core.Path.{◌≡◌, refl}
 use mathlib.Core.Bool.{true, false}
 use mathlib.Core.List.{[], ◌∷◌, ◌++◌}
@@ -7,18 +8,14 @@ use Prim.Native.Nat.{◌^◌, ◌-◌}
 use lib.IntN.{pos, negsuc}
 use Rattle.text.specs.Bytes.{is_space, is_digit, is_alphanumeric, lower_of, ascii, same_letters}
 use Rattle.text.specs.Quote.{bytes}
-use Rattle.text.specs.Places.{run, first_place, last_where, last_place, leading}
+use Rattle.text.specs.Places.{run, first_place, last_where, last_place, leading, no}
 use Rattle.text.specs.Trim.{trim, trim_end, trim_start}
-use Rattle.text.specs.Words.{separator, words, pieces, full}
+use Rattle.text.specs.Words.{words, pieces, full}
 use Rattle.text.specs.Number.{read_from, digits_of, unsigned_of, signed_of, fitted, fitted_signed, fit, fit_signed}
 use Rattle.text.specs.Lines.{lines_of, ended_lines}
 use Rattle.text.specs.Decimal.{digits_up_to, decimal, signed}
 use Rattle.text.specs.Room.{fits, fit_both, room_after}
-use Rattle.text.specs.declared.words.Separator.TheVariants.{Space, Mark}
-use Rattle.text.specs.declared.number.Number.TheVariants.{Value, Nothing as NoNumber}
-use Rattle.text.specs.declared.number.Integer.TheVariants.{Is, Nothing as NoInteger}
-use Rattle.text.specs.declared.number.Fitted.TheVariants.{TooLarge as TooLargeNumber}
-use Rattle.text.specs.declared.number.FittedInteger.TheVariants.{TooLarge, Nothing as NothingFitsSigned}
+use Rattle.text.specs.declared.number.NumberError.TheVariants.{TooLarge as TooLargeNumber, NoNumber}
 
 -- RULES 4.1, "the bytes 9 to 13 and 32": 11 is white space; 8, 14 and 31 are not
 byte_11_is_space : is_space 11 ≡ true
@@ -44,11 +41,11 @@ unfolding trim trim_end trim_start is_space
 trimmed_to_nothing = refl
 
 -- words separated by white space; and words that are runs of ASCII letters and digits (RULES 7.2)
-words_of_a_header : words (separator Space) (bytes " 1745582210 +0200 ") ≡ bytes "1745582210" ∷ bytes "+0200" ∷ []
+words_of_a_header : words is_space (bytes " 1745582210 +0200 ") ≡ bytes "1745582210" ∷ bytes "+0200" ∷ []
 unfolding words pieces full is_space
 words_of_a_header = refl
 
-words_of_a_relative_date : words (separator Mark) (bytes "-5.days, ago") ≡ bytes "5" ∷ bytes "days" ∷ bytes "ago" ∷ []
+words_of_a_relative_date : words (no is_alphanumeric) (bytes "-5.days, ago") ≡ bytes "5" ∷ bytes "days" ∷ bytes "ago" ∷ []
 unfolding words pieces full is_alphanumeric
 words_of_a_relative_date = refl
 
@@ -63,53 +60,53 @@ unfolding same_letters lower_of
 no_letters = refl
 
 -- RULES 4.2, "digits only, at least one"
-no_digit : unsigned_of (bytes "+") ≡ NoNumber × unsigned_of [] ≡ NoNumber × unsigned_of (bytes "1 ") ≡ NoNumber
+no_digit : unsigned_of (bytes "+") ≡ None × unsigned_of [] ≡ None × unsigned_of (bytes "1 ") ≡ None
 unfolding unsigned_of digits_of read_from is_digit
 no_digit = (refl, refl, refl)
 
 -- RULES 4.3, "so `-0` is not one", though it is a signed number
-minus-zero : unsigned_of (bytes "-0") ≡ NoNumber × signed_of (bytes "-0") ≡ Is (pos 0)
+minus-zero : unsigned_of (bytes "-0") ≡ None × signed_of (bytes "-0") ≡ Some (pos 0)
 unfolding signed_of unsigned_of digits_of read_from is_digit
 minus-zero = (refl, refl)
 
 -- RULES 4.4, "leading zeros are allowed"
-leading_zeros : unsigned_of (bytes "+0000000000000000000000000000000000000005") ≡ Value 5
+leading_zeros : unsigned_of (bytes "+0000000000000000000000000000000000000005") ≡ Some 5
 unfolding unsigned_of digits_of read_from is_digit
 leading_zeros = refl
 
 -- RULES 4.2, "whose value fits the width": 255 is an unsigned number of 8 bits, 256 is none
-eight_bits : fit 255 (unsigned_of (bytes "255")) ≡ Value 255 × fit 255 (unsigned_of (bytes "256")) ≡ NoNumber
+eight_bits : fit 255 (unsigned_of (bytes "255")) ≡ Some 255 × fit 255 (unsigned_of (bytes "256")) ≡ None
 unfolding fit unsigned_of digits_of read_from is_digit
 eight_bits = (refl, refl)
 
 -- 64 signed bits: -2^63 is a number and one less is none; 2^63 - 1 is a number and one more is none
-least : fit_signed (2 ^ 63) (signed_of (bytes "-9223372036854775808")) ≡ Is (negsuc (2 ^ 63 - 1))
+least : fit_signed (2 ^ 63) (signed_of (bytes "-9223372036854775808")) ≡ Some (negsuc (2 ^ 63 - 1))
 unfolding fit_signed signed_of digits_of read_from is_digit
 least = refl
 
-below_least : fit_signed (2 ^ 63) (signed_of (bytes "-9223372036854775809")) ≡ NoInteger
+below_least : fit_signed (2 ^ 63) (signed_of (bytes "-9223372036854775809")) ≡ None
 unfolding fit_signed signed_of digits_of read_from is_digit
 below_least = refl
 
-most : fit_signed (2 ^ 63) (signed_of (bytes "9223372036854775807")) ≡ Is (pos (2 ^ 63 - 1))
+most : fit_signed (2 ^ 63) (signed_of (bytes "9223372036854775807")) ≡ Some (pos (2 ^ 63 - 1))
 unfolding fit_signed signed_of unsigned_of digits_of read_from is_digit
 most = refl
 
-above_most : fit_signed (2 ^ 63) (signed_of (bytes "9223372036854775808")) ≡ NoInteger
+above_most : fit_signed (2 ^ 63) (signed_of (bytes "9223372036854775808")) ≡ None
 unfolding fit_signed signed_of unsigned_of digits_of read_from is_digit
 above_most = refl
 
 -- RULES 4.7, "a number but for its value": one less and one more are too large, and so is 256 for 8 bits. With a byte that is no
 -- digit behind it, no number is too large
-too_large_signed : fitted_signed (2 ^ 63) (signed_of (bytes "-9223372036854775809")) ≡ TooLarge × fitted_signed (2 ^ 63) (signed_of (bytes "9223372036854775808")) ≡ TooLarge
+too_large_signed : fitted_signed (2 ^ 63) (signed_of (bytes "-9223372036854775809")) ≡ (Err TooLargeNumber) × fitted_signed (2 ^ 63) (signed_of (bytes "9223372036854775808")) ≡ (Err TooLargeNumber)
 unfolding signed_of unsigned_of digits_of read_from is_digit
 too_large_signed = (refl, refl)
 
-too_large : fitted 255 (unsigned_of (bytes "256")) ≡ TooLargeNumber
+too_large : fitted 255 (unsigned_of (bytes "256")) ≡ (Err TooLargeNumber)
 unfolding unsigned_of digits_of read_from is_digit
 too_large = refl
 
-not-too_large : fitted_signed (2 ^ 63) (signed_of (bytes "99999999999999999999x")) ≡ NothingFitsSigned
+not-too_large : fitted_signed (2 ^ 63) (signed_of (bytes "99999999999999999999x")) ≡ (Err NoNumber)
 unfolding signed_of unsigned_of digits_of read_from is_digit
 not-too_large = refl
 

@@ -63,10 +63,10 @@ onto_first-nil : (b : ℕ) (ls : List (List ℕ)) → onto_first b ls ≡ [] →
 onto_first-nil b [] e = refl
 onto_first-nil b (l ∷ ls) e = let z : ◌≡◌ {A = ℕ} 0 1 = cc in absurd (omega arith)
 
-onto_first_lem : (b : ℕ) (ls : List (List ℕ)) → onto b ls ≡ (b ∷ head_of ls) ∷ tail_of ls
+onto_first_is : (b : ℕ) (ls : List (List ℕ)) → onto b ls ≡ (b ∷ head_of ls) ∷ tail_of ls
 unfolding head_of tail_of
-onto_first_lem b [] = refl
-onto_first_lem b (l ∷ ls) = refl
+onto_first_is b [] = refl
+onto_first_is b (l ∷ ls) = refl
 
 not-nil : (ls : List (List ℕ)) → [] ∷ ls ≡ [] → ⊥
 not-nil ls e = let w : ◌≡◌ {A = ℕ} 0 1 = cc in omega arith
@@ -74,7 +74,7 @@ not-nil ls e = let w : ◌≡◌ {A = ℕ} 0 1 = cc in omega arith
 -- such a text is the beginning of the first line of what follows
 pub lines_of-open : (s : List ℕ) (b : ℕ) (z : List ℕ) → ended_lines (b ∷ s) ≡ [] → lines_of (b ∷ s ++ z) ≡ (b ∷ s ++ head_of (lines_of z)) ∷ tail_of (lines_of z)
 unfolding lines_of ended_lines
-lines_of-open [] b z h = by_test (eqb b newline) (λ y. absurd (not-nil (ended_lines []) (rw y at h))) (λ y. rw y (onto_first_lem b (lines_of z)))
+lines_of-open [] b z h = by_test (eqb b newline) (λ y. absurd (not-nil (ended_lines []) (rw y at h))) (λ y. rw y (onto_first_is b (lines_of z)))
 lines_of-open (x ∷ s) b z h =
     by_test (eqb b newline) (λ y. absurd (not-nil (ended_lines (x ∷ s)) (rw y at h)))
     (λ y. rw y (ap (onto b) (lines_of-open s x z (onto_first-nil b (ended_lines (x ∷ s)) (rw y at h)))))

@@ -10,10 +10,10 @@ use borrow.Author.Tests.{leb-true, le-leb, lt-leb, lt-ltb, ne_eqb, eqb-true}
 use lib.Dec.{leb, ltb, eqb}
 use lib.ListN.{length, get_or, take}
 use Rattle.text.specs.Bytes.{between, is_space, is_digit, is_alphanumeric, lower_of, ascii, same_letters}
+use Rattle.text.specs.Places.{no}
 use Rattle.text.specs.Trim.{trim, trim_start, trim_end}
-use Rattle.text.specs.Words.{separator, onto, pieces, full, words}
+use Rattle.text.specs.Words.{onto, pieces, full, words}
 use Rattle.text.specs.Number.{digits_of, read_from}
-use Rattle.text.specs.declared.words.Separator.TheVariants.{Mark}
 use Rattle.text.proofs.Lists.{by_test, both}
 use Rattle.text.proofs.Numbers.{digit_range}
 
@@ -123,12 +123,12 @@ onto_lowers : (b : ℕ) (ws : List (List ℕ)) → onto (lower_of b) (all_lowers
 onto_lowers b [] = refl
 onto_lowers b (w ∷ ws) = refl
 
-pieces_lowers : (s : List ℕ) → pieces (separator Mark) (lowers s) ≡ all_lowers (pieces (separator Mark) s)
+pieces_lowers : (s : List ℕ) → pieces (no is_alphanumeric) (lowers s) ≡ all_lowers (pieces (no is_alphanumeric) s)
 unfolding pieces
 pieces_lowers [] = refl
 pieces_lowers (b ∷ s) =
     by_test (is_alphanumeric b)
-    (λ e. rw (is_alphanumeric-lower_of b, e, pieces_lowers s) (onto_lowers b (pieces (separator Mark) s)))
+    (λ e. rw (is_alphanumeric-lower_of b, e, pieces_lowers s) (onto_lowers b (pieces (no is_alphanumeric) s)))
     (λ e. rw (is_alphanumeric-lower_of b, e, pieces_lowers s))
 
 full_lowers : (ws : List (List ℕ)) → full (all_lowers ws) ≡ all_lowers (full ws)
@@ -137,9 +137,9 @@ full_lowers [] = refl
 full_lowers ([] ∷ ws) = full_lowers ws
 full_lowers ((b ∷ w) ∷ ws) = rw (full_lowers ws)
 
-pub words_lowers : (s : List ℕ) → words (separator Mark) (lowers s) ≡ all_lowers (words (separator Mark) s)
+pub words_lowers : (s : List ℕ) → words (no is_alphanumeric) (lowers s) ≡ all_lowers (words (no is_alphanumeric) s)
 unfolding words
-words_lowers s = ap full (pieces_lowers s) ∙ full_lowers (pieces (separator Mark) s)
+words_lowers s = ap full (pieces_lowers s) ∙ full_lowers (pieces (no is_alphanumeric) s)
 
 -- ---- numbers
 read_from-lowers : (v : ℕ) (s : List ℕ) → read_from v (lowers s) ≡ read_from v s

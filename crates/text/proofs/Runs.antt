@@ -5,11 +5,11 @@
 use mathlib.Core.Path.{◌≡◌, refl, ap, ◌∙◌, sym}
 use mathlib.Core.Bool.{Bool, true, false, not, ◌||◌, false≢true}
 use mathlib.Core.List.{List, [], ◌∷◌, ◌++◌}
-use Prim.Native.Nat.{ℕ, zero, suc, ◌+◌, ◌-◌, ◌≤◌, ◌<◌}
+use Prim.Native.Nat.{ℕ, zero, suc, ◌+◌, ◌-◌, ◌≤◌, ◌<◌, max}
 use native.Mathlib.Nat.{le_refl, zero-add, not-suc-le-zero}
 use native.Mathlib.Omega.{arith}
-use borrow.Author.Tests.{ltb-true, ltb-false, lt-ltb, le-ltb}
-use lib.Dec.{ltb, eqb}
+use borrow.Author.Tests.{ltb-true, ltb-false, lt-ltb, le-ltb, leb-true, leb-false}
+use lib.Dec.{ltb, leb, eqb}
 use lib.ListN.{length, get_or, take, drop, length-drop, drop_of_length-le, take-append-drop}
 use lib.Seq.{drop-drop, length-take-le}
 use Rattle.text.specs.Places.{run, leading, no, past, first_place, has, last_where, last_place, opens_with}
@@ -66,6 +66,12 @@ module _ (p : ℕ → Bool) (s : List ℕ) (i : ℕ) where
   pub leading_of_true : i < length s → p (get_or s i 0) ≡ true → leading p (drop i s) ≡ get_or s i 0 ∷ leading p (drop (i + 1) s)
   unfolding run
   leading_of_true h e = rw (drop-cons-add-one s i h, e)
+
+-- a scan from `at` has come to the end at i, or `at` lay past it
+pub past_of-max : (p : ℕ → Bool) (s : List ℕ) (at i : ℕ) → past p s at ≡ past p s i → length s ≤ i → (at ≤ length s → i ≤ length s) → max at (length s) ≡ past p s at
+past_of-max p s at i e k b =
+    by_test (leb at (length s)) (λ t. let h : at ≤ length s = leb-true at (length s) t in omega (arith, b h, past_of-length-le p s i k))
+    (λ t. let h = leb-false at (length s) t in omega (arith, past_of-length-le p s at (omega arith)))
 
 -- ---- runs of two classes
 -- a run is as long as n of its bytes and the run after them

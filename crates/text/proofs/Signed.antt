@@ -1,6 +1,7 @@
 -- Signed plain decimal. In order: what the sign decides; a text after it; how many bytes it takes; which bytes they are; reading
 -- it back, and which numbers a width holds; the digits written in front of a place, and the minus in front of them.
 -- Assumes nothing.
+use Rattle.std.specs.Prelude.{Ok, Some}
 use mathlib.Core.Path.{◌≡◌, refl, sym, ap, ◌∙◌}
 use mathlib.Core.Bool.{true, ◌&&◌}
 use mathlib.Core.List.{List, ◌∷◌, ◌++◌, append_assoc}
@@ -14,8 +15,6 @@ use Rattle.ints.proofs.Parts.{le_parts, lt-parts, parts-le, parts-lt}
 use Rattle.ints.proofs.Machine.{lit, le_yes, lt_yes, lt-pred, le_z-true, lt_z-true}
 use Rattle.text.specs.Number.{signed_of, fitted_signed}
 use Rattle.text.specs.Decimal.{decimal, decimal_before, signed, signed_before}
-use Rattle.text.specs.declared.number.Integer.TheVariants.{Is}
-use Rattle.text.specs.declared.number.FittedInteger.TheVariants.{Is as FitsSigned}
 use Rattle.text.proofs.Lists.{both}
 use Rattle.text.proofs.Decimals.{Between, Between-append, length-decimal-pos, length-decimal-le, read_from-decimal, decimal_between}
 use Rattle.text.proofs.Putting.{put_put}
@@ -78,7 +77,7 @@ unfolding signed_before
 signed_before-between lo hi l h z t b = Between-append lo hi (signed z) t (signed_between lo hi l h z) b
 
 -- ---- reading it back
-signed_of-signed : (z : ℤ) → signed_of (signed z) ≡ Is z
+signed_of-signed : (z : ℤ) → signed_of (signed z) ≡ Some z
 unfolding signed
 signed_of-signed (pos n) =
     signed_of_of_digits (decimal n) n (length-decimal-pos n) (decimal_between 48 57 (omega arith) (omega arith) n) (read_from-decimal n)
@@ -98,7 +97,7 @@ tests_of_In half z r = rw (le_z-true r.low, lt_z-true (below half r.high))
     below (suc h) k = parts-lt _ _ (omega (arith, le_parts k))
 
 -- in 64 bits
-pub fitted_signed-signed : (z : ℤ) → In (negsuc (2 ^ 63 - 1)) (pos (2 ^ 63 - 1)) z → fitted_signed (2 ^ 63) (signed_of (signed z)) ≡ FitsSigned z
+pub fitted_signed-signed : (z : ℤ) → In (negsuc (2 ^ 63 - 1)) (pos (2 ^ 63 - 1)) z → fitted_signed (2 ^ 63) (signed_of (signed z)) ≡ Ok z
 fitted_signed-signed z r = rw (signed_of-signed z, tests_of_In (2 ^ 63) z r)
 
 -- ---- written in front of a place: where it starts, and the buffer after the call

@@ -2,6 +2,7 @@
 -- that are left, and moves on; those words by places; taking again and again gives the words; the words of two texts with a
 -- separator between them; a word has no separator in it.
 -- Assumes nothing.
+use Rattle.std.specs.Prelude.{None, Option, Some}
 use mathlib.Core.Path.{◌≡◌, refl, sym, ap, ◌∙◌}
 use mathlib.Core.Bool.{Bool, true, false}
 use mathlib.Core.List.{List, [], ◌∷◌, ◌++◌, append-nil}
@@ -14,20 +15,20 @@ use lib.ListN.{length, take, drop, get_or, length-drop, drop_of_length-le}
 use lib.Seq.{drop-drop, take-nil}
 use Rattle.text.specs.Places.{run, no, past, part}
 use Rattle.text.specs.Words.{onto, pieces, full, words, take_word}
-use Rattle.text.specs.declared.words.Taken.{Taken}
-use Rattle.text.specs.declared.words.Taken.TheVariants.{Word, Nothing}
 use Rattle.text.proofs.Lists.{by_test}
 use Rattle.text.proofs.Runs.{past-le-length, le-past, drop_past}
+use Rattle.text.specs.declared.words.Span.{Span}
+use Rattle.text.specs.declared.words.Words.{Words}
 
 -- the words that are left, by an answer of the reader: the word taken, and then the words from the place of the returned reader on
-abbrev pub listed : (ℕ → Bool) → List ℕ → Taken → List (List ℕ)
-listed p s (Word x w) = part s x ∷ words p (drop w.at s)
-listed p s Nothing = []
+abbrev pub listed : (ℕ → Bool) → List ℕ → Option (Span × Words) → List (List ℕ)
+listed p s (Some (x, w)) = part s x ∷ words p (drop w.at s)
+listed p s None = []
 
 -- where an answer with a word leaves the reader: further on than before, and within the text
-abbrev pub Moves : List ℕ → ℕ → Taken → Type 0
-Moves s at (Word x w) = (at < w.at) × (w.at ≤ length s)
-Moves s at Nothing = Unit {0}
+abbrev pub Moves : List ℕ → ℕ → Option (Span × Words) → Type 0
+Moves s at (Some (x, w)) = (at < w.at) × (w.at ≤ length s)
+Moves s at None = Unit {0}
 
 module _ (p : ℕ → Bool) where
   -- the pieces after the first one
@@ -96,7 +97,7 @@ module _ (p : ℕ → Bool) where
   past-lt s at h = omega (arith, rw (drop_past p s at) at (run-pos (drop at s) (more s at h)))
 
   -- a word that the reader takes is the first of the words that are left, and the returned reader has the others
-  pub words-take_word : (s : List ℕ) (at : ℕ) (t : Taken) → t ≡ take_word p s at → words p (drop at s) ≡ listed p s t
+  pub words-take_word : (s : List ℕ) (at : ℕ) (t : Option (Span × Words)) → t ≡ take_word p s at → words p (drop at s) ≡ listed p s t
   unfolding take_word
   words-take_word s at t e = rw e (by_test (ltb (past p s at) (length s)) (λ y. rw y (words_of_lt s at (ltb-true _ _ y))) (λ n. rw n (words_of_le s at (ltb-false _ _ n))))
 
@@ -136,9 +137,9 @@ module _ (p : ℕ → Bool) where
         rw (words_of_le s at (ltb-false _ _ e), drop_of_length-le s {i = end} h))
 
 -- ---- taking again and again
-abbrev after : List ℕ → Taken → (ℕ → List (List ℕ)) → List (List ℕ)
-after s Nothing k = []
-after s (Word x w) k = part s x ∷ k w.at
+abbrev after : List ℕ → Option (Span × Words) → (ℕ → List (List ℕ)) → List (List ℕ)
+after s None k = []
+after s (Some (x, w)) k = part s x ∷ k w.at
 
 -- the words that n takings from `at` give
 abbrev pub takings : (ℕ → Bool) → ℕ → List ℕ → ℕ → List (List ℕ)

@@ -1,6 +1,7 @@
 -- Texts whose bytes are known. In order: a byte that a text does not hold; that none of its words holds; a text whose bytes are in
 -- a range, as those of a number are; a number that is digits, or a minus and digits.
 -- Assumes nothing.
+use Rattle.std.specs.Prelude.{None, Option, Some}
 use mathlib.Core.Path.{◌≡◌, refl, sym, ap, ◌∙◌}
 use mathlib.Core.Bool.{Bool, true, false, ◌||◌, false≢true}
 use mathlib.Core.List.{List, [], ◌∷◌, ◌++◌}
@@ -16,10 +17,6 @@ use Rattle.text.specs.Places.{has}
 use Rattle.text.specs.Words.{onto, pieces, full, words}
 use Rattle.text.specs.Decimal.{two_before}
 use Rattle.text.specs.Number.{read_from, digits_of, unsigned_of, signed_of, plus, minus}
-use Rattle.text.specs.declared.number.Number.{Number}
-use Rattle.text.specs.declared.number.Number.TheVariants.{Value, Nothing as NoNumber}
-use Rattle.text.specs.declared.number.Integer.{Integer}
-use Rattle.text.specs.declared.number.Integer.TheVariants.{Is, Nothing as NoInteger}
 use Rattle.text.proofs.Lists.{by_test}
 use Rattle.text.proofs.Runs.{has_cons, has_nil}
 use Rattle.text.proofs.Numbers.{digit_range}
@@ -101,25 +98,25 @@ Between-le lo low hi h (x ∷ s) b = let k : lo ≤ x = b.0 in (omega arith, b.1
 
 -- ---- the bytes of a number
 module _ (n : ℕ) where
-  between_of_read_from : (s : List ℕ) (v : ℕ) → read_from v s ≡ Value n → Between 48 57 s
+  between_of_read_from : (s : List ℕ) (v : ℕ) → read_from v s ≡ Some n → Between 48 57 s
   unfolding read_from
   between_of_read_from [] v h = tt
   between_of_read_from (b ∷ s) v h =
       by_test (is_digit b) (λ e. let r = digit_range b e in (r.0, r.1, between_of_read_from s _ (rw e at h)))
       (λ e. let k = rw e at h in let z : ◌≡◌ {A = ℕ} 0 1 = cc in absurd (omega arith))
 
-  between_of_digits_of : (s : List ℕ) → digits_of s ≡ Value n → Between 43 57 s
+  between_of_digits_of : (s : List ℕ) → digits_of s ≡ Some n → Between 43 57 s
   unfolding digits_of
   between_of_digits_of [] h = tt
   between_of_digits_of (b ∷ s) h = Between-le 48 43 57 (omega arith) (b ∷ s) (between_of_read_from (b ∷ s) 0 h)
 
-  pub between_of_unsigned_of : (s : List ℕ) → unsigned_of s ≡ Value n → Between 43 57 s
+  pub between_of_unsigned_of : (s : List ℕ) → unsigned_of s ≡ Some n → Between 43 57 s
   unfolding unsigned_of
   between_of_unsigned_of [] h = tt
   between_of_unsigned_of (b ∷ s) h =
       by_test (eqb b 43) (λ e. let k = eqb-true b 43 e in let l : 43 ≤ b = omega arith in let m : b ≤ 57 = omega arith in (l, m, between_of_digits_of s (rw e at h))) (λ e. between_of_digits_of (b ∷ s) (rw e at h))
 
-pub between_of_signed_of : (s : List ℕ) (z : ℤ) → signed_of s ≡ Is z → Between 43 57 s
+pub between_of_signed_of : (s : List ℕ) (z : ℤ) → signed_of s ≡ Some z → Between 43 57 s
 unfolding signed_of
 between_of_signed_of [] z h = tt
 between_of_signed_of (b ∷ s) z h =
@@ -127,47 +124,47 @@ between_of_signed_of (b ∷ s) z h =
     (λ e. let k = eqb-true b 45 e in let l : 43 ≤ b = omega arith in let m : b ≤ 57 = omega arith in (l, m, minused (digits_of s) refl (rw e at h)))
     (λ e. plussed (unsigned_of (b ∷ s)) refl (rw e at h))
   where
-    minused : (x : Number) → digits_of s ≡ x → minus x ≡ Is z → Between 43 57 s
-    minused (Value n) e k = between_of_digits_of n s e
-    minused NoNumber e k = let q : ◌≡◌ {A = ℕ} 0 1 = cc in absurd (omega arith)
+    minused : (x : Option ℕ) → digits_of s ≡ x → minus x ≡ Some z → Between 43 57 s
+    minused (Some n) e k = between_of_digits_of n s e
+    minused None e k = let q : ◌≡◌ {A = ℕ} 0 1 = cc in absurd (omega arith)
 
-    plussed : (x : Number) → unsigned_of (b ∷ s) ≡ x → plus x ≡ Is z → Between 43 57 (b ∷ s)
-    plussed (Value n) e k = between_of_unsigned_of n (b ∷ s) e
-    plussed NoNumber e k = let q : ◌≡◌ {A = ℕ} 0 1 = cc in absurd (omega arith)
+    plussed : (x : Option ℕ) → unsigned_of (b ∷ s) ≡ x → plus x ≡ Some z → Between 43 57 (b ∷ s)
+    plussed (Some n) e k = between_of_unsigned_of n (b ∷ s) e
+    plussed None e k = let q : ◌≡◌ {A = ℕ} 0 1 = cc in absurd (omega arith)
 
 -- so a text that holds a byte of 128 or more is no number
-pub signed_of-not-ascii : (s : List ℕ) → ascii s ≡ false → signed_of s ≡ NoInteger
+pub signed_of-not-ascii : (s : List ℕ) → ascii s ≡ false → signed_of s ≡ None
 signed_of-not-ascii s h = told (signed_of s) refl
   where
-    told : (x : Integer) → signed_of s ≡ x → x ≡ NoInteger
-    told (Is z) e = absurd (false≢true (sym h ∙ ascii_of_between 43 57 (omega arith) s (between_of_signed_of s z e)))
-    told NoInteger e = refl
+    told : (x : Option ℤ) → signed_of s ≡ x → x ≡ None
+    told (Some z) e = absurd (false≢true (sym h ∙ ascii_of_between 43 57 (omega arith) s (between_of_signed_of s z e)))
+    told None e = refl
 
 -- an unsigned number is the same number as a signed one, since it does not begin with `-`
-unsigned_of-minus : (s : List ℕ) → unsigned_of (45 ∷ s) ≡ NoNumber
+unsigned_of-minus : (s : List ℕ) → unsigned_of (45 ∷ s) ≡ None
 unfolding unsigned_of digits_of read_from is_digit
 unsigned_of-minus s = refl
 
-unsigned_of-nil : unsigned_of [] ≡ NoNumber
+unsigned_of-nil : unsigned_of [] ≡ None
 unfolding unsigned_of
 unsigned_of-nil = refl
 
-pub signed_of_of_unsigned_of : (s : List ℕ) (n : ℕ) → unsigned_of s ≡ Value n → signed_of s ≡ Is (pos n)
+pub signed_of_of_unsigned_of : (s : List ℕ) (n : ℕ) → unsigned_of s ≡ Some n → signed_of s ≡ Some (pos n)
 unfolding signed_of
 signed_of_of_unsigned_of [] n h = let k = rw unsigned_of-nil at h in let q : ◌≡◌ {A = ℕ} 0 1 = cc in absurd (omega arith)
 signed_of_of_unsigned_of (b ∷ s) n h =
     by_test (eqb b 45) (λ e. let k = rw (eqb-true b 45 e, unsigned_of-minus s) at h in let q : ◌≡◌ {A = ℕ} 0 1 = cc in absurd (omega arith)) (λ e. rw (e, h))
 
-pub signed_of-two : (n : ℕ) → n < 100 → signed_of (two_before n []) ≡ Is (pos n)
+pub signed_of-two : (n : ℕ) → n < 100 → signed_of (two_before n []) ≡ Some (pos n)
 signed_of-two n h = signed_of_of_unsigned_of (two_before n []) n (unsigned_of-two n h)
 
 -- ---- digits, and a minus and digits
-pub signed_of_of_digits : (s : List ℕ) (n : ℕ) → 0 < length s → Between 48 57 s → read_from 0 s ≡ Value n → signed_of s ≡ Is (pos n)
+pub signed_of_of_digits : (s : List ℕ) (n : ℕ) → 0 < length s → Between 48 57 s → read_from 0 s ≡ Some n → signed_of s ≡ Some (pos n)
 unfolding signed_of unsigned_of digits_of
 signed_of_of_digits [] n h b e = absurd (not-suc-le-zero h)
 signed_of_of_digits (x ∷ s) n h b e = let k : 48 ≤ x = b.0 in rw (ne_eqb x 45 (λ q. omega arith), ne_eqb x 43 (λ q. omega arith), e)
 
-pub signed_of_of_minus : (s : List ℕ) (n : ℕ) → 0 < length s → read_from 0 s ≡ Value n → signed_of (45 ∷ s) ≡ Is (neg_ℤ (pos n))
+pub signed_of_of_minus : (s : List ℕ) (n : ℕ) → 0 < length s → read_from 0 s ≡ Some n → signed_of (45 ∷ s) ≡ Some (neg_ℤ (pos n))
 unfolding signed_of digits_of
 signed_of_of_minus [] n h e = absurd (not-suc-le-zero h)
 signed_of_of_minus (x ∷ s) n h e = rw e

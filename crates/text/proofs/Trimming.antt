@@ -5,18 +5,14 @@
 use mathlib.Core.Path.{◌≡◌, refl, sym, ap, ◌∙◌}
 use mathlib.Core.Bool.{Bool, true, false, cond}
 use mathlib.Core.List.{List, [], ◌∷◌, ◌++◌, reverse, reverse-append, reverse-cons, reverse-reverse}
-use Prim.Native.Nat.{ℕ, ◌≤◌, ◌<◌}
+use Prim.Native.Nat.{ℕ, ◌≤◌}
 use native.Mathlib.Nat.{le_refl, zero-add}
 use native.Mathlib.Omega.{arith}
-use borrow.Author.Tests.{lt-leb}
 use lib.ListN.{length, drop}
-use Rattle.text.specs.Bytes.{is_space, is_alphanumeric}
+use Rattle.text.specs.Bytes.{is_space}
 use Rattle.text.specs.Places.{run, past}
 use Rattle.text.specs.Trim.{trim_start, trim_end, trim}
-use Rattle.text.specs.Words.{separator, words}
-use Rattle.text.specs.declared.words.Separator.{Separator}
-use Rattle.text.specs.declared.words.Separator.TheVariants.{Space, Mark}
-use Rattle.text.proofs.Digits.{space_range}
+use Rattle.text.specs.Words.{words}
 use Rattle.text.proofs.Taking.{words-cons-separator, words-snoc-separator}
 use Rattle.text.proofs.Lists.{by_test}
 
@@ -79,29 +75,22 @@ pub trim_of_ends : (b : ℕ) (s : List ℕ) (e : ℕ) → is_space b ≡ false �
 unfolding trim trim_start
 trim_of_ends b s e p q = rw p (trim_end-snoc (b ∷ s) e ∙ rw q)
 
--- ---- a trimmed text has the same words, whichever bytes separate them
-is_space-separates : (by : Separator) (b : ℕ) → is_space b ≡ true → separator by b ≡ true
-unfolding is_alphanumeric
-is_space-separates Space b h = h
-is_space-separates Mark b h =
-    let l : b < 48 = omega (arith, space_range b h) in
-    rw (lt-leb 48 b l, lt-leb 65 b (omega arith), lt-leb 97 b (omega arith))
-
-module _ (by : Separator) where
-  words-trim_start : (s : List ℕ) → words (separator by) (trim_start s) ≡ words (separator by) s
+-- ---- a trimmed text has the same words, whichever bytes separate them, if white space is among them
+module _ (p : ℕ → Bool) (spaces : (b : ℕ) → is_space b ≡ true → p b ≡ true) where
+  words-trim_start : (s : List ℕ) → words p (trim_start s) ≡ words p s
   unfolding trim_start
   words-trim_start [] = refl
   words-trim_start (b ∷ s) =
-      by_test (is_space b) (λ e. rw e (words-trim_start s ∙ sym (words-cons-separator (separator by) b s (is_space-separates by b e)))) (λ e. rw e)
+      by_test (is_space b) (λ e. rw e (words-trim_start s ∙ sym (words-cons-separator p b s (spaces b e)))) (λ e. rw e)
 
-  words-reverse-trim_start : (r : List ℕ) → words (separator by) (reverse (trim_start r)) ≡ words (separator by) (reverse r)
+  words-reverse-trim_start : (r : List ℕ) → words p (reverse (trim_start r)) ≡ words p (reverse r)
   unfolding trim_start
   words-reverse-trim_start [] = refl
   words-reverse-trim_start (b ∷ r) =
       by_test (is_space b)
-      (λ e. rw e (words-reverse-trim_start r ∙ sym (words-snoc-separator (separator by) b (reverse r) (is_space-separates by b e)) ∙ ap (words (separator by)) (sym (reverse-cons b r))))
+      (λ e. rw e (words-reverse-trim_start r ∙ sym (words-snoc-separator p b (reverse r) (spaces b e)) ∙ ap (words p) (sym (reverse-cons b r))))
       (λ e. rw e)
 
-  pub words_trim : (s : List ℕ) → words (separator by) (trim s) ≡ words (separator by) s
+  pub words_trim : (s : List ℕ) → words p (trim s) ≡ words p s
   unfolding trim trim_end
-  words_trim s = words-reverse-trim_start (reverse (trim_start s)) ∙ ap (words (separator by)) (reverse-reverse (trim_start s)) ∙ words-trim_start s
+  words_trim s = words-reverse-trim_start (reverse (trim_start s)) ∙ ap (words p) (reverse-reverse (trim_start s)) ∙ words-trim_start s

@@ -4,7 +4,6 @@
 pub mod Bytes
 pub mod Quote
 pub mod Places
-pub mod Scan
 pub mod Trim
 pub mod Words
 pub mod Walk

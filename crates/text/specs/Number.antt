@@ -1,64 +1,54 @@
 -- Numbers: an optional sign and then digits only, at least one, whose value fits the width (RULES 4.2 to 4.4 and 4.7). Values
 -- are unbounded; only `fitted` and `fitted_signed` know a width, and `fit` and `fit_signed` by them.
 -- Assumes nothing.
-use Rattle.std.specs.Prelude.{ℕ, suc, ◌+◌, ◌-◌, ◌*◌, ◌≤◌, ◌^◌, ◌≡◌, cond, ◌&&◌, List, [], ◌∷◌, leb, eqb, pos, neg_ℤ, take, get_or}
+use Rattle.std.specs.Prelude.{ℕ, suc, ◌+◌, ◌-◌, ◌*◌, ◌≤◌, ◌^◌, ◌≡◌, cond, ◌&&◌, List, [], ◌∷◌, leb, eqb, pos, neg_ℤ, take, get_or, Err, None, Ok, Option, Result, Some, ℤ}
 use Prim.Native.Char.{code}
+use Rattle.std.specs.Result.{result_ok}
 use Rattle.std.specs.Int.Signed.{le_z, lt_z}
 use Rattle.text.specs.Bytes.{is_digit, is_sign}
 use Rattle.text.specs.Places.{run}
 use Rattle.text.specs.declared.number.Width.{Width}
 use Rattle.text.specs.declared.number.Width.TheVariants.{Bits32, Bits64}
-use Rattle.text.specs.declared.number.Number.{Number}
-use Rattle.text.specs.declared.number.Number.TheVariants.{Value, Nothing as NoNumber}
-use Rattle.text.specs.declared.number.Integer.{Integer}
-use Rattle.text.specs.declared.number.Integer.TheVariants.{Is, Nothing as NoInteger}
-use Rattle.text.specs.declared.number.Fitted.{Fitted}
-use Rattle.text.specs.declared.number.Fitted.TheVariants.{Value as Fits, TooLarge as TooLargeNumber, Nothing as NothingFits}
-use Rattle.text.specs.declared.number.FittedInteger.{FittedInteger}
-use Rattle.text.specs.declared.number.FittedInteger.TheVariants.{Is as FitsSigned, TooLarge, Nothing as NothingFitsSigned}
 use Rattle.text.specs.declared.number.LeadingInteger.{LeadingInteger}
+use Rattle.text.specs.declared.number.NumberError.TheVariants.{TooLarge as TooLargeNumber, NoNumber}
+use Rattle.text.specs.declared.number.NumberError.{NumberError}
 
 -- digits only: their value, where the digits before them have the value v
-unfoldable pub read_from : ℕ → List ℕ → Number
-read_from v [] = Value v
-read_from v (b ∷ s) = cond (is_digit b) (read_from (10 * v + (b - code "0")) s) NoNumber
+unfoldable pub read_from : ℕ → List ℕ → Option ℕ
+read_from v [] = Some v
+read_from v (b ∷ s) = cond (is_digit b) (read_from (10 * v + (b - code "0")) s) None
 
 -- at least one
-unfoldable pub digits_of : List ℕ → Number
-digits_of [] = NoNumber
+unfoldable pub digits_of : List ℕ → Option ℕ
+digits_of [] = None
 digits_of (b ∷ s) = read_from 0 (b ∷ s)
 
 -- unsigned: an optional `+` before them, so `-0` is not one
-unfoldable pub unsigned_of : List ℕ → Number
-unsigned_of [] = NoNumber
+unfoldable pub unsigned_of : List ℕ → Option ℕ
+unsigned_of [] = None
 unsigned_of (b ∷ s) = cond (eqb b (code "+")) (digits_of s) (digits_of (b ∷ s))
 
-abbrev pub plus : Number → Integer
-plus (Value n) = Is (pos n)
-plus NoNumber = NoInteger
+abbrev pub plus : Option ℕ → Option ℤ
+plus (Some n) = Some (pos n)
+plus None = None
 
-abbrev pub minus : Number → Integer
-minus (Value n) = Is (neg_ℤ (pos n))
-minus NoNumber = NoInteger
+abbrev pub minus : Option ℕ → Option ℤ
+minus (Some n) = Some (neg_ℤ (pos n))
+minus None = None
 
 -- signed: an optional `+` or `-` before them
-unfoldable pub signed_of : List ℕ → Integer
-signed_of [] = NoInteger
+unfoldable pub signed_of : List ℕ → Option ℤ
+signed_of [] = None
 signed_of (b ∷ s) = cond (eqb b (code "-")) (minus (digits_of s)) (plus (unsigned_of (b ∷ s)))
 
 -- the value fits the width if it is at most the limit; a larger one is too large. What is no number is none at any width
-abbrev pub fitted : ℕ → Number → Fitted
-fitted limit (Value n) = cond (leb n limit) (Fits n) TooLargeNumber
-fitted limit NoNumber = NothingFits
+abbrev pub fitted : ℕ → Option ℕ → Result ℕ NumberError
+fitted limit (Some n) = cond (leb n limit) (Ok n) (Err TooLargeNumber)
+fitted limit None = Err NoNumber
 
--- the plain answer, for readers to which a number that is too large is no number
-abbrev pub plain_number : Fitted → Number
-plain_number (Fits n) = Value n
-plain_number TooLargeNumber = NoNumber
-plain_number NothingFits = NoNumber
-
-unfoldable pub fit : ℕ → Number → Number
-fit limit x = plain_number (fitted limit x)
+-- the same for readers to which a number that is too large is no number
+unfoldable pub fit : ℕ → Option ℕ → Option ℕ
+fit limit x = result_ok (fitted limit x)
 
 -- half of a width of w bits is 2 to the w - 1
 abbrev pub half_of : Width → ℕ
@@ -66,18 +56,13 @@ half_of Bits32 = 2 ^ 31
 half_of Bits64 = 2 ^ 63
 
 -- signed bits hold the numbers from -half to half - 1; any other is too large
-abbrev pub fitted_signed : ℕ → Integer → FittedInteger
-fitted_signed half (Is z) = cond (le_z (neg_ℤ (pos half)) z && lt_z z (pos half)) (FitsSigned z) TooLarge
-fitted_signed half NoInteger = NothingFitsSigned
+abbrev pub fitted_signed : ℕ → Option ℤ → Result ℤ NumberError
+fitted_signed half (Some z) = cond (le_z (neg_ℤ (pos half)) z && lt_z z (pos half)) (Ok z) (Err TooLargeNumber)
+fitted_signed half None = Err NoNumber
 
--- the plain answer, for readers to which a number that is too large is no number
-abbrev pub plain : FittedInteger → Integer
-plain (FitsSigned z) = Is z
-plain TooLarge = NoInteger
-plain NothingFitsSigned = NoInteger
-
-unfoldable pub fit_signed : ℕ → Integer → Integer
-fit_signed half x = plain (fitted_signed half x)
+-- the same for readers to which a number that is too large is no number
+unfoldable pub fit_signed : ℕ → Option ℤ → Option ℤ
+fit_signed half x = result_ok (fitted_signed half x)
 
 -- how many bytes at the front of s are a sign, if there is one, and digits
 unfoldable pub numeral : List ℕ → ℕ
@@ -91,6 +76,6 @@ pub record LeadsWith (half : ℕ) (s : List ℕ) (at : ℕ) (r : LeadingInteger)
   pub signed_is : r.signed ≡ is_sign (get_or s 0 0)
 
 -- at most k, if it is a number
-abbrev pub AtMost : ℕ → Number → Type 0
-AtMost k (Value n) = n ≤ k
-AtMost k NoNumber = Unit {0}
+abbrev pub AtMost : ℕ → Option ℕ → Type 0
+AtMost k (Some n) = n ≤ k
+AtMost k None = Unit {0}

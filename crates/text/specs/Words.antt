@@ -1,17 +1,10 @@
 -- Words: the runs of bytes between separators (RULES 4.5). A separator is a test of a byte. Two are in use: white space; and every
 -- byte but ASCII letters and digits, so that words are runs of those.
 -- Assumes nothing.
-use Rattle.std.specs.Prelude.{ℕ, Bool, cond, List, [], ◌∷◌, ltb, length}
-use Rattle.text.specs.Bytes.{is_space, is_alphanumeric}
+use Rattle.std.specs.Prelude.{ℕ, Bool, cond, List, [], ◌∷◌, ltb, length, None, Option, Some}
 use Rattle.text.specs.Places.{no, past}
-use Rattle.text.specs.declared.words.Separator.{Separator}
-use Rattle.text.specs.declared.words.Separator.TheVariants.{Space, Mark}
-use Rattle.text.specs.declared.words.Taken.{Taken}
-use Rattle.text.specs.declared.words.Taken.TheVariants.{Word, Nothing}
-
-abbrev pub separator : Separator → ℕ → Bool
-separator Space = is_space
-separator Mark = no is_alphanumeric
+use Rattle.text.specs.declared.words.Span.{Span}
+use Rattle.text.specs.declared.words.Words.{Words}
 
 -- b put in front of the first piece
 abbrev pub onto : ℕ → List (List ℕ) → List (List ℕ)
@@ -34,8 +27,8 @@ unfoldable pub words : (ℕ → Bool) → List ℕ → List (List ℕ)
 words p s = full (pieces p s)
 
 -- RULES 4.5, "returns a word together with itself, moved past that word": the first word from `at` on, and the reader past it
-unfoldable pub take_word : (ℕ → Bool) → List ℕ → ℕ → Taken
+unfoldable pub take_word : (ℕ → Bool) → List ℕ → ℕ → Option (Span × Words)
 take_word p s at =
     let start = past p s at in
     let end = past (no p) s start in
-    cond (ltb start (length s)) (Word (record { start = start; end = end }) (record { at = end })) Nothing
+    cond (ltb start (length s)) (Some (record { start = start; end = end }, record { at = end })) None

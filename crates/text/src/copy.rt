@@ -1,4 +1,7 @@
-// Bytes copied into a room at a place, also as a field behind a tab.
+// Bytes copied into a room at a place, also as a field behind a tab. The room is the caller's, since
+// there is no heap; its clauses say which bytes stay as they were, which the contract of std's `Write`
+// for a slice does not. The place and the room stay two parameters: a caller goes on in the same room
+// from the place that it got back.
 ghost use Rattle.std.specs.Prelude.{◌≡◌, ◌∷◌, ◌+◌, ◌≤◌, length};
 ghost use Rattle.text.specs.Lines.{tab};
 ghost use Rattle.text.specs.Room.{put_at};
@@ -10,12 +13,9 @@ pub fn put_part(part: &[u8], at: usize, room: &mut [u8]) -> usize
     ensures value { result ≡ at + length part.now }
     ensures room_after { room.new ≡ put_at part.now at room.old }
 {
-    let mut i = 0;
-    while i < part.len() {
-        room[at + i] = part[i];
-        i += 1;
-    }
-    at + i
+    let end = at + part.len();
+    room[at..end].copy_from_slice(part);
+    end
 }
 
 // Puts a tab and the bytes of `part` from place `at` on, and returns the place past them.

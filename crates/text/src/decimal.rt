@@ -1,7 +1,9 @@
-// Plain decimal, written into a caller's buffer. Each call writes in front of a place `end` and
-// leaves all other bytes as they were, so that a line is written from its end to its front and
+// Plain decimal, written into a caller's buffer (no heap). Each call writes in front of a place `end`
+// and leaves all other bytes as they were, so that a line is written from its end to its front and
 // nothing is moved. `put_decimal` and `put_signed` return the place of their first byte, which is
-// the `end` of the call that writes the bytes before it.
+// the `end` of the call that writes the bytes before it. `end` and the buffer stay two parameters: a
+// value that holds both would be taken apart again by each caller, which goes on in the same buffer
+// from the place that it got back.
 ghost use Rattle.std.specs.Prelude.{◌≡◌, ◌∷◌, ◌++◌, ◌-◌, ◌^◌, ◌≤◌, ◌<◌, nat_abs, length, take, drop};
 ghost use Rattle.text.specs.Decimal.{digit as digit_of, decimal, decimal_before, signed, signed_before, two_before};
 
@@ -20,13 +22,14 @@ pub fn count_digits(n: u64) -> usize
     let bits = 64 - (u64::leading_zeros(v) as usize);
     let estimate = bits * LOG10_OF_2 / LOG10_SCALE;
     if v < pow10(estimate) {
-        return estimate;
+        estimate
+    } else {
+        estimate + 1
     }
-    estimate + 1
 }
 
-// 10^k. A `match` is compiled to a look-up; a constant array would be written to the stack at each
-// call. The last arm is never taken.
+// 10^k. A `match` is compiled to a look-up. A `static` array in its place was tried: the check finds no
+// proof that its entries are these powers, and finds this one alone. The last arm is never taken.
 fn pow10(k: usize) -> u64
     requires { k < 20 }
     ensures { result ≡ 10 ^ k }
@@ -60,11 +63,7 @@ fn pow10(k: usize) -> u64
 pub fn magnitude(z: i64) -> u64
     ensures { result ≡ nat_abs z }
 {
-    if z < 0 {
-        ((-1 - z) as u64) + 1
-    } else {
-        z as u64
-    }
+    z.unsigned_abs()
 }
 
 // How many bytes z takes: its digits, and one more if it is negative.
@@ -72,14 +71,13 @@ pub fn signed_width(z: i64) -> usize
     ensures { (result ≡ length (signed z)) × (1 ≤ result) × (result ≤ 20) }
 {
     let n = count_digits(magnitude(z));
-    if z < 0 {
-        return n + 1;
-    }
-    n
+    if z < 0 { n + 1 } else { n }
 }
 
 // Writes the digits of n in front of `end`, two at a time: each division has to wait for the one
-// before it, and this takes half as many.
+// before it, and this takes half as many. The loop runs on v, and not over places, since v alone says
+// how many there are. std's `write!` is no plainer here: it writes from the front, so that the digits
+// would have to be counted first or moved afterwards.
 pub fn put_decimal(n: u64, end: usize, room: &mut [u8]) -> usize
     requires { (length (decimal n) ≤ end) × (end ≤ length room.old) }
     ensures value { result ≡ end - length (decimal n) }
@@ -89,15 +87,16 @@ pub fn put_decimal(n: u64, end: usize, room: &mut [u8]) -> usize
     let mut i = end;
     while 100 <= v {
         put_two(v % 100, i, room);
-        v = v / 100;
+        v /= 100;
         i -= 2;
     }
     if 10 <= v {
         put_two(v, i, room);
-        return i - 2;
+        i - 2
+    } else {
+        put_byte(digit(v), i, room);
+        i - 1
     }
-    put_byte(digit(v), i, room);
-    i - 1
 }
 
 // Writes z in front of `end`: its digits, and `-` in front of them if it is negative.
@@ -109,9 +108,10 @@ pub fn put_signed(z: i64, end: usize, room: &mut [u8]) -> usize
     let at = put_decimal(magnitude(z), end, room);
     if z < 0 {
         put_byte(b'-', at, room);
-        return at - 1;
+        at - 1
+    } else {
+        at
     }
-    at
 }
 
 // Writes two digits of n in front of `end`: 7 is `07`.

@@ -1,48 +1,85 @@
 // One loop that scans past a run of bytes; words, trimming and digits all call it. Each caller
-// names its class as a constant, so that the compiler makes a loop for that class alone.
-ghost use Rattle.std.specs.Prelude.{◌≡◌};
-ghost use Rattle.text.specs.Places.{past as past_of};
-ghost use Rattle.text.specs.Scan.{is_of};
+// names a class of bytes as a type, so that the compiler makes a loop for that class alone.
+ghost use Rattle.std.specs.Prelude.{◌≡◌, ℕ, Bool};
+ghost use Rattle.text.specs.Bytes.{is_space, is_digit, is_alphanumeric, is_plain};
+ghost use Rattle.text.specs.Places.{no, past as past_of};
 
 use crate::bytes;
 
-// The bytes that a scan passes. A mark is any byte but an ASCII letter or digit. A plain byte is no
-// white space, no `:`, and ASCII.
-#[derive(Clone, Copy)]
-pub enum Class {
-    Space,
-    NotSpace,
-    Mark,
-    Alphanumeric,
-    Digit,
-    Plain,
+// A class of bytes.
+pub trait Class {
+    ghost holds: { ℕ → Bool };
+
+    // Whether b is of the class.
+    fn has(b: u8) -> bool
+        ensures { result ≡ holds b };
+}
+
+// White space.
+pub struct Space;
+
+// A digit.
+pub struct Digit;
+
+// An ASCII letter or digit.
+pub struct Alphanumeric;
+
+// No white space, no `:`, and ASCII.
+pub struct Plain;
+
+// Any byte that is not of the class C.
+pub struct Not<C> {
+    pub class: C,
+}
+
+impl Class for Space {
+    ghost holds = { is_space };
+
+    fn has(b: u8) -> bool {
+        bytes::is_space(b)
+    }
+}
+
+impl Class for Digit {
+    ghost holds = { is_digit };
+
+    fn has(b: u8) -> bool {
+        bytes::is_digit(b)
+    }
+}
+
+impl Class for Alphanumeric {
+    ghost holds = { is_alphanumeric };
+
+    fn has(b: u8) -> bool {
+        bytes::is_alphanumeric(b)
+    }
+}
+
+impl Class for Plain {
+    ghost holds = { is_plain };
+
+    fn has(b: u8) -> bool {
+        bytes::is_plain(b)
+    }
+}
+
+impl<C: Class> Class for Not<C> {
+    ghost holds = { no C.holds };
+
+    fn has(b: u8) -> bool {
+        !C::has(b)
+    }
 }
 
 // The place past the run of bytes of the class that begins at `at`.
-pub fn past(s: &[u8], at: usize, class: Class) -> usize
-    ensures { result ≡ past_of (is_of class) s.now at }
+pub fn past<C: Class>(s: &[u8], at: usize) -> usize
+    ensures { result ≡ past_of C.holds s.now at }
 {
-    let mut i = at;
-    while i < s.len() {
-        if is_of(class, s[i]) {
-            i += 1;
-        } else {
+    for i in at..s.len() {
+        if !C::has(s[i]) {
             return i;
         }
     }
-    i
-}
-
-// Whether b is of the class.
-fn is_of(class: Class, b: u8) -> bool
-    ensures { result ≡ is_of class b }
-{
-    match class {
-        Class::Space => bytes::is_space(b),
-        Class::NotSpace => !bytes::is_space(b),
-        Class::Mark => !bytes::is_alphanumeric(b),
-        Class::Alphanumeric => bytes::is_alphanumeric(b),
-        Class::Digit => bytes::is_digit(b),
-        Class::Plain => bytes::is_plain(b),
-    }
+    at.max(s.len())
 }

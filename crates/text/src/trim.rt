@@ -2,7 +2,7 @@
 ghost use Rattle.std.specs.Prelude.{◌≡◌};
 ghost use Rattle.text.specs.Trim.{trim_start, trim_end, trim};
 
-use crate::scan::Class;
+use crate::scan::Space;
 use crate::{bytes, scan};
 
 pub fn trimmed(s: &[u8]) -> &[u8]
@@ -14,19 +14,15 @@ pub fn trimmed(s: &[u8]) -> &[u8]
 fn trimmed_start(s: &[u8]) -> &[u8]
     ensures { result.now ≡ trim_start s.now }
 {
-    let i = scan::past(s, 0, Class::Space);
-    &s[i..]
+    &s[scan::past::<Space>(s, 0)..]
 }
 
 fn trimmed_end(s: &[u8]) -> &[u8]
     ensures { result.now ≡ trim_end s.now }
 {
-    let mut e = s.len();
-    while 0 < e {
-        if bytes::is_space(s[e - 1]) {
-            e -= 1;
-        } else {
-            return &s[..e];
+    for i in (0..s.len()).rev() {
+        if !bytes::is_space(s[i]) {
+            return &s[..=i];
         }
     }
     &s[..0]

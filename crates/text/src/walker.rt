@@ -2,17 +2,20 @@
 // program `monthstrip` takes a month's name by `nth_word`. The readers of dates have the text at hand
 // and use the reader `words::Words`, which does the walker's scanning too and gives the same words.
 //
-// A step is three calls: `next` returns the bounds of a word and the reader past it, `word` returns
-// the bytes of the word, and `moved` returns the walker past it. The separator is a parameter of
-// each step, as it is of the reader's steps. `after_words` and `nth_word` have plain parameters,
-// for callers that need no walker of their own.
+// The calls are public (docs/PROMISES.md 4.5) and stay as the definition `next_of` has them; an
+// `Iterator` over the words would give `Walker` another meaning. A step is three calls: `next` returns
+// the bounds of a word and the reader past it, `word` returns the bytes of the word, and `moved` returns
+// the walker past it. The class of bytes that separates words is a type parameter of each step, as it is
+// of the reader's steps. `after_words` and `nth_word` take the text itself, for callers that need no
+// walker of their own.
 ghost use Rattle.std.specs.Prelude.{◌≡◌, [], drop, get_or};
 ghost use Rattle.text.specs.Places.{part};
-ghost use Rattle.text.specs.Words.{separator, words};
+ghost use Rattle.text.specs.Words.{words};
 ghost use Rattle.text.specs.Walk.{walker_of, next_of, moved_to, passed};
 
 use crate::places;
-use crate::words::{Separator, Span, Taken, Words, within};
+use crate::scan::Class;
+use crate::words::{Span, Words, within};
 
 // A text, and the place in it from which the next word is looked for.
 #[derive(Clone, Copy)]
@@ -29,13 +32,12 @@ impl<'a> Walker<'a> {
         Walker { text, at: 0 }
     }
 
-    // The bounds of the next word and the reader past it; nothing if only separators are left. The
+    // The bounds of the next word and the reader past it; `None` if only separators are left. The
     // walker stays where it is.
-    pub fn next(self, by: Separator) -> Taken
-        ensures { result ≡ next_of self.entry by }
+    pub fn next<C: Class>(self) -> Option<(Span, Words)>
+        ensures { result ≡ next_of self.entry C.holds }
     {
-        let w = Words { at: self.at };
-        w.take(self.text, by)
+        Words { at: self.at }.take::<C>(self.text)
     }
 
     // The walker moved to the place of a reader that `next` returned.
@@ -56,10 +58,10 @@ impl<'a> Walker<'a> {
     }
 
     // The walker past the next n words, or past as many as there are.
-    pub fn skipped(self, n: usize, by: Separator) -> Walker<'a>
-        ensures { result ≡ moved_to self.entry (passed (separator by) n self.entry.text.now self.entry.at) }
+    pub fn skipped<C: Class>(self, n: usize) -> Walker<'a>
+        ensures { result ≡ moved_to self.entry (passed C.holds n self.entry.text.now self.entry.at) }
     {
-        let at = place_after(self.text, self.at, n, by);
+        let at = place_after::<C>(self.text, self.at, n);
         Walker {
             text: self.text,
             at,
@@ -75,39 +77,34 @@ impl<'a> Walker<'a> {
 }
 
 // The place past the next n words, or past as many as there are.
-fn place_after(text: &[u8], at: usize, n: usize, by: Separator) -> usize
-    ensures { result ≡ passed (separator by) n text.now at }
+fn place_after<C: Class>(text: &[u8], at: usize, n: usize) -> usize
+    ensures { result ≡ passed C.holds n text.now at }
 {
     let mut i = at;
-    let mut k = n;
-    while 0 < k {
-        let w = Words { at: i };
-        let t = w.take(text, by);
-        let Taken::Word(_, past) = t else {
+    for _ in 0..n {
+        let Some((_, past)) = Words { at: i }.take::<C>(text) else {
             return i;
         };
         i = past.at;
-        k -= 1;
     }
     i
 }
 
 // What comes after the first n words, or after as many as there are.
-pub fn after_words(text: &[u8], n: usize, by: Separator) -> &[u8]
-    ensures { result.now ≡ drop (passed (separator by) n text.now 0) text.now }
+pub fn after_words<C: Class>(text: &[u8], n: usize) -> &[u8]
+    ensures { result.now ≡ drop (passed C.holds n text.now 0) text.now }
 {
-    Walker::start(text).skipped(n, by).left()
+    Walker::start(text).skipped::<C>(n).left()
 }
 
 // The word with n words before it, as a part of the text. It is empty, as no word is, if the text
 // has n words or fewer.
-pub fn nth_word(text: &[u8], n: usize, by: Separator) -> &[u8]
-    ensures { result.now ≡ get_or (words (separator by) text.now) n [] }
+pub fn nth_word<C: Class>(text: &[u8], n: usize) -> &[u8]
+    ensures { result.now ≡ get_or (words C.holds text.now) n [] }
 {
-    let rest = after_words(text, n, by);
-    let t = Words::new().take(rest, by);
-    let Taken::Word(p, _) = t else {
+    let rest = after_words::<C>(text, n);
+    let Some((word, _)) = Words::new().take::<C>(rest) else {
         return &rest[..0];
     };
-    within(rest, p)
+    within(rest, word)
 }

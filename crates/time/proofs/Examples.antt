@@ -1,5 +1,6 @@
 -- The rules for the range (RULES 2.4) and for writing (RULES 9), computed: each example is below the words that it shows.
 -- Assumes nothing.
+use Rattle.std.specs.Prelude.{Err, Ok}
 use mathlib.Core.Path.{◌≡◌, refl}
 use mathlib.Core.Bool.{true, false}
 use mathlib.Core.List.{List, [], ◌∷◌}
@@ -17,7 +18,6 @@ use Rattle.time.specs.Header.{sign_byte, header_sign, whole_minutes, header_byte
 use Rattle.time.specs.Iso.{line_bytes, line_instant, line_written, shown, iso_bytes, iso_written}
 use Rattle.time.specs.Rows.{Row, writes, AllRight}
 use Rattle.time.specs.declared.Refusal.TheVariants.{Offset, Range, Room}
-use Rattle.time.specs.declared.Written.TheVariants.{Length, Refused}
 
 -- ---- the range
 -- "The range of seconds is -377705023201 to 253402207200. The range of a current time's offset is -93599 to 93599."
@@ -49,17 +49,17 @@ unfolding header_bytes signed_before signed decimal digits_up_to header_sign sig
 headers_right = (refl, (refl, (refl, (refl, (refl, (refl, (refl, tt)))))))
 
 -- RULES 11.2, "360000, which the header writer refuses by 7"
-too_wide : header_written (time_at (pos 5) (pos 360000)) (replicate 26 0) ≡ Refused Offset
+too_wide : header_written (time_at (pos 5) (pos 360000)) (replicate 26 0) ≡ Err Offset
 unfolding header_written
 too_wide = refl
 
 -- the least offset of 32 bits is too wide; its size does not fit 32 signed bits
-least_offset_too_wide : header_written (time_at (pos 5) (negsuc (2 ^ 31 - 1))) [] ≡ Refused Offset
+least_offset_too_wide : header_written (time_at (pos 5) (negsuc (2 ^ 31 - 1))) [] ≡ Err Offset
 unfolding header_written
 least_offset_too_wide = refl
 
 -- "the buffer is shorter than the bytes to be written": six bytes for `5 +0000`, which takes seven
-short_by_one : header_written (time_at (pos 5) (pos 0)) (replicate 6 0) ≡ Refused Room
+short_by_one : header_written (time_at (pos 5) (pos 0)) (replicate 6 0) ≡ Err Room
 unfolding header_written size_of signed decimal digits_up_to
 short_by_one = refl
 
@@ -89,28 +89,28 @@ unfolding iso_bytes shown cut_to_minutes line_bytes clock_of sign_byte whole_min
 lines_right = (refl, (refl, (refl, (refl, (refl, (refl, (refl, tt)))))))
 
 -- "Writers test in the order 7, 6, 8": the largest seconds at an offset of a day, with no room
-seven_first : iso_written (time_at (pos (2 ^ 63 - 1)) (pos 86400)) [] ≡ Refused Offset
+seven_first : iso_written (time_at (pos (2 ^ 63 - 1)) (pos 86400)) [] ≡ Err Offset
 unfolding iso_written shown cut_to_minutes line_written line_instant
 seven_first = refl
 
-six_next : iso_written (time_at (pos 253402207201) (pos 0)) [] ≡ Refused Range
+six_next : iso_written (time_at (pos 253402207201) (pos 0)) [] ≡ Err Range
 unfolding iso_written shown cut_to_minutes line_written line_instant seconds_in_range
 six_next = refl
 
 -- "a local year, at the cut offset, outside 0 to 9999": the second before 1 January 0000, and that midnight
-year_before_0 : iso_written (time_at (negsuc 62167219200) (pos 0)) (replicate 25 0) ≡ Refused Range
+year_before_0 : iso_written (time_at (negsuc 62167219200) (pos 0)) (replicate 25 0) ≡ Err Range
 unfolding iso_written shown cut_to_minutes line_written line_instant seconds_in_range clock_of date_of month_of year_of span_of month_length year_length first_day year_start total lengths leap
 year_before_0 = refl
 
-year_0 : iso_written (time_at (negsuc 62167219199) (pos 0)) (replicate 25 0) ≡ Length 25
+year_0 : iso_written (time_at (negsuc 62167219199) (pos 0)) (replicate 25 0) ≡ Ok 25
 unfolding iso_written shown cut_to_minutes line_written line_instant seconds_in_range clock_of date_of month_of year_of span_of month_length year_length first_day year_start total lengths leap
 year_0 = refl
 
 -- RULES 11.14: the offset is cut to 0 first, so half a minute does not leave year 0, nor reach it
-year_0_at_minus_30 : iso_written (time_at (negsuc 62167219199) (negsuc 29)) (replicate 25 0) ≡ Length 25
+year_0_at_minus_30 : iso_written (time_at (negsuc 62167219199) (negsuc 29)) (replicate 25 0) ≡ Ok 25
 unfolding iso_written shown cut_to_minutes line_written line_instant seconds_in_range clock_of date_of month_of year_of span_of month_length year_length first_day year_start total lengths leap
 year_0_at_minus_30 = refl
 
-year_before_0_at_30 : iso_written (time_at (negsuc 62167219229) (pos 30)) (replicate 25 0) ≡ Refused Range
+year_before_0_at_30 : iso_written (time_at (negsuc 62167219229) (pos 30)) (replicate 25 0) ≡ Err Range
 unfolding iso_written shown cut_to_minutes line_written line_instant seconds_in_range clock_of date_of month_of year_of span_of month_length year_length first_day year_start total lengths leap
 year_before_0_at_30 = refl

@@ -1,6 +1,7 @@
 -- The header as it is written, from its end to its front. In order: what the sign decides; the offset put in front of a
 -- place; `size_of` is the bytes written; the writer's three answers, each with the room that it leaves.
 -- Assumes nothing.
+use Rattle.std.specs.Prelude.{Err, Ok, Result}
 use mathlib.Core.Path.{◌≡◌, refl, sym, ap, ◌∙◌}
 use mathlib.Core.List.{List, ◌∷◌, ◌++◌}
 use Prim.Native.Nat.{ℕ, ◌-◌, ◌/◌, ◌≤◌, ◌<◌}
@@ -18,8 +19,7 @@ use Rattle.time.specs.Answers.{is_written}
 use Rattle.time.specs.Header.{sign_byte, header_sign, whole_minutes, offset_bytes, space, header_bytes, size_of, header_written}
 use Rattle.time.specs.declared.Time.{Time}
 use Rattle.time.specs.declared.Refusal.TheVariants.{Offset, Room}
-use Rattle.time.specs.declared.Written.{Written}
-use Rattle.time.specs.declared.Written.TheVariants.{Length, Refused}
+use Rattle.time.specs.declared.Refusal.{Refusal}
 
 -- ---- what the sign decides
 pub sign_byte_of_lt : (z : ℤ) → z <ℤ pos 0 → 45 ≡ sign_byte z
@@ -50,16 +50,16 @@ unfolding header_bytes size_of
 length-header_bytes x = length-signed_before x.seconds (space ∷ offset_bytes (header_sign x) (whole_minutes x.offset))
 
 -- ---- the three answers: r, with the room that it leaves
-abbrev pub Wrote : Written → List ℕ → Time → List ℕ → Type 0
+abbrev pub Wrote : Result ℕ Refusal → List ℕ → Time → List ℕ → Type 0
 Wrote r after x room = (r ≡ header_written x room) × (after ≡ room_after (is_written (header_written x room)) (header_bytes x) room)
 
 module _ (x : Time) (room : List ℕ) where
-  pub wrote_too_wide : 360000 ≤ nat_abs x.offset → Wrote (Refused Offset) room x room
+  pub wrote_too_wide : 360000 ≤ nat_abs x.offset → Wrote (Err Offset) room x room
   unfolding header_written
   wrote_too_wide h = let e = le-leb 360000 (nat_abs x.offset) h in (rw e, rw e)
 
   module _ (h : nat_abs x.offset < 360000) where
-    pub wrote_too_short : length room < size_of x.seconds → Wrote (Refused Room) room x room
+    pub wrote_too_short : length room < size_of x.seconds → Wrote (Err Room) room x room
     unfolding header_written
     wrote_too_short k =
         let e = lt-leb 360000 (nat_abs x.offset) h in
@@ -67,14 +67,14 @@ module _ (x : Time) (room : List ℕ) where
         (rw (e, d), rw (e, d))
 
     pub wrote_whole : (r : List ℕ) (n b m : ℕ) → n ≡ size_of x.seconds → n ≤ length room → b ≡ header_sign x → m ≡ nat_abs x.offset
-        → r ≡ signed_before x.seconds (space ∷ offset_bytes b (m / 60) ++ drop n room) → Wrote (Length n) r x room
+        → r ≡ signed_before x.seconds (space ∷ offset_bytes b (m / 60) ++ drop n room) → Wrote (Ok n) r x room
     unfolding header_written header_bytes whole_minutes
     wrote_whole r n b m i k p q e =
         let l : size_of x.seconds ≤ length room = omega arith in
         let w = lt-leb 360000 (nat_abs x.offset) h in
         let d = le-ltb (length room) (size_of x.seconds) l in
         let y : n ≡ length (header_bytes x) = i ∙ sym (length-header_bytes x) in (
-          rw (w, d) (ap Length i),
+          rw (w, d) (ap Ok i),
           rw (w, d)
               (e ∙ (λ j. signed_before x.seconds (space ∷ offset_bytes (p j) (q j / 60) ++ drop (y j) room))
               ∙ signed_before-app x.seconds (space ∷ offset_bytes (header_sign x) (nat_abs x.offset / 60)) (drop (length (header_bytes x)) room)),

@@ -1,6 +1,8 @@
 -- The ISO line. In order: which time has a line, and of which instant; the writer's answers, each with the room that it leaves; what
 -- the time of a line that was written is like.
 -- Assumes nothing.
+use Rattle.std.specs.Prelude.{Err, Ok, Result}
+use Rattle.std.specs.Option.{ok_or}
 use mathlib.Core.Path.{◌≡◌, refl, sym}
 use mathlib.Core.Bool.{true, ◌&&◌, ◌||◌, and-true}
 use mathlib.Core.List.{List, ◌++◌}
@@ -24,14 +26,8 @@ use Rattle.time.specs.Iso.{line_clock, clock_year, date_before, clock_before, of
 use Rattle.time.specs.declared.Time.{Time}
 use Rattle.time.specs.declared.Refusal.{Refusal}
 use Rattle.time.specs.declared.Refusal.TheVariants.{Offset, Range, Room}
-use Rattle.time.specs.declared.Written.{Written}
-use Rattle.time.specs.declared.Written.TheVariants.{Length, Refused}
 use Rattle.time.specs.declared.range.Instant.{Instant}
-use Rattle.time.specs.declared.range.Moved.{Moved}
-use Rattle.time.specs.declared.range.Moved.TheVariants.{In as Inside, Nothing}
 use Rattle.time.specs.declared.clock.Clock.{Clock}
-use Rattle.time.specs.declared.format.Line.{Line}
-use Rattle.time.specs.declared.format.Line.TheVariants.{At, Refused as NoLine}
 
 -- ---- which time has a line
 -- an offset is too wide if it is at most minus a day, or at least a day
@@ -41,7 +37,7 @@ wide_of_tests (negsuc n) =
     by_test (leb 86399 n) (λ e. rw e (sym (le-leb 86400 (suc n) (omega (arith, leb-true 86399 n e)))))
     (λ e. rw e (sym (lt-leb 86400 (suc n) (omega (arith, leb-false 86399 n e)))))
 
-pub line_instant_of_wide : (t : Time) → 86400 ≤ nat_abs t.offset → NoLine Offset ≡ line_instant t
+pub line_instant_of_wide : (t : Time) → 86400 ≤ nat_abs t.offset → Err Offset ≡ line_instant t
 unfolding line_instant
 line_instant_of_wide t h = rw (le-leb 86400 (nat_abs t.offset) h)
 
@@ -51,15 +47,11 @@ offset_in (pos n) h = record { low = parts-le _ _ (omega arith); high = parts-le
 offset_in (negsuc n) h = record { low = parts-le _ _ (omega arith); high = parts-le _ _ (omega arith) }
 
 -- so that the move to numbers from 0 depends on the seconds alone
-abbrev pub line_from : Moved → Line
-line_from (Inside i) = At i
-line_from Nothing = NoLine Range
-
 pub time_in_range_of_narrow : (t : Time) → nat_abs t.offset < 86400 → time_in_range t ≡ seconds_in_range t.seconds
 unfolding time_in_range offset_in_range
 time_in_range_of_narrow t h = rw (is_in_of_In (offset_in t.offset h)) (and-true (seconds_in_range t.seconds))
 
-pub line_instant_of_narrow : (t : Time) → nat_abs t.offset < 86400 → line_from (moved_of t) ≡ line_instant t
+pub line_instant_of_narrow : (t : Time) → nat_abs t.offset < 86400 → ok_or (moved_of t) Range ≡ line_instant t
 unfolding line_instant moved_of
 line_instant_of_narrow t h =
     by_test (seconds_in_range t.seconds)
@@ -71,7 +63,7 @@ pub record HasLine (t : Time) (i : Instant) : Type 0 where
   pub narrow : nat_abs t.offset < 86400
   pub instant : i ≡ instant_of t
 
-pub HasLine_of_At : (t : Time) (i : Instant) → line_instant t ≡ At i → HasLine t i
+pub HasLine_of_At : (t : Time) (i : Instant) → line_instant t ≡ Ok i → HasLine t i
 unfolding line_instant
 HasLine_of_At t i e =
     by_test (leb 86400 (nat_abs t.offset)) (λ y. absurd (clash Offset (rw y at e)))
@@ -79,49 +71,36 @@ HasLine_of_At t i e =
     (λ y. record { narrow = leb-false 86400 (nat_abs t.offset) n; instant = same (rw (n, y) at e) })
     (λ m. absurd (clash Range (rw (n, m) at e))))
   where
-    clash : (r : Refusal) → NoLine r ≡ At i → ⊥
+    clash : (r : Refusal) → Err r ≡ Ok i → ⊥
     clash r p = let z : ◌≡◌ {A = ℕ} 0 1 = cc in omega arith
 
-    same : At (instant_of t) ≡ At i → i ≡ instant_of t
+    same : ◌≡◌ {A = Result Instant Refusal} (Ok (instant_of t)) (Ok i) → i ≡ instant_of t
     same p = cc
 
 -- ---- the answers of the line's writer: r, with the room that it leaves; first those of a clock's line, at an offset
-abbrev WroteClock : Written → List ℕ → Clock → ℤ → List ℕ → Type 0
+abbrev WroteClock : Result ℕ Refusal → List ℕ → Clock → ℤ → List ℕ → Type 0
 WroteClock r after c o room = (r ≡ written_for c room) × (after ≡ room_after (is_written (written_for c room)) (clock_line c o) room)
 
-module _ (c : Clock) (o : ℤ) (room : List ℕ) where
-  pub wrote_clock-year : c.date.month < 120000 → WroteClock (Refused Range) room c o room
-  wrote_clock-year h =
-      let y = lt-leb 10000 (c.date.month / 12) (omega arith) in
-      (rw y, rw y)
-
-  module _ (h : 120000 ≤ c.date.month) (g : c.date.month < 240000) where
-    pub wrote_clock-short : length room < 25 → WroteClock (Refused Room) room c o room
-    wrote_clock-short l =
-        let y = le-leb 10000 (c.date.month / 12) (omega arith) in
-        let z = lt-ltb (c.date.month / 12) 20000 (omega arith) in
-        let s = lt-ltb (length room) 25 l in
-        (rw (y, z, s), rw (y, z, s))
-
-    pub wrote_clock-whole : (r₁ r₂ r₃ : List ℕ) → 25 ≤ length room → r₁ ≡ take 19 room ++ offset_before o (drop 25 room)
-        → r₂ ≡ take 10 r₁ ++ clock_before c (drop 19 r₁) → r₃ ≡ date_before c (drop 10 r₂) → WroteClock (Length 25) r₃ c o room
-    wrote_clock-whole r₁ r₂ r₃ l e₁ e₂ e₃ =
-        let y = le-leb 10000 (c.date.month / 12) (omega arith) in
-        let z = lt-ltb (c.date.month / 12) 20000 (omega arith) in
-        let s = le-ltb (length room) 25 l in
-        let two = put_put (clock_before c) room _ r₁ r₂ 10 10 19 e₁ e₂ refl (omega arith) (omega arith) in
-        let three = put_put (date_before c) room _ r₂ r₃ 0 0 10 two e₃ refl (omega arith) (omega arith) in
-        (rw (y, z, s), rw (y, z, s) three)
+pub wrote_clock-whole : (c : Clock) (o : ℤ) (room r₁ r₂ r₃ : List ℕ) → 120000 ≤ c.date.month → c.date.month < 240000 → 25 ≤ length room
+    → r₁ ≡ take 19 room ++ offset_before o (drop 25 room) → r₂ ≡ take 10 r₁ ++ clock_before c (drop 19 r₁) → r₃ ≡ date_before c (drop 10 r₂)
+    → r₃ ≡ room_after (is_written (written_for c room)) (clock_line c o) room
+wrote_clock-whole c o room r₁ r₂ r₃ h g l e₁ e₂ e₃ =
+    let y = le-leb 10000 (c.date.month / 12) (omega arith) in
+    let z = lt-ltb (c.date.month / 12) 20000 (omega arith) in
+    let s = le-ltb (length room) 25 l in
+    let two = put_put (clock_before c) room _ r₁ r₂ 10 10 19 e₁ e₂ refl (omega arith) (omega arith) in
+    let three = put_put (date_before c) room _ r₂ r₃ 0 0 10 two e₃ refl (omega arith) (omega arith) in
+    rw (y, z, s) three
 
 -- and of a time's
-abbrev WroteLine : Written → List ℕ → Time → List ℕ → Type 0
+abbrev WroteLine : Result ℕ Refusal → List ℕ → Time → List ℕ → Type 0
 WroteLine r after t room = (r ≡ line_written t room) × (after ≡ room_after (is_written (line_written t room)) (line_bytes t) room)
 
-pub wrote_line-not : (t : Time) (r : Refusal) (room : List ℕ) → line_instant t ≡ NoLine r → WroteLine (Refused r) room t room
+pub wrote_line-not : (t : Time) (r : Refusal) (room : List ℕ) → line_instant t ≡ Err r → WroteLine (Err r) room t room
 unfolding line_written
 wrote_line-not t r room e = (rw e, rw e)
 
-pub wrote_line-At : (t : Time) (i : Instant) (o : ℤ) (room : List ℕ) (r : Written) (after : List ℕ) → line_instant t ≡ At i → o ≡ t.offset
+pub wrote_line-At : (t : Time) (i : Instant) (o : ℤ) (room : List ℕ) (r : Result ℕ Refusal) (after : List ℕ) → line_instant t ≡ Ok i → o ≡ t.offset
     → WroteClock r after (clock_of i) o room → WroteLine r after t room
 unfolding line_written line_bytes
 wrote_line-At t i o room r after e p w =
@@ -136,7 +115,7 @@ pub record WasWritten (t : Time) (n : ℕ) : Type 0 where
   pub year_high : (line_clock t).date.month < 240000
   pub length : n ≡ 25
 
-pub was_written : (t : Time) (room : List ℕ) (n : ℕ) → line_written t room ≡ Length n → WasWritten t n
+pub was_written : (t : Time) (room : List ℕ) (n : ℕ) → line_written t room ≡ Ok n → WasWritten t n
 unfolding line_written line_instant
 was_written t room n e =
     let c : Clock = line_clock t in
@@ -152,8 +131,8 @@ was_written t room n e =
     (λ m. absurd (clash Range (rw (a, b, m) at e))))
     (λ m. absurd (clash Range (rw (a, m) at e))))
   where
-    clash : (r : Refusal) → Refused r ≡ Length n → ⊥
+    clash : (r : Refusal) → Err r ≡ Ok n → ⊥
     clash r p = let z : ◌≡◌ {A = ℕ} 0 1 = cc in omega arith
 
-    same : Length 25 ≡ Length n → n ≡ 25
+    same : ◌≡◌ {A = Result ℕ Refusal} (Ok 25) (Ok n) → n ≡ 25
     same p = cc

@@ -1,10 +1,9 @@
--- Laws. In order: the range, and times as numbers from 0; the header as it is written; the buffer for it; offsets cut to whole minutes; the
+-- Laws. In order: the range, and times as numbers from 0; the header as it is written; offsets cut to whole minutes; the
 -- ISO line; which times it refuses; what a caller may rely on; answers as they were before there was an 11; tables of examples joined;
 -- worked examples.
 -- Assumes nothing.
 pub mod Ranges
 pub mod Headers
-pub mod Bufs
 pub mod Minutes
 pub mod Isos
 pub mod Refusals

@@ -1,6 +1,7 @@
 -- The range, in signed numbers and in numbers from 0. In order: seconds from 0 are in range exactly between two numbers; an instant as
 -- an answer; the move to numbers from 0; a time in range moved so and back is itself, but for its mark; its local clock.
 -- Assumes nothing.
+use Rattle.std.specs.Prelude.{Err, None, Ok, Some}
 use mathlib.Core.Path.{◌≡◌, sym, ap, ◌∙◌}
 use mathlib.Core.Bool.{Bool, true, false, ◌&&◌}
 use Prim.Native.Nat.{ℕ, ◌-◌, ◌≤◌}
@@ -18,9 +19,7 @@ use Rattle.time.specs.Clock.{local_of}
 use Rattle.time.specs.Range.{least_seconds, most_seconds, seconds_in_range, least_offset, most_offset, offset_in_range, time_in_range, since1970, time_of, instant_of, moved_of, answer_at, InRange}
 use Rattle.time.specs.declared.Time.{Time}
 use Rattle.time.specs.declared.Refusal.TheVariants.{Range}
-use Rattle.time.specs.declared.Answer.TheVariants.{Time as At, Refused}
 use Rattle.time.specs.declared.range.Instant.{Instant}
-use Rattle.time.specs.declared.range.Moved.TheVariants.{In as Inside, Nothing}
 
 -- seconds from 0 are in range from 31715999 to 631138946400
 pub seconds_in_range-since1970 : (n : ℕ) → seconds_in_range (since1970 n) ≡ (leb 31715999 n && leb n 631138946400)
@@ -61,15 +60,15 @@ module _ (i : Instant) where
   unfolding time_in_range
   time_in_range-time_of e = rw (e, offset_in_range-sub i.offset)
 
-  pub answer_at_of_in : time_in_range (time_of i) ≡ true → answer_at i ≡ At (time_of i)
+  pub answer_at_of_in : time_in_range (time_of i) ≡ true → answer_at i ≡ Ok (time_of i)
   unfolding answer_at
   answer_at_of_in e = rw e
 
-  pub answer_at_of_out : time_in_range (time_of i) ≡ false → answer_at i ≡ Refused Range
+  pub answer_at_of_out : time_in_range (time_of i) ≡ false → answer_at i ≡ Err Range
   unfolding answer_at
   answer_at_of_out e = rw e
 
-  pub answer_at_of_InRange : InRange i → answer_at i ≡ At (time_of i)
+  pub answer_at_of_InRange : InRange i → answer_at i ≡ Ok (time_of i)
   answer_at_of_InRange p =
       answer_at_of_in
       (sym (time_in_range-time_of (sym (seconds_in_range-since1970 i.seconds)))
@@ -94,11 +93,11 @@ module _ (t : Time) {p q : Bool} (e : p ≡ seconds_in_range t.seconds) (f : q �
   unfolding offset_in_range
   offset_of_test h = In_of_is_in least_offset most_offset t.offset (sym f ∙ (both p q h).1)
 
-  pub moved_of_in : (p && q) ≡ true → moved_of t ≡ Inside (instant_of t)
+  pub moved_of_in : (p && q) ≡ true → moved_of t ≡ Some (instant_of t)
   unfolding moved_of time_in_range
   moved_of_in h = rw (← e, ← f, h)
 
-  pub moved_of-out : (p && q) ≡ false → moved_of t ≡ Nothing
+  pub moved_of-out : (p && q) ≡ false → moved_of t ≡ None
   unfolding moved_of time_in_range
   moved_of-out h = rw (← e, ← f, h)
 

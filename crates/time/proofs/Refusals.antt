@@ -2,6 +2,7 @@
 -- 7 and 6 exactly on these times (`iso_refused_by_7`, `iso_refused_by_6`); year 0 begins at one second (`shown_year_in_seconds`); only
 -- near it is a time refused, or written, where its line at the full offset would not be (`refusals_move_only_near_year_0`).
 -- Assumes nothing.
+use Rattle.std.specs.Prelude.{Err}
 use mathlib.Core.Path.{◌≡◌, refl, sym, ap, ◌∙◌}
 use mathlib.Core.Logic.{◌↔◌, ◌⊎◌, inl, inr, ⊎_elim}
 use mathlib.Core.Bool.{Bool, true, false, ◌&&◌, and-true, false≢true}
@@ -31,7 +32,6 @@ use Rattle.time.specs.Range.{least_seconds, most_seconds, seconds_in_range, inst
 use Rattle.time.specs.Theorems.{line_year, shown_year, year_zero, answer_by}
 use Rattle.time.specs.declared.Time.{Time}
 use Rattle.time.specs.declared.Refusal.TheVariants.{Offset, Range}
-use Rattle.time.specs.declared.Written.TheVariants.{Refused}
 use Rattle.time.proofs.Isos.{time_in_range_of_narrow}
 use Rattle.time.proofs.Minutes.{up_cut, dn_cut, nat_abs-cut}
 use Rattle.time.proofs.Ranges.{local_of-instant_of}
@@ -104,20 +104,20 @@ iso_answer t room =
     ∙ ap (λ (wide : Bool). answer_by wide (seconds_in_range t.seconds && is_in (pos 0) (pos 9999) (shown_year t)) (ltb (length room) 25)) (wide_of_cut t.offset)
 
 -- ---- which times are refused by 7 and by 6
-by_7 : (wide good short : Bool) → (answer_by wide good short ≡ Refused Offset) ↔ (wide ≡ true)
+by_7 : (wide good short : Bool) → (answer_by wide good short ≡ Err Offset) ↔ (wide ≡ true)
 by_7 true good short = ((λ e. refl), (λ e. refl))
 by_7 false true true = ((λ e. absurd (omega (arith, ap written_number e))), (λ e. absurd (false≢true e)))
 by_7 false true false = ((λ e. absurd (omega (arith, ap written_number e))), (λ e. absurd (false≢true e)))
 by_7 false false short = ((λ e. absurd (omega (arith, ap written_number e))), (λ e. absurd (false≢true e)))
 
-by_6 : (wide a b short : Bool) → (answer_by wide (a && b) short ≡ Refused Range) ↔ ((wide ≡ false) × ((a ≡ false) ⊎ (b ≡ false)))
+by_6 : (wide a b short : Bool) → (answer_by wide (a && b) short ≡ Err Range) ↔ ((wide ≡ false) × ((a ≡ false) ⊎ (b ≡ false)))
 by_6 true a b short = ((λ e. absurd (omega (arith, ap written_number e))), (λ p. absurd (false≢true (sym p.0))))
 by_6 false false b short = ((λ e. (refl, inl refl)), (λ p. refl))
 by_6 false true false short = ((λ e. (refl, inr refl)), (λ p. refl))
 by_6 false true true true = ((λ e. absurd (omega (arith, ap written_number e))), (λ p. absurd (⊎_elim (λ e. false≢true (sym e)) (λ e. false≢true (sym e)) p.1)))
 by_6 false true true false = ((λ e. absurd (omega (arith, ap written_number e))), (λ p. absurd (⊎_elim (λ e. false≢true (sym e)) (λ e. false≢true (sym e)) p.1)))
 
-pub iso_refused_by_7 : (t : Time) (room : List ℕ) → (iso_written t room ≡ Refused Offset) ↔ (86400 ≤ nat_abs t.offset)
+pub iso_refused_by_7 : (t : Time) (room : List ℕ) → (iso_written t room ≡ Err Offset) ↔ (86400 ≤ nat_abs t.offset)
 iso_refused_by_7 t room =
     let n : ℕ = nat_abs t.offset in
     let q = by_7 (leb 86400 n) (seconds_in_range t.seconds && is_in (pos 0) (pos 9999) (shown_year t)) (ltb (length room) 25) in (
@@ -127,7 +127,7 @@ iso_refused_by_7 t room =
 
 -- if it is not 7: the seconds are out of range, or the year at the cut offset is outside 0 to 9999
 pub iso_refused_by_6 : (t : Time) (room : List ℕ)
-    → (iso_written t room ≡ Refused Range)
+    → (iso_written t room ≡ Err Range)
     ↔ ((nat_abs t.offset < 86400) × ((seconds_in_range t.seconds ≡ false) ⊎ (is_in (pos 0) (pos 9999) (shown_year t) ≡ false)))
 iso_refused_by_6 t room =
     let n : ℕ = nat_abs t.offset in

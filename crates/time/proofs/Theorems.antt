@@ -4,6 +4,7 @@
 -- can carry; an ISO line is 25 bytes of one shape, and the front of the room holds them once it is written; its offset is never `-00:00`; the
 -- line of the time that it shows is the same line.
 -- Assumes nothing.
+use Rattle.std.specs.Prelude.{Err, Ok, Result}
 use mathlib.Core.Path.{◌≡◌, refl, sym, ap, ◌∙◌}
 use mathlib.Core.Bool.{true, false, and-false}
 use mathlib.Core.List.{List}
@@ -37,8 +38,6 @@ use Rattle.time.specs.Theorems.{HasHeader, is_like}
 use Rattle.time.specs.declared.Time.{Time}
 use Rattle.time.specs.declared.Refusal.{Refusal}
 use Rattle.time.specs.declared.Refusal.TheVariants.{Offset, Room}
-use Rattle.time.specs.declared.Written.{Written}
-use Rattle.time.specs.declared.Written.TheVariants.{Length, Refused}
 use Rattle.time.specs.declared.range.Instant.{Instant}
 use Rattle.time.proofs.Headers.{length-header_bytes}
 use Rattle.time.proofs.Isos.{WasWritten, was_written}
@@ -46,14 +45,14 @@ use Rattle.time.proofs.Minutes.{nat_abs-cut, cut_of_whole}
 
 -- ---- the header
 -- wherever a header is written, its length is `size` and that of the bytes
-pub size_is_the_bytes_written : (t : Time) (room : List ℕ) (n : ℕ) → header_written t room ≡ Length n → (n ≡ size_of t.seconds) × (n ≡ length (header_bytes t))
+pub size_is_the_bytes_written : (t : Time) (room : List ℕ) (n : ℕ) → header_written t room ≡ Ok n → (n ≡ size_of t.seconds) × (n ≡ length (header_bytes t))
 unfolding header_written
 size_is_the_bytes_written t room n e = (size, size ∙ sym (length-header_bytes t))
   where
-    same : Length (size_of t.seconds) ≡ Length n → n ≡ size_of t.seconds
+    same : ◌≡◌ {A = Result ℕ Refusal} (Ok (size_of t.seconds)) (Ok n) → n ≡ size_of t.seconds
     same p = cc
 
-    clash : (r : Refusal) → Refused r ≡ Length n → n ≡ size_of t.seconds
+    clash : (r : Refusal) → Err r ≡ Ok n → n ≡ size_of t.seconds
     clash r p = let z : ◌≡◌ {A = ℕ} 0 1 = cc in absurd (omega arith)
 
     size : n ≡ size_of t.seconds
@@ -72,19 +71,19 @@ unfolding size_of signed decimal digits_up_to
 size_of_the_least = refl
 
 -- a room of `size` bytes is enough: what is refused there is an offset too wide
-pub header_written_if_it_fits : (t : Time) (room : List ℕ) → nat_abs t.offset < 360000 → size_of t.seconds ≤ length room → header_written t room ≡ Length (size_of t.seconds)
+pub header_written_if_it_fits : (t : Time) (room : List ℕ) → nat_abs t.offset < 360000 → size_of t.seconds ≤ length room → header_written t room ≡ Ok (size_of t.seconds)
 unfolding header_written
 header_written_if_it_fits t room h k = rw (lt-leb 360000 (nat_abs t.offset) h, le-ltb (length room) (size_of t.seconds) k)
 
 -- so 26 bytes are enough for every header
-pub room_for_every_header : (t : Time) (room : List ℕ) → SFits w64 t.seconds → length room ≡ 26 → nat_abs t.offset < 360000 → header_written t room ≡ Length (size_of t.seconds)
+pub room_for_every_header : (t : Time) (room : List ℕ) → SFits w64 t.seconds → length room ≡ 26 → nat_abs t.offset < 360000 → header_written t room ≡ Ok (size_of t.seconds)
 room_for_every_header t room f l h = header_written_if_it_fits t room h (omega (arith, size_at_most_26 t.seconds f))
 
 -- what a writer leaves at the front of a room: the bytes that it had to write
-take_of_written : (w : Written) (n : ℕ) (b room : List ℕ) → w ≡ Length n → n ≡ length b → take n (room_after (is_written w) b room) ≡ b
+take_of_written : (w : Result ℕ Refusal) (n : ℕ) (b room : List ℕ) → w ≡ Ok n → n ≡ length b → take n (room_after (is_written w) b room) ≡ b
 take_of_written w n b room e l = rw (e, l) (take-append_seam b (drop (length b) room))
 
-pub header_in_room : (t : Time) (room : List ℕ) (n : ℕ) → header_written t room ≡ Length n
+pub header_in_room : (t : Time) (room : List ℕ) (n : ℕ) → header_written t room ≡ Ok n
     → take n (room_after (is_written (header_written t room)) (header_bytes t) room) ≡ header_bytes t
 header_in_room t room n e = take_of_written (header_written t room) n (header_bytes t) room e (size_is_the_bytes_written t room n e).1
 
@@ -129,7 +128,7 @@ unfolding iso_bytes line_bytes
 iso_line_is_25_bytes t = refl
 
 -- and what the writer leaves at the front of a room is the line
-pub line_in_room : (t : Time) (room : List ℕ) (n : ℕ) → iso_written t room ≡ Length n
+pub line_in_room : (t : Time) (room : List ℕ) (n : ℕ) → iso_written t room ≡ Ok n
     → take n (room_after (is_written (iso_written t room)) (iso_bytes t) room) ≡ iso_bytes t
 unfolding iso_written
 line_in_room t room n e = take_of_written (iso_written t room) n (iso_bytes t) room e ((was_written (shown t) room n e).length ∙ sym (iso_line_is_25_bytes t))
@@ -180,7 +179,7 @@ line_has_its_shape t w =
       ones (m % 60),
     )
 
-pub iso_line_has_its_shape : (t : Time) (room : List ℕ) (n : ℕ) → iso_written t room ≡ Length n → is_like (bytes "0000-00-00T00:00:00+00:00") (iso_bytes t) ≡ true
+pub iso_line_has_its_shape : (t : Time) (room : List ℕ) (n : ℕ) → iso_written t room ≡ Ok n → is_like (bytes "0000-00-00T00:00:00+00:00") (iso_bytes t) ≡ true
 unfolding iso_bytes iso_written
 iso_line_has_its_shape t room n e = line_has_its_shape (shown t) (was_written (shown t) room n e)
 

@@ -1,14 +1,13 @@
 -- Headers as they are written (RULES 9.1 to 9.3): the bytes of a header, their number, and when one is refused (RULES 2.5).
 -- Assumes nothing.
-use Rattle.std.specs.Prelude.{ℕ, suc, ◌+◌, ◌-◌, ◌*◌, ◌/◌, ◌%◌, ◌^◌, Bool, cond, ◌&&◌, List, [], ◌∷◌, leb, ltb, ℤ, pos, negsuc, neg_ℤ, nat_abs, length}
+use Rattle.std.specs.Prelude.{ℕ, suc, ◌+◌, ◌-◌, ◌*◌, ◌/◌, ◌%◌, ◌^◌, Bool, cond, ◌&&◌, List, [], ◌∷◌, leb, ltb, ℤ, pos, negsuc, neg_ℤ, nat_abs, length, Err, Ok, Result}
 use Prim.Native.Char.{code}
 use Rattle.ints.specs.Equal.{eq_z}
 use Rattle.text.specs.Decimal.{signed, signed_before, two_before}
 use Rattle.time.specs.Answers.{time_at}
 use Rattle.time.specs.declared.Time.{Time}
 use Rattle.time.specs.declared.Refusal.TheVariants.{Offset, Room}
-use Rattle.time.specs.declared.Written.{Written}
-use Rattle.time.specs.declared.Written.TheVariants.{Length, Refused}
+use Rattle.time.specs.declared.Refusal.{Refusal}
 
 -- `-` for a negative offset and otherwise `+`
 unfoldable pub sign_byte : ℤ → ℕ
@@ -42,10 +41,10 @@ unfoldable pub size_of : ℤ → ℕ
 size_of z = length (signed z) + 6
 
 -- refused by 7 if the size of the offset is 360000 or more, then by 8 if the room is too short
-unfoldable pub header_written : Time → List ℕ → Written
+unfoldable pub header_written : Time → List ℕ → Result ℕ Refusal
 header_written t room =
-    cond (leb 360000 (nat_abs t.offset)) (Refused Offset)
-    (cond (ltb (length room) (size_of t.seconds)) (Refused Room) (Length (size_of t.seconds)))
+    cond (leb 360000 (nat_abs t.offset)) (Err Offset)
+    (cond (ltb (length room) (size_of t.seconds)) (Err Room) (Ok (size_of t.seconds)))
 
 -- the smallest and the largest time that a header can carry
 abbrev pub smallest_time : Time

@@ -1,7 +1,7 @@
 -- ISO lines as they are written (RULES 9.4): `YYYY-MM-DDTHH:MM:SS+HH:MM`, 25 bytes. In two layers: the line of a time as it is, then
 -- the time that a line shows.
 -- Assumes nothing.
-use Rattle.std.specs.Prelude.{ℕ, ◌+◌, ◌-◌, ◌/◌, ◌%◌, cond, ◌&&◌, List, [], ◌∷◌, leb, ltb, ℤ, nat_abs, length}
+use Rattle.std.specs.Prelude.{ℕ, ◌+◌, ◌-◌, ◌/◌, ◌%◌, cond, ◌&&◌, List, [], ◌∷◌, leb, ltb, ℤ, nat_abs, length, Err, Ok, Result}
 use Prim.Native.Char.{code}
 use Rattle.text.specs.Decimal.{two_before}
 use Rattle.time.specs.Answers.{time_at}
@@ -10,11 +10,9 @@ use Rattle.time.specs.Header.{sign_byte, whole_minutes, cut_to_minutes}
 use Rattle.time.specs.Range.{seconds_in_range, instant_of}
 use Rattle.time.specs.declared.Time.{Time}
 use Rattle.time.specs.declared.Refusal.TheVariants.{Offset, Range, Room}
-use Rattle.time.specs.declared.Written.{Written}
-use Rattle.time.specs.declared.Written.TheVariants.{Length, Refused}
 use Rattle.time.specs.declared.clock.Clock.{Clock}
-use Rattle.time.specs.declared.format.Line.{Line}
-use Rattle.time.specs.declared.format.Line.TheVariants.{At, Refused as NoLine}
+use Rattle.time.specs.declared.range.Instant.{Instant}
+use Rattle.time.specs.declared.Refusal.{Refusal}
 
 -- ---- the line of a time as it is
 abbrev pub line_clock : Time → Clock
@@ -52,21 +50,21 @@ unfoldable pub line_bytes : Time → List ℕ
 line_bytes t = clock_line (line_clock t) t.offset
 
 -- refused by 7 if the size of the offset is 86400 or more, then by 6 if the seconds are out of range; otherwise the instant
-unfoldable pub line_instant : Time → Line
+unfoldable pub line_instant : Time → Result Instant Refusal
 line_instant t =
-    cond (leb 86400 (nat_abs t.offset)) (NoLine Offset)
-    (cond (seconds_in_range t.seconds) (At (instant_of t)) (NoLine Range))
+    cond (leb 86400 (nat_abs t.offset)) (Err Offset)
+    (cond (seconds_in_range t.seconds) (Ok (instant_of t)) (Err Range))
 
 -- refused by 6 too if the local year is outside 0 to 9999, then by 8 if the room is too short
-abbrev pub written_for : Clock → List ℕ → Written
+abbrev pub written_for : Clock → List ℕ → Result ℕ Refusal
 written_for c room =
-    cond (leb 10000 (clock_year c) && ltb (clock_year c) 20000) (cond (ltb (length room) 25) (Refused Room) (Length 25)) (Refused Range)
+    cond (leb 10000 (clock_year c) && ltb (clock_year c) 20000) (cond (ltb (length room) 25) (Err Room) (Ok 25)) (Err Range)
 
-abbrev pub written : Line → List ℕ → Written
-written (At i) room = written_for (clock_of i) room
-written (NoLine r) room = Refused r
+abbrev pub written : Result Instant Refusal → List ℕ → Result ℕ Refusal
+written (Ok i) room = written_for (clock_of i) room
+written (Err r) room = Err r
 
-unfoldable pub line_written : Time → List ℕ → Written
+unfoldable pub line_written : Time → List ℕ → Result ℕ Refusal
 line_written t room = written (line_instant t) room
 
 -- ---- the ISO line of a time
@@ -77,5 +75,5 @@ shown t = time_at t.seconds (cut_to_minutes t.offset)
 unfoldable pub iso_bytes : Time → List ℕ
 iso_bytes t = line_bytes (shown t)
 
-unfoldable pub iso_written : Time → List ℕ → Written
+unfoldable pub iso_written : Time → List ℕ → Result ℕ Refusal
 iso_written t room = line_written (shown t) room

@@ -1,16 +1,13 @@
 -- The range of times (RULES 2.4). Where the calendar works on them, seconds and offsets are counted from 0: second 0 is the first of
 -- 1 January of year -10000, so that 1970 begins at second 377,736,739,200; offsets are counted from -93600, so that UTC is 93,600.
 -- Assumes nothing.
-use Rattle.std.specs.Prelude.{ℕ, ◌≤◌, Bool, cond, ◌&&◌, ℤ, pos, negsuc, nat_abs, ◌+ℤ◌, ◌-ℤ◌}
+use Rattle.std.specs.Prelude.{ℕ, ◌≤◌, Bool, cond, ◌&&◌, ℤ, pos, negsuc, nat_abs, ◌+ℤ◌, ◌-ℤ◌, Err, None, Ok, Option, Result, Some}
 use Rattle.ints.specs.Range.{is_in}
 use Rattle.time.specs.Answers.{time_at}
 use Rattle.time.specs.declared.Time.{Time}
 use Rattle.time.specs.declared.Refusal.TheVariants.{Range}
-use Rattle.time.specs.declared.Answer.{Answer}
-use Rattle.time.specs.declared.Answer.TheVariants.{Time as At, Refused}
 use Rattle.time.specs.declared.range.Instant.{Instant}
-use Rattle.time.specs.declared.range.Moved.{Moved}
-use Rattle.time.specs.declared.range.Moved.TheVariants.{In, Nothing}
+use Rattle.time.specs.declared.Refusal.{Refusal}
 
 -- seconds -377705023201 to 253402207200
 abbrev pub least_seconds : ℤ
@@ -46,12 +43,12 @@ time_of i = time_at (since1970 i.seconds) (pos i.offset -ℤ pos 93600)
 abbrev pub instant_of : Time → Instant
 instant_of t = record { seconds = nat_abs (t.seconds +ℤ pos 377736739200); offset = nat_abs (t.offset +ℤ pos 93600) }
 
-unfoldable pub moved_of : Time → Moved
-moved_of t = cond (time_in_range t) (In (instant_of t)) Nothing
+unfoldable pub moved_of : Time → Option Instant
+moved_of t = cond (time_in_range t) (Some (instant_of t)) None
 
 -- an instant as an answer: refused by 6 if its time is out of range
-unfoldable pub answer_at : Instant → Answer
-answer_at i = cond (time_in_range (time_of i)) (At (time_of i)) (Refused Range)
+unfoldable pub answer_at : Instant → Result Time Refusal
+answer_at i = cond (time_in_range (time_of i)) (Ok (time_of i)) (Err Range)
 
 -- the range in these numbers
 pub record InRange (i : Instant) : Type 0 where
@@ -60,6 +57,6 @@ pub record InRange (i : Instant) : Type 0 where
   pub west : 1 ≤ i.offset
   pub east : i.offset ≤ 187199
 
-abbrev pub MovedInRange : Moved → Type 0
-MovedInRange (In i) = InRange i
-MovedInRange Nothing = Unit {0}
+abbrev pub MovedInRange : Option Instant → Type 0
+MovedInRange (Some i) = InRange i
+MovedInRange None = Unit {0}

@@ -1,11 +1,12 @@
 -- Worked examples as tables. A row holds what a definition gives and what the rules state for it: the answer of a reader, or the bytes
 -- of a writer.
 -- Assumes nothing.
-use Rattle.std.specs.Prelude.{ℕ, ◌≡◌, List, [], ◌∷◌}
-use Rattle.time.specs.declared.Answer.{Answer}
+use Rattle.std.specs.Prelude.{ℕ, ◌≡◌, List, [], ◌∷◌, Result}
+use Rattle.time.specs.declared.Refusal.{Refusal}
+use Rattle.time.specs.declared.Time.{Time}
 
 pub data Row : Type 0 where
-  reads : Answer → Answer → Row
+  reads : Result Time Refusal → Result Time Refusal → Row
   writes : List ℕ → List ℕ → Row
 
 -- what is given is what is stated

@@ -3,17 +3,14 @@
 -- cites these.
 -- Assumes nothing.
 use Prim.Native.Char.{code}
-use Rattle.std.specs.Prelude.{ℕ, ◌<◌, Bool, true, false, cond, ◌&&◌, ◌≡◌, List, [], ◌∷◌, ◌⊎◌, eqb, ℤ, pos, negsuc, nat_abs, ◌-ℤ◌}
+use Rattle.std.specs.Prelude.{ℕ, ◌<◌, Bool, true, false, cond, ◌&&◌, ◌≡◌, List, [], ◌∷◌, ◌⊎◌, eqb, ℤ, pos, negsuc, nat_abs, ◌-ℤ◌, Err, Ok, Result}
 use Rattle.std.specs.Int.{w64}
 use Rattle.std.proofs.Common.{SFits}
 use Rattle.text.specs.Bytes.{is_digit, is_sign}
 use Rattle.time.specs.Iso.{line_clock, clock_year, shown}
 use Rattle.time.specs.declared.Time.{Time}
 use Rattle.time.specs.declared.Refusal.TheVariants.{Form, Offset, Range, Room, TooLarge}
-use Rattle.time.specs.declared.Answer.{Answer}
-use Rattle.time.specs.declared.Answer.TheVariants.{Refused as NotRead}
-use Rattle.time.specs.declared.Written.{Written}
-use Rattle.time.specs.declared.Written.TheVariants.{Length, Refused}
+use Rattle.time.specs.declared.Refusal.{Refusal}
 
 -- a time that a header can carry: seconds that 64 bits hold, an offset under 100 hours
 pub record HasHeader (t : Time) : Type 0 where
@@ -44,9 +41,9 @@ year_zero = negsuc 62167219199
 
 -- the answer of the ISO writer, from three tests in the order 7, 6, 8: the offset is too wide; seconds and year are as they should be; the
 -- room is too short
-abbrev pub answer_by : Bool → Bool → Bool → Written
-answer_by wide good short = cond wide (Refused Offset) (cond good (cond short (Refused Room) (Length 25)) (Refused Range))
+abbrev pub answer_by : Bool → Bool → Bool → Result ℕ Refusal
+answer_by wide good short = cond wide (Err Offset) (cond good (cond short (Err Room) (Ok 25)) (Err Range))
 
 -- an answer that is as it was before there was an 11; or it was 2, and is 11 now
-abbrev pub AsBefore : Answer → Answer → Type 0
-AsBefore was now = (now ≡ was) ⊎ ((was ≡ NotRead Form) × (now ≡ NotRead TooLarge))
+abbrev pub AsBefore : Result Time Refusal → Result Time Refusal → Type 0
+AsBefore was now = (now ≡ was) ⊎ ((was ≡ Err Form) × (now ≡ Err TooLarge))

@@ -1,18 +1,17 @@
 // Writes the ISO line of a time, `2008-02-14T20:30:45-05:00`, from its end to its front (RULES 9.4).
-ghost use Rattle.std.specs.Prelude.{◌≡◌, ◌++◌, ◌+◌, ◌-◌, ◌≤◌, ◌<◌, ◌/◌, ◌%◌, length, take, drop, nat_abs};
+// The place and the room stay two parameters, as in `text::decimal`.
+ghost use Rattle.std.specs.Prelude.{◌≡◌, ◌++◌, ◌+◌, ◌-◌, ◌≤◌, ◌<◌, ◌/◌, ◌%◌, length, take, drop, nat_abs, IfOk};
 ghost use Rattle.text.specs.Room.{room_after};
-ghost use Rattle.calendar.specs.Table.{IsMonths};
 ghost use Rattle.time.specs.Answers.{is_written};
 ghost use Rattle.time.specs.Clock.{clock_of};
 ghost use Rattle.time.specs.Header.{cut_to_minutes};
 ghost use Rattle.time.specs.Iso.{field_before, date_before, clock_before, offset_before, clock_line, line_instant, written_for};
-ghost use Rattle.time.specs.Held.{LineInRange};
 ghost use Rattle.time.specs.Range.{InRange};
 
 use crate::clock::Clock;
-use crate::range::{Instant, Moved};
-use crate::{Refusal, Time, Written, range, write};
-use calendar::SECONDS_PER_DAY;
+use crate::range::Instant;
+use crate::{Refusal, Time, range, write};
+use calendar::{MonthTable, SECONDS_PER_DAY};
 use text::decimal;
 
 // The bytes of a line.
@@ -26,13 +25,6 @@ const YEAR_0: u64 = 10000;
 
 const MONTH_OF_YEAR_0: u64 = 120000;
 
-// The instant whose local clock a line shows, or why the time has no line.
-#[derive(Clone, Copy)]
-pub enum Line {
-    At(Instant),
-    Refused(Refusal),
-}
-
 // An offset cut toward zero to whole minutes: the one that a line shows.
 pub fn cut_to_minutes(offset: i32) -> i32
     ensures { result ≡ cut_to_minutes offset }
@@ -41,46 +33,43 @@ pub fn cut_to_minutes(offset: i32) -> i32
 }
 
 // The instant of a time's line, unless the time is refused.
-pub fn line_of(t: Time) -> Line
+pub fn line_of(t: Time) -> Result<Instant, Refusal>
     ensures is { result ≡ line_instant t }
-    ensures range { LineInRange result }
+    ensures range { IfOk result InRange }
 {
-    let offset = t.offset;
-    if (offset <= -OFFSET_LIMIT) | (OFFSET_LIMIT <= offset) {
-        return Line::Refused(Refusal::Offset);
+    if (t.offset <= -OFFSET_LIMIT) | (OFFSET_LIMIT <= t.offset) {
+        return Err(Refusal::Offset);
     }
-    let moved = range::instant_of(t);
-    let Moved::In(i) = moved else {
-        return Line::Refused(Refusal::Range);
-    };
-    Line::At(i)
+    range::instant_of(t).ok_or(Refusal::Range)
 }
 
 // Writes the local clock of an instant, and this offset behind it.
-pub fn write_instant(months: &[u32], i: Instant, offset: i32, room: &mut [u8]) -> Written
-    requires table { IsMonths months.now }
+pub fn write_instant(
+    months: MonthTable,
+    i: Instant,
+    offset: i32,
+    room: &mut [u8],
+) -> Result<usize, Refusal>
     requires range { InRange i }
     requires offset { nat_abs offset < 86400 }
     ensures value { result ≡ written_for (clock_of i) room.old }
     ensures room_after { room.new ≡ room_after (is_written (written_for (clock_of i) room.old)) (clock_line (clock_of i) offset) room.old }
 {
     let c = local_clock(months, i);
-    let month = c.date.month;
-    if month < MONTH_OF_YEAR_0 {
-        return Written::Refused(Refusal::Range);
+    if c.date.month < MONTH_OF_YEAR_0 {
+        return Err(Refusal::Range);
     }
     if room.len() < LINE_LENGTH {
-        return Written::Refused(Refusal::Room);
+        return Err(Refusal::Room);
     }
     put_offset(offset, room);
     put_clock(c, room);
     put_date(c, room);
-    Written::Length(LINE_LENGTH)
+    Ok(LINE_LENGTH)
 }
 
 // The local clock of an instant.
-fn local_clock(months: &[u32], i: Instant) -> Clock
-    requires table { IsMonths months.now }
+fn local_clock(months: MonthTable, i: Instant) -> Clock
     requires range { InRange i }
     ensures is { result ≡ clock_of i }
     ensures months { result.date.month < 240000 }
@@ -89,7 +78,7 @@ fn local_clock(months: &[u32], i: Instant) -> Clock
 {
     let local = i.seconds + i.offset - range::OFFSET_ZERO;
     Clock {
-        date: calendar::date_of(months, local / SECONDS_PER_DAY),
+        date: months.date_of(local / SECONDS_PER_DAY),
         second: local % SECONDS_PER_DAY,
     }
 }

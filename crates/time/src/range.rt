@@ -1,9 +1,10 @@
-// The range of times that the calendar works on (RULES 2.4), and times as numbers from 0: seconds from 1 January of year -10000, offsets
-// from -93600. Arithmetic is done on these numbers, so that no sum has to look at a sign.
+// The range of times that the calendar works on (RULES 2.4), and times as numbers from 0: seconds from
+// 1 January of year -10000, offsets from -93600. Arithmetic is done on these numbers, so that no sum
+// has to look at a sign.
 ghost use Rattle.std.specs.Prelude.{◌≡◌};
 ghost use Rattle.time.specs.Range.{seconds_in_range, offset_in_range, since1970, moved_of, answer_at, MovedInRange};
 
-use crate::{Answer, Refusal, Time};
+use crate::{Refusal, Time};
 
 // The range of seconds and of a current time's offset.
 const LEAST_SECONDS: i64 = -377705023201;
@@ -30,44 +31,45 @@ const LEAST_OFFSET_FROM_0: u64 = 1;
 
 const MOST_OFFSET_FROM_0: u64 = 187199;
 
+// A time as numbers from 0. It holds no proof that it is in range, though `InRange` stands in several
+// contracts: `time_of` takes any two numbers and refuses those that are out of range
+// (docs/DECISIONS.md).
 #[derive(Clone, Copy)]
 pub struct Instant {
     pub seconds: u64,
     pub offset: u64,
 }
 
-#[derive(Clone, Copy)]
-pub enum Moved {
-    In(Instant),
-    Nothing,
-}
-
-// A time as numbers from 0, if both its seconds and its offset are in range.
-pub fn instant_of(t: Time) -> Moved
+// A time as numbers from 0, if both its seconds and its offset are in range. This and `time_of` are
+// functions and no `TryFrom`: None has no refusal of its own, a caller makes 6 or 4 of it.
+pub fn instant_of(t: Time) -> Option<Instant>
     ensures value { result ≡ moved_of t }
     ensures ranges { MovedInRange result }
 {
-    let z = t.seconds;
-    let o = t.offset;
-    if seconds_in_range(z) & offset_in_range(o) {
-        return Moved::In(Instant {
-            seconds: (z + SECOND_OF_1970) as u64,
-            offset: (o + OFFSET_ZERO_32) as u64,
-        });
+    if seconds_in_range(t.seconds) & offset_in_range(t.offset) {
+        Some(Instant {
+            seconds: (t.seconds + SECOND_OF_1970) as u64,
+            offset: (t.offset + OFFSET_ZERO_32) as u64,
+        })
+    } else {
+        None
     }
-    Moved::Nothing
 }
 
 // The time of an instant; refused by 6 if it would be out of range.
-pub fn time_of(i: Instant) -> Answer
+pub fn time_of(i: Instant) -> Result<Time, Refusal>
     ensures { result ≡ answer_at i }
 {
-    let n = i.seconds;
-    let o = i.offset;
-    if in_range(n) & ((LEAST_OFFSET_FROM_0 <= o) & (o <= MOST_OFFSET_FROM_0)) {
-        return Answer::Time(Time::new((n as i64) - SECOND_OF_1970, (o as i32) - OFFSET_ZERO_32));
+    if in_range(i.seconds)
+        & ((LEAST_OFFSET_FROM_0 <= i.offset) & (i.offset <= MOST_OFFSET_FROM_0))
+    {
+        Ok(Time::new(
+            i.seconds as i64 - SECOND_OF_1970,
+            i.offset as i32 - OFFSET_ZERO_32,
+        ))
+    } else {
+        Err(Refusal::Range)
     }
-    Answer::Refused(Refusal::Range)
 }
 
 // Whether seconds since 1970 are in range.

@@ -1,4 +1,5 @@
 // Writes a header, `1745582210 +0200`, from its end to its front, so that nothing is moved (RULES 9.1).
+// The place and the room stay two parameters, as in `text::decimal`.
 ghost use Rattle.std.specs.Prelude.{◌≡◌, ◌∷◌, ◌++◌, ◌-◌, ◌≤◌, ◌<◌, length, take, drop, nat_abs};
 ghost use Rattle.text.specs.Decimal.{signed_before};
 ghost use Rattle.time.specs.Header.{sign_byte, header_sign, offset_bytes, space, size_of};
@@ -10,29 +11,27 @@ use text::decimal;
 pub fn offset_size(offset: i32) -> u64
     ensures { result ≡ nat_abs offset }
 {
-    decimal::magnitude(offset as i64)
+    u64::from(offset.unsigned_abs())
 }
 
-// `-` for a negative offset, otherwise `+`. In a header it is decided before seconds are dropped: offset -30 is written `-0000`.
+// `-` for a negative offset, otherwise `+`. In a header it is decided before seconds are dropped:
+// offset -30 is written `-0000`.
 pub fn sign_byte(offset: i32) -> u8
     ensures { result ≡ sign_byte offset }
 {
-    if offset < 0 {
-        return b'-';
-    }
-    b'+'
+    if offset < 0 { b'-' } else { b'+' }
 }
 
-// The sign in the header of a time. Offset 0 with the mark has `-`; beside any other offset the mark is ignored.
+// The sign in the header of a time. Offset 0 with the mark has `-`; beside any other offset the mark is
+// ignored.
 pub fn header_sign(t: Time) -> u8
     ensures { result ≡ header_sign t }
 {
-    let offset = t.offset;
-    let mark = t.mark;
-    if mark & (offset == 0) {
-        return b'-';
+    if t.mark & (t.offset == 0) {
+        b'-'
+    } else {
+        sign_byte(t.offset)
     }
-    sign_byte(offset)
 }
 
 // A whole header, to the front of a room that is long enough.

@@ -1,6 +1,8 @@
 -- What a reading answers in the end, along its way: at the start, past a word that is no count, past a pair, and with nothing left.
 -- In order: pairs subtracted one by one; the laws of a reading.
 -- Assumes nothing.
+use Rattle.std.specs.Prelude.{Err, None, Ok, Option, Result, Some}
+use Rattle.std.specs.Option.{ok_or}
 use mathlib.Core.Path.{◌≡◌, refl, sym, ◌∙◌}
 use mathlib.Core.Bool.{Bool, true, false, ◌&&◌, ◌||◌, and_assoc, and-true, or-false, or_assoc}
 use mathlib.Core.List.{List, [], ◌∷◌}
@@ -12,56 +14,53 @@ use lib.ListN.{length}
 use Rattle.text.proofs.Lists.{by_test}
 use Rattle.time.specs.Answers.{time_marked, unmarked}
 use Rattle.time.specs.Range.{time_in_range}
-use Rattle.time.specs.declared.Now.{Now}
-use Rattle.time.specs.declared.Now.TheVariants.{Missing, At}
 use Rattle.time.specs.declared.Refusal.{Refusal}
-use Rattle.time.specs.declared.Refusal.TheVariants.{Current}
-use Rattle.time.specs.declared.Answer.{Answer}
-use Rattle.time.specs.declared.Answer.TheVariants.{Time, Refused}
+use Rattle.time.specs.declared.Refusal.TheVariants.{Missing, Current}
 use Rattle.relative.specs.Pairs.{known, is_known}
 use Rattle.relative.specs.Steps.{step, steps}
 use Rattle.relative.specs.Relative.{from, verdict}
 use Rattle.relative.specs.declared.pair.Pair.{Pair}
 use Rattle.relative.proofs.Texts.{steps_refused, Good, steps_good, Clear, steps_clear}
-use Rattle.turns.specs.Reading.{subtracted, unmoved, read_on, AnswersBy}
+use Rattle.turns.specs.Reading.{subtracted, read_on, AnswersBy}
 use Rattle.turns.specs.declared.reading.Reading.{Reading}
+use Rattle.time.specs.declared.Time.{Time}
 
 -- ---- pairs one by one
-subtracted_refused : (ps : List Pair) (r : Refusal) → subtracted ps (Refused r) ≡ Refused r
+subtracted_refused : (ps : List Pair) (r : Refusal) → subtracted ps (Err r) ≡ Err r
 unfolding subtracted
 subtracted_refused [] r = refl
 subtracted_refused (p ∷ ps) r = refl
 
-subtracted-cons : (p : Pair) (ps : List Pair) (a : Answer) → subtracted ps (subtracted (p ∷ []) a) ≡ subtracted (p ∷ ps) a
+subtracted-cons : (p : Pair) (ps : List Pair) (a : Result Time Refusal) → subtracted ps (subtracted (p ∷ []) a) ≡ subtracted (p ∷ ps) a
 unfolding subtracted
-subtracted-cons p ps (Time x) = refl
-subtracted-cons p ps (Refused r) = subtracted_refused ps r
+subtracted-cons p ps (Ok x) = refl
+subtracted-cons p ps (Err r) = subtracted_refused ps r
 
 -- from a time in range without the mark they are the steps of the first reader
-subtracted_steps : (ps : List Pair) (a : Answer) → Good a → Clear a → subtracted ps a ≡ steps ps a
+subtracted_steps : (ps : List Pair) (a : Result Time Refusal) → Good a → Clear a → subtracted ps a ≡ steps ps a
 unfolding subtracted from steps time_in_range
 subtracted_steps [] a g c = refl
-subtracted_steps (p ∷ ps) (Time x) g c =
-    let y : Answer = Time (unmarked x) in
+subtracted_steps (p ∷ ps) (Ok x) g c =
+    let y : Result Time Refusal = Ok (unmarked x) in
     rw g (subtracted_steps ps (step p y) (steps_good (p ∷ []) y g) (steps_clear (p ∷ []) y refl))
-    ∙ (λ i. steps ps (step p (Time (time_marked x.seconds x.offset (sym c i)))))
-subtracted_steps (p ∷ ps) (Refused r) g c = sym (steps_refused (p ∷ ps) r)
+    ∙ (λ i. steps ps (step p (Ok (time_marked x.seconds x.offset (sym c i)))))
+subtracted_steps (p ∷ ps) (Err r) g c = sym (steps_refused (p ∷ ps) r)
 
 -- from a current time
-subtracted_unmoved : (current : Now) (p : Pair) (ps : List Pair) → subtracted (p ∷ ps) (unmoved current) ≡ from current (p ∷ ps)
+subtracted-ok_or : (current : Option Time) (p : Pair) (ps : List Pair) → subtracted (p ∷ ps) (ok_or current Missing) ≡ from current (p ∷ ps)
 unfolding subtracted from time_in_range
-subtracted_unmoved Missing p ps = refl
-subtracted_unmoved (At x) p ps =
+subtracted-ok_or None p ps = refl
+subtracted-ok_or (Some x) p ps =
     by_test (time_in_range x)
-    (λ e. subtracted_steps (p ∷ ps) (Time (unmarked x)) e refl ∙ rw e)
+    (λ e. subtracted_steps (p ∷ ps) (Ok (unmarked x)) e refl ∙ rw e)
     (λ e. rw e (subtracted_refused ps Current))
 
 module _ (bound : ℕ) where
   -- ---- nothing is read yet
-  pub read_on-start : (current : Now) → AnswersBy bound (record { pairs = 0; known = true; ago = false; answer = unmoved current }) (λ ps ago. verdict bound (length ps) (known ps || ago) (from current ps))
+  pub read_on-start : (current : Option Time) → AnswersBy bound (record { pairs = 0; known = true; ago = false; answer = ok_or current Missing }) (λ ps ago. verdict bound (length ps) (known ps || ago) (from current ps))
   unfolding read_on
   read_on-start current [] ago = refl
-  read_on-start current (p ∷ ps) ago = rw (zero-add, subtracted_unmoved current p ps)
+  read_on-start current (p ∷ ps) ago = rw (zero-add, subtracted-ok_or current p ps)
 
   module _ (r : Reading) where
     -- ---- a word passed over, which may set the mark
@@ -78,7 +77,7 @@ module _ (bound : ℕ) where
           rw (n, and_assoc, subtracted-cons p ps r.answer)
 
       -- or it is one too many, and the answer is 5, or 2 if its units are not allowed
-      pub read_on-beyond : (a : Answer) (k : ℕ) → bound ≤ r.pairs → bound < k → AnswersBy bound (record { pairs = k; known = r.known && is_known p.unit; ago = r.ago; answer = a }) (λ ps ago. read_on bound r (p ∷ ps) ago)
+      pub read_on-beyond : (a : Result Time Refusal) (k : ℕ) → bound ≤ r.pairs → bound < k → AnswersBy bound (record { pairs = k; known = r.known && is_known p.unit; ago = r.ago; answer = a }) (λ ps ago. read_on bound r (p ∷ ps) ago)
       unfolding read_on known
       read_on-beyond a k h j ps ago =
           let n : ℕ = k + length ps in

@@ -9,20 +9,17 @@
 
 mod reading;
 
-ghost use Rattle.std.specs.Prelude.{◌≡◌, ◌∷◌, []};
-ghost use Rattle.text.specs.declared.number.Number.TheVariants.{Value, Nothing};
-ghost use Rattle.relative.specs.Relative.{max_pairs, from, named_of, answer_by_name};
-ghost use Rattle.relative.specs.declared.pair.Unit.TheVariants.{Seconds};
+ghost use Rattle.std.specs.Prelude.{◌≡◌, None, Some};
+ghost use Rattle.relative.specs.Relative.{max_pairs, named_of, answer_by_name};
 ghost use Rattle.turns.specs.Turns.{turns_of};
 ghost use Rattle.turns.specs.Reading.{read_rest};
 
-use calendar::SECONDS_PER_DAY;
 use reading::Reading;
 use relative::{Pair, Unit, words};
-use text::number::Number;
-use text::words::{Separator, Taken, Words};
+use text::scan::{Alphanumeric, Not};
+use text::words::Words;
 use text::{bytes, places};
-use time::{Answer, Now, Refusal};
+use time::{Refusal, Time};
 
 // The most bytes that a text may have, counted before anything is trimmed.
 pub const MAX_LENGTH: usize = 4096;
@@ -30,74 +27,61 @@ pub const MAX_LENGTH: usize = 4096;
 // The time that a relative text means, as `relative::parse` answers it. A text of more than
 // MAX_LENGTH bytes is refused as Form (2), unless it has a byte of 128 or more: then it is
 // NotAscii (1).
-pub fn parse(s: &[u8], current: Now) -> Answer
+pub fn parse(s: &[u8], current: Option<Time>) -> Result<Time, Refusal>
     ensures { result ≡ turns_of max_pairs s.now current }
 {
-    if bytes::is_ascii(s) {
-        if s.len() > MAX_LENGTH {
-            return Answer::Refused(Refusal::Form);
-        }
-        return parse_ascii(s, current);
+    if !bytes::is_ascii(s) {
+        return Err(Refusal::NotAscii);
     }
-    Answer::Refused(Refusal::NotAscii)
+    if s.len() > MAX_LENGTH {
+        return Err(Refusal::Form);
+    }
+    parse_ascii(s, current)
 }
 
-// The answer of an ASCII text: `now`, `today` and `yesterday` are tested here, and every other text
-// is read in turns.
-fn parse_ascii(s: &[u8], current: Now) -> Answer
+// The answer of an ASCII text. One of the three names is answered here, and every other text is read in
+// turns.
+fn parse_ascii(s: &[u8], current: Option<Time>) -> Result<Time, Refusal>
     ensures { result ≡ answer_by_name (named_of s.now) max_pairs s.now current }
 {
-    let t = text::trim::trimmed(s);
-    if bytes::same_ignoring_case(t, b"now") | bytes::same_ignoring_case(t, b"today") {
-        return seconds_before(current, 0);
+    match relative::parse_named(s) {
+        Some(count) => relative::pair_before(
+            current,
+            Pair {
+                count,
+                unit: Unit::Seconds(1),
+            },
+        ),
+        None => await_count(s, Reading::new(current)),
     }
-    if bytes::same_ignoring_case(t, b"yesterday") {
-        return seconds_before(current, SECONDS_PER_DAY);
-    }
-    await_count(s, reading::start(current))
-}
-
-// The time k seconds before the current time.
-fn seconds_before(current: Now, k: u64) -> Answer
-    ensures { result ≡ from current (record { count = k; unit = Seconds 1 } ∷ []) }
-{
-    let unit = Unit::Seconds(1);
-    relative::pair_before(current, Pair { count: k, unit })
 }
 
 // Waits for a count. Any other word is passed over; if it is `ago`, it sets the mark.
 #[cycle(awaiting)]
-fn await_count(s: &[u8], reading: Reading) -> Answer
-    ensures { result ≡ read_rest max_pairs reading Nothing s.now }
+fn await_count(s: &[u8], reading: Reading) -> Result<Time, Refusal>
+    ensures { result ≡ read_rest max_pairs reading None s.now }
 {
-    let taken = Words::new().take(s, Separator::Mark);
-    let Taken::Word(x, next) = taken else {
+    let Some((span, next)) = Words::new().take::<Not<Alphanumeric>>(s) else {
         return reading.verdict();
     };
-    let word = text::words::within(s, x);
+    let word = text::words::within(s, span);
     let rest = places::from(s, next.at);
-    let count = words::count(word);
-    match count {
-        Number::Value(n) => await_unit(rest, n, reading),
-        Number::Nothing => await_count(rest, reading.pass_over(word)),
+    match words::count(word) {
+        Some(count) => await_unit(rest, count, reading),
+        None => await_count(rest, reading.pass_over(word)),
     }
 }
 
-// Waits for the unit of the count n. The very next word is the unit, even if it is `ago` or a
-// number. A count at the end of the text is dropped.
+// Waits for the unit of the count. The very next word is the unit, even if it is `ago` or a number. A
+// count at the end of the text is dropped.
 #[cycle(awaiting)]
-fn await_unit(s: &[u8], n: u64, reading: Reading) -> Answer
-    ensures { result ≡ read_rest max_pairs reading (Value n) s.now }
+fn await_unit(s: &[u8], count: u64, reading: Reading) -> Result<Time, Refusal>
+    ensures { result ≡ read_rest max_pairs reading (Some count) s.now }
 {
-    let taken = Words::new().take(s, Separator::Mark);
-    let Taken::Word(x, next) = taken else {
+    let Some((span, next)) = Words::new().take::<Not<Alphanumeric>>(s) else {
         return reading.verdict();
     };
-    let word = text::words::within(s, x);
     let rest = places::from(s, next.at);
-    let pair = Pair {
-        count: n,
-        unit: words::unit(word),
-    };
-    await_count(rest, reading.with_pair(pair))
+    let unit = words::unit(text::words::within(s, span));
+    await_count(rest, reading.with_pair(Pair { count, unit }))
 }

@@ -1,30 +1,18 @@
 // The arguments: `-h`, `--help` and `--version`. Only the first one is looked at.
-use crate::{help, write_out};
+use crate::help;
 use std::rt::Env;
-use streams::{MAX_ARGUMENT, say};
-use text::bytes;
+use streams::{MAX_ARGUMENT, Reported, Tool};
 
-pub fn answer_first(rt: &HostRuntime) {
+// It asks the runtime itself: its message for a long argument is not that of `Tool::argument`.
+pub fn answer_first(rt: &HostRuntime, tool: &Tool) -> Result<(), Reported> {
     let mut room = [0u8; MAX_ARGUMENT];
-    match rt.arg(1, &mut room) {
-        Ok(n) => answer(rt, &room[..n]),
-        Err(_) => say(
-            rt,
-            b"whenread: unknown argument of more than 4,096 bytes; try --help\n",
-        ),
+    let Ok(n) = rt.arg(1, &mut room) else {
+        return Err(tool.complain(b"unknown argument of more than 4,096 bytes"));
+    };
+    let word = &room[..n];
+    if tool.answers(word, help::TEXT, b"whenread 0.1.0\n")? {
+        Ok(())
+    } else {
+        Err(tool.complain_of(b"unknown argument", word))
     }
-}
-
-fn answer(rt: &HostRuntime, word: &[u8]) {
-    if bytes::same(word, b"-h") | bytes::same(word, b"--help") {
-        help::write_help(rt);
-        return;
-    }
-    if bytes::same(word, b"--version") {
-        write_out(rt, b"whenread 0.1.0\n");
-        return;
-    }
-    say(rt, b"whenread: unknown argument '");
-    say(rt, word);
-    say(rt, b"'; try --help\n");
 }

@@ -1,10 +1,5 @@
 // The text that `whenread --help` writes. `.ci/help` tests that docs/whenread.1 has each of its lines.
-use crate::write_out;
-
-pub fn write_help(rt: &HostRuntime) {
-    write_out(
-        rt,
-        b"Usage: whenread < LINES
+pub const TEXT: &[u8] = b"Usage: whenread < LINES
        whenread -h | --help
        whenread --version
 
@@ -45,6 +40,4 @@ not. It is 0 unless a signal ends the program, even if a read or a write failed,
 because a Rattle program has no other. A failed read or write ends the program
 with a message on standard error, so a script that has to know tests whether
 standard error is empty.
-",
-    );
-}
+";

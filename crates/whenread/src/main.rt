@@ -12,143 +12,117 @@
 mod arguments;
 mod help;
 
-ghost use Rattle.std.specs.Prelude.{◌≤◌, ◌<◌, length};
-ghost use Rattle.calendar.specs.Table.{IsMonths};
+ghost use Rattle.std.specs.Prelude.{◌≤◌, ◌<◌, length, IfOk, IfSome};
 ghost use Rattle.lines.specs.Lines.{max_kept};
 
-use std::io::Read;
+use calendar::MonthTable;
+use streams::{Reported, Tool};
 use text::places;
 
 // How many bytes are read at once, with what is held of a line in front, and how many are written.
 const BUFFER: usize = 65536;
 
+// Whatever fails has been reported when `run` returns.
 fn main(rt: HostRuntime) {
-    if streams::has_argument(&rt, 1) {
-        arguments::answer_first(&rt);
-        return;
+    let _ = run(&rt);
+}
+
+fn run(rt: &HostRuntime) -> Result<(), Reported> {
+    let tool = Tool::new(rt, b"whenread");
+    if tool.has_argument(1) {
+        return arguments::answer_first(rt, &tool);
     }
-    let months = calendar::months();
+    let months = MonthTable::whole();
     let mut buffer = [0u8; BUFFER];
     let mut out = [0u8; BUFFER];
-    answer_all(&rt, &months, &mut buffer, &mut out);
+    answer_all(&tool, months, &mut buffer, &mut out)
 }
 
 // Reads and answers to the end of the input. A proved loop has to end, and nothing says that an
 // input does, so the loop counts its turns down from a number that no run uses up. The buffer is
 // longer than what is kept of a line, so that there is always room for a read.
-fn answer_all(rt: &HostRuntime, months: &[u32], buffer: &mut [u8], out: &mut [u8])
-    requires months { IsMonths months.now }
+//
+// `tool`, `months`, `buffer` and `out` stay apart: each call borrows another part of the buffers, and a
+// struct of them would be made once, for these four functions.
+fn answer_all(
+    tool: &Tool,
+    months: MonthTable,
+    buffer: &mut [u8],
+    out: &mut [u8],
+) -> Result<(), Reported>
     requires max_kept_in_bounds { max_kept < length buffer.old }
 {
     let mut held: usize = 0;
     for _ in 0..u64::MAX {
-        let turn = read_and_answer(rt, months, buffer, held, out);
-        if turn.is_last {
-            return;
-        }
-        held = turn.held;
+        let Some(kept) = read_and_answer(tool, months, buffer, held, out)? else {
+            return Ok(());
+        };
+        held = kept;
     }
+    Ok(())
 }
 
-// What a turn leaves: how many bytes at the front of the buffer are the start of a line that has no
-// end yet, and whether this was the last turn.
-#[derive(Clone, Copy)]
-struct Turn {
-    held: usize,
-    is_last: bool,
-}
-
-// Reads once, behind what is held, and answers the lines that have their end. The turn is the last
-// one if the input has ended, or if the read or a write has failed. A read that has to be made again
-// leaves everything to the next turn.
+// Reads once, behind what is held, and answers the lines that have their end. Returns how many bytes at
+// the front of the buffer are the start of a line that has no end yet, or `None` at the end of the input.
+// A read that has to be made again leaves everything to the next turn.
 fn read_and_answer(
-    rt: &HostRuntime,
-    months: &[u32],
+    tool: &Tool,
+    months: MonthTable,
     buffer: &mut [u8],
     held: usize,
     out: &mut [u8],
-) -> Turn
-    requires months { IsMonths months.now }
+) -> Result<Option<usize>, Reported>
     requires max_kept_in_bounds { (max_kept < length buffer.old) × (held ≤ max_kept) }
-    ensures { result.held ≤ max_kept }
+    ensures { IfOk result (λ next. IfSome next (λ n. n ≤ max_kept)) }
 {
-    let got = rt.stdin().read(&mut buffer[held..]);
-    match got {
-        Ok(0) => {
-            answer_last(rt, months, places::up_to(buffer, held), out);
-            Turn {
-                held: 0,
-                is_last: true,
-            }
+    match tool.read_once(&mut buffer[held..])? {
+        Some(0) => {
+            answer_last(tool, months, places::up_to(buffer, held), out)?;
+            Ok(None)
         }
-        Ok(n) => answer_held(rt, months, buffer, held + n, out),
-        Err(error) => {
-            if streams::has_failed(rt, &error) {
-                streams::fail(rt, b"whenread", b"standard input", &error);
-                return Turn {
-                    held: 0,
-                    is_last: true,
-                };
-            }
-            Turn {
-                held,
-                is_last: false,
-            }
+        Some(n) => {
+            let kept = answer_held(tool, months, buffer, held + n, out)?;
+            Ok(Some(kept))
         }
+        None => Ok(Some(held)),
     }
 }
 
 // Answers a last line that lacks its end. If nothing is held, there is no such line.
-fn answer_last(rt: &HostRuntime, months: &[u32], line: &[u8], out: &mut [u8])
-    requires { IsMonths months.now }
-{
-    if line.len() == 0 {
-        return;
+fn answer_last(
+    tool: &Tool,
+    months: MonthTable,
+    line: &[u8],
+    out: &mut [u8],
+) -> Result<(), Reported> {
+    if line.is_empty() {
+        return Ok(());
     }
     let n = lines::answer_with(months, line, out);
-    write_out(rt, places::up_to(out, n));
+    tool.write_out(places::up_to(out, n))
 }
 
 // Answers the lines of the first `end` bytes, as many at a time as have answers that fit into `out`,
-// and keeps what is left.
+// keeps what is left, and returns how much that is.
 fn answer_held(
-    rt: &HostRuntime,
-    months: &[u32],
+    tool: &Tool,
+    months: MonthTable,
     buffer: &mut [u8],
     end: usize,
     out: &mut [u8],
-) -> Turn
-    requires months { IsMonths months.now }
+) -> Result<usize, Reported>
     requires end_in_bounds { end ≤ length buffer.old }
-    ensures { result.held ≤ max_kept }
+    ensures { IfOk result (λ n. n ≤ max_kept) }
 {
     let mut from = 0;
+    // Not a `for`: a turn answers as many lines as have answers that fit into `out`.
     while from < end {
         let step = lines::cut::answer_lines_with(months, &buffer[from..end], out);
-        let taken = step.taken;
-        if taken == 0 {
-            return Turn {
-                held: lines::cut::keep(buffer, from, end),
-                is_last: false,
-            };
+        if step.taken == 0 {
+            return Ok(lines::cut::keep(buffer, from, end));
         }
-        let answers = places::up_to(out, step.written);
-        if write_out(rt, answers) {
-            from += taken;
-        } else {
-            return Turn {
-                held: 0,
-                is_last: true,
-            };
-        }
+        tool.write_out(places::up_to(out, step.written))?;
+        from += step.taken;
     }
-    Turn {
-        held: 0,
-        is_last: false,
-    }
-}
-
-// Writes all of `s` to standard output and returns true, or false if a write fails.
-fn write_out(rt: &HostRuntime, s: &[u8]) -> bool {
-    streams::write_out(rt, b"whenread", s)
+    Ok(0)
 }

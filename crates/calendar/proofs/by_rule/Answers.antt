@@ -3,8 +3,5 @@ use native.Mathlib.Omega.{arith}
 use Rattle.calendar.proofs.Cycle.{from_march-first_day}
 use Rattle.calendar.proofs.by_rule.Goals as goal
 
-pub overflow_sub-result-2 : goal.overflow_sub-result-2
-overflow_sub-result-2 c = omega (arith, from_march-first_day c.args.k c.requires)
-
 pub returns : goal.returns
 returns c = omega (arith, from_march-first_day c.args.k c.requires)

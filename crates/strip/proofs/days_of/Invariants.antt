@@ -1,10 +1,6 @@
-use Prim.Native.Nat.{◌-◌}
 use Rattle.strip.specs.Held.{number_from}
 use Rattle.strip.proofs.Filling.{Filled}
 use Rattle.strip.proofs.days_of.Given as goal
 
 abbrev pub invariant-loop-place : goal.invariant-loop-place
 invariant-loop-place l = Filled (number_from l.before l.length) 42 l.place l.days
-
-abbrev pub decreases-loop-place : goal.decreases-loop-place
-decreases-loop-place l = 42 - l.place

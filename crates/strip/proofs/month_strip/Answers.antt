@@ -35,8 +35,8 @@ pub weeks_of-requires : goal.weeks_of-requires
 unfolding weekday
 weeks_of-requires c =
     let m = c.args.m in record {
-      table = c.requires.table;
       monday = omega (arith, early c);
+      start = omega (arith, first_is c, end_is c);
       end = (omega (arith, early c, first_is c, end_is c, month_length-le m), c.first_day-end.ensures.range);
     }
 

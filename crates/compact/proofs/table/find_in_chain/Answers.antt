@@ -29,7 +29,7 @@ pub returns-then-same : goal.returns-then-same
 returns-then-same c =
     let same-is : true ≡ same (path_at (drop (get_or c.args.places.now (c.loop-k.k - 1) 0) c.args.book.now)) c.args.path.now =
     sym c.if-same.true ∙ c.same.ensures
-    ∙ ap (λ (q : List ℕ). same q c.args.path.now) (c.path_at-other.ensures ∙ ap path_at c.from.ensures) in
+    ∙ ap (λ (q : List ℕ). same q c.args.path.now) (c.path_at-other.ensures ∙ ap path_at (c.from-in-loop-k.ensures ∙ ap (λ (n : ℕ). drop n c.args.book.now) c.from.ensures)) in
     sym (c.loop-k.invariant.1 ∙ number_in-step _ _ _ _ c.loop-k.k c.loop-k-test.true (λ j lt. c.requires.2 j (omega (arith, c.loop-k.invariant.0))) ∙ rw (← same-is))
 
 pub loop-k-preserved : goal.loop-k-preserved
@@ -37,9 +37,10 @@ loop-k-preserved c =
     let k = c.loop-k.k in
     let some : 0 < k = c.loop-k-test.true in
     let same-is : same (path_at (drop (get_or c.args.places.now (k - 1) 0) c.args.book.now)) c.args.path.now ≡ false =
-    sym (c.same.ensures ∙ ap (λ (q : List ℕ). same q c.args.path.now) (c.path_at-other.ensures ∙ ap path_at c.from.ensures)) ∙ c.if-same.false in (
-      omega (arith, c.requires.2 (k - 1) (omega (arith, c.loop-k.invariant.0)), c.loop-k.invariant.0),
-      c.loop-k.invariant.1 ∙ number_in-step _ _ _ _ k some (λ j lt. c.requires.2 j (omega (arith, c.loop-k.invariant.0))) ∙ rw same-is,
+    sym (c.same.ensures ∙ ap (λ (q : List ℕ). same q c.args.path.now) (c.path_at-other.ensures ∙ ap path_at (c.from-in-loop-k.ensures ∙ ap (λ (n : ℕ). drop n c.args.book.now) c.from.ensures))) ∙ c.if-same.false in (
+      omega (arith, c.requires.2 (k - 1) (omega (arith, c.loop-k.invariant.0)), c.loop-k.invariant.0, c.from-k-in-loop-k.ensures),
+      c.loop-k.invariant.1 ∙ number_in-step _ _ _ _ k some (λ j lt. c.requires.2 j (omega (arith, c.loop-k.invariant.0))) ∙ rw same-is
+          (ap (λ (m : ℕ). number_in c.args.book.now c.args.links.now c.args.places.now c.args.path.now m m) (sym c.from-k-in-loop-k.ensures)),
     )
 
 pub returns : goal.returns

@@ -12,7 +12,6 @@ returns-then-opens_hull c =
     c.before-then-opens_hull.ensures ∙ ap (before tab) c.from.ensures ∙ rw (← c.opens_hull.ensures, c.if-opens_hull.true)
 
 -- a line of `since`
-pub returns : goal.returns
+pub returns-else-opens_hull : goal.returns-else-opens_hull
 unfolding path_at
-returns c =
-    c.up_to.ensures ∙ rw (← c.opens_hull.ensures, c.if-opens_hull.false)
+returns-else-opens_hull c = rw (← c.opens_hull.ensures, c.if-opens_hull.false)

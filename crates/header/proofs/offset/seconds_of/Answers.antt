@@ -15,13 +15,13 @@ rd z = to_z w64 (of_z w64 z)
 -- the locals
 module _ {f : Fields} (p : Small f) where
   hours : At (negsuc 356399) (pos 356400) (f.hours *ℤ pos 3600) (rd (rd f.hours *ℤ pos 3600))
-  hours = read w64 tt (times 3600 (known w64 tt p.hours_in_lem))
+  hours = read w64 tt (times 3600 (known w64 tt p.hours_in_range))
 
   minutes : At (negsuc 5939) (pos 5940) (f.minutes *ℤ pos 60) (rd (rd f.minutes *ℤ pos 60))
-  minutes = read w64 tt (times 60 (known w64 tt p.minutes_in_lem))
+  minutes = read w64 tt (times 60 (known w64 tt p.minutes_in_range))
 
   rest : At (negsuc 6038) (pos 6039) (f.minutes *ℤ pos 60 +ℤ f.seconds) (rd (rd (rd f.minutes *ℤ pos 60) +ℤ rd f.seconds))
-  rest = read w64 tt (add minutes (known w64 tt p.seconds_in_lem))
+  rest = read w64 tt (add minutes (known w64 tt p.seconds_in_range))
 
   sum : At (negsuc 362438) (pos 362439) (f.hours *ℤ pos 3600 +ℤ f.minutes *ℤ pos 60 +ℤ f.seconds) (rd (rd (rd f.hours *ℤ pos 3600) +ℤ rd (rd (rd f.minutes *ℤ pos 60) +ℤ rd f.seconds)))
   sum = rw (+ℤ_assoc (f.hours *ℤ pos 3600) (f.minutes *ℤ pos 60) f.seconds) (read w64 tt (add hours rest))
@@ -35,13 +35,13 @@ module _ {l h a m l' h' b n : ℤ} (p : At l h a m) (q : At l' h' b n) (t : T (h
   fits-32 u = fits w32 u (read w64 t (sub p q))
 
 pub overflow_mul-hours : goal.overflow_mul-hours
-overflow_mul-hours c = fits w64 tt (times 3600 (known w64 tt c.requires.hours_in_lem))
+overflow_mul-hours c = fits w64 tt (times 3600 (known w64 tt c.requires.hours_in_range))
 
 pub overflow_mul-rest : goal.overflow_mul-rest
-overflow_mul-rest c = fits w64 tt (times 60 (known w64 tt c.requires.minutes_in_lem))
+overflow_mul-rest c = fits w64 tt (times 60 (known w64 tt c.requires.minutes_in_range))
 
 pub overflow_add-rest : goal.overflow_add-rest
-overflow_add-rest c = let p = c.requires in fits w64 tt (add (minutes p) (known w64 tt p.seconds_in_lem))
+overflow_add-rest c = let p = c.requires in fits w64 tt (add (minutes p) (known w64 tt p.seconds_in_range))
 
 pub overflow_add-sum : goal.overflow_add-sum
 overflow_add-sum c = let p = c.requires in fits w64 tt (add (hours p) (rest p))
@@ -68,9 +68,9 @@ pub returns-then-f : goal.returns-then-f
 unfolding offset_of
 returns-then-f c = rw c.if-f.true (read w32 tt (read w64 tt (negated (sum c.requires)))).is
 
-pub overflow_cast-result-2 : goal.overflow_cast-result-2
-overflow_cast-result-2 c = fits w32 tt (sum c.requires)
+pub overflow_cast-result-else-f : goal.overflow_cast-result-else-f
+overflow_cast-result-else-f c = fits w32 tt (sum c.requires)
 
-pub returns : goal.returns
+pub returns-else-f : goal.returns-else-f
 unfolding offset_of
-returns c = rw c.if-f.false (read w32 tt (sum c.requires)).is
+returns-else-f c = rw c.if-f.false (read w32 tt (sum c.requires)).is

@@ -25,20 +25,20 @@ are_usual s at sign-is hours-are minutes-are e = rw (← sign-is, ← hours-are,
 
 pub two_digits-hours-requires : goal.two_digits-hours-requires
 two_digits-hours-requires c =
-    (Usual_of_tests c.args.s.now c.args.at (left _ _ c.requires c.if-s-at-eq6.true)
-    (are_usual c.args.s.now c.args.at c.is_sign.ensures c.both_digits.ensures c.both_digits-then-s-at-eq6.ensures c.if-space-is_sign.true)).hours
+    (Usual_of_tests c.args.s.now c.args.at (left _ _ c.requires c.if-s-at-ne6.false)
+    (are_usual c.args.s.now c.args.at c.is_sign.ensures c.both_digits.ensures c.both_digits-2.ensures c.if-space-is_sign.true)).hours
 
 pub two_digits-minutes-requires : goal.two_digits-minutes-requires
 two_digits-minutes-requires c =
-    (Usual_of_tests c.args.s.now c.args.at (left _ _ c.requires c.if-s-at-eq6.true)
-    (are_usual c.args.s.now c.args.at c.is_sign.ensures c.both_digits.ensures c.both_digits-then-s-at-eq6.ensures c.if-space-is_sign.true)).minutes
+    (Usual_of_tests c.args.s.now c.args.at (left _ _ c.requires c.if-s-at-ne6.false)
+    (are_usual c.args.s.now c.args.at c.is_sign.ensures c.both_digits.ensures c.both_digits-2.ensures c.if-space-is_sign.true)).minutes
 
 pub returns-then-space-is_sign : goal.returns-then-space-is_sign
 returns-then-space-is_sign c =
     let s = c.args.s.now in
     let at = c.args.at in
-    let n = left s at c.requires c.if-s-at-eq6.true in
-    let t = are_usual s at c.is_sign.ensures c.both_digits.ensures c.both_digits-then-s-at-eq6.ensures c.if-space-is_sign.true in
+    let n = left s at c.requires c.if-s-at-ne6.false in
+    let t = are_usual s at c.is_sign.ensures c.both_digits.ensures c.both_digits-2.ensures c.if-space-is_sign.true in
     rw (
       back w64 c.two_digits-hours.result c.two_digits-hours.type_inv ∙ c.two_digits-hours.ensures,
       back w64 c.two_digits-minutes.result c.two_digits-minutes.type_inv ∙ c.two_digits-minutes.ensures,
@@ -46,10 +46,10 @@ returns-then-space-is_sign c =
     (sym (usual_of_of_tests s at n t ∙ fields_of_of_usual s at (Usual_of_tests s at n t) _))
 
 -- another byte among them
-pub returns-then-s-at-eq6 : goal.returns-then-s-at-eq6
-returns-then-s-at-eq6 c =
-    sym (usual_of_of_no_test _ _ (rw (← c.is_sign.ensures, ← c.both_digits.ensures, ← c.both_digits-then-s-at-eq6.ensures) c.if-space-is_sign.false))
+pub returns-else-space-is_sign : goal.returns-else-space-is_sign
+returns-else-space-is_sign c =
+    sym (usual_of_of_no_test _ _ (rw (← c.is_sign.ensures, ← c.both_digits.ensures, ← c.both_digits-2.ensures) c.if-space-is_sign.false))
 
 -- fewer, or more
-pub returns : goal.returns
-returns c = let a = c.args in sym (usual_of_of_length a.s.now a.at (λ e. c.if-s-at-eq6.false (omega arith)))
+pub returns-then-s-at-ne6 : goal.returns-then-s-at-ne6
+returns-then-s-at-ne6 c = let a = c.args in sym (usual_of_of_length a.s.now a.at (λ e. c.if-s-at-ne6.true (omega arith)))

@@ -7,10 +7,10 @@ use Rattle.text.proofs.Runs.{past_of-false, past_of-length-le}
 use Rattle.text.proofs.Plain.{is_space_of_lt}
 use Rattle.header.proofs.walk.first_word.Goals as goal
 
-pub returns-then-s-eq0 : goal.returns-then-s-eq0
-returns-then-s-eq0 c = sym (past_of-length-le is_space _ 0 (omega (arith, c.if-s-eq0.true)))
+pub returns-in-empty : goal.returns-in-empty
+returns-in-empty c = sym (past_of-length-le is_space _ 0 (omega (arith, c.in-empty.len_below)))
 
-pub returns-then-s-gt32 : goal.returns-then-s-gt32
-returns-then-s-gt32 c =
+pub returns-in-len1-up : goal.returns-in-len1-up
+returns-in-len1-up c =
     let s = c.args.s.now in
-    sym (past_of-false is_space s 0 (omega (arith, c.if-s-eq0.false)) (is_space_of_lt _ c.if-s-gt32.true))
+    sym (past_of-false is_space s 0 (omega (arith, c.in-len1-up.len_at_least)) (is_space_of_lt _ c.if-b-gt32.true))

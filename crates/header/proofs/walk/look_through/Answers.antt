@@ -9,7 +9,7 @@ use Rattle.header.proofs.walk.look_through.Goals as goal
 pub loop-i-preserved : goal.loop-i-preserved
 loop-i-preserved c =
     let l = c.loop-i in (
-      l.invariant.0 ∙ ap (λ (x : Bool). l.ascii && x) (ascii-drop-cons _ _ c.loop-i-test.true) ∙ sym (and_assoc l.ascii _ _),
+      rw c.is_ascii-ascii.ensures (l.invariant.0 ∙ ap (λ (x : Bool). l.ascii && x) (ascii-drop-cons _ _ c.loop-i-test.true)) ∙ sym (and_assoc l.ascii _ _),
       l.invariant.1 ∙ ap (λ (x : Bool). l.colon || x) (has_drop-cons 58 _ _ c.loop-i-test.true) ∙ sym (or_assoc l.colon _ _),
     )
 

@@ -10,6 +10,7 @@ use Rattle.text.specs.Places.{has}
 use Rattle.text.specs.declared.number.LeadingInteger.{LeadingInteger}
 use Rattle.header.specs.Held.{LeadsWithNumber}
 use Rattle.header.proofs.Pass.{third, ascii_kept, has_kept, FirstWords_of_pass}
+use Rattle.std.proofs.lemmas.Bool.{not-true, not-false}
 use Rattle.header.proofs.walk.read_words.Goals as goal
 
 -- what is found from the last place on decides for the whole text
@@ -20,10 +21,10 @@ module _ (s : List ℕ) (r : LeadingInteger) (l : LeadsWithNumber s r) {at : ℕ
   colon_is : found ≡ has 58 (drop at s) → found ≡ has 58 s
   colon_is e = e ∙ rw at-is (sym (has_kept s r l))
 
-pub returns-then-rest : goal.returns-then-rest
-returns-then-rest c =
+pub returns : goal.returns
+returns c =
     let at-is : c.past-third.result ≡ third c.args.s.now c.args.opening.end = rw (c.past-third.ensures, c.past-second_end.ensures, c.past-second.ensures, c.past-first_end.ensures) in
-    let a = ascii_is c.args.s.now c.args.opening c.requires at-is c.look_through-rest.ensures.ascii_value ∙ c.if-rest.true in (
+    let a = ascii_is c.args.s.now c.args.opening c.requires at-is c.look_through-rest.ensures.ascii_value ∙ not-false _ c.if-not-rest.false in (
       a,
       rw (
         c.only_bounds-offset_word.ensures,
@@ -38,7 +39,7 @@ returns-then-rest c =
     )
 
 -- a byte of 128 or more
-pub returns : goal.returns
-returns c =
+pub returns-then-not-rest : goal.returns-then-not-rest
+returns-then-not-rest c =
     let at-is : c.past-third.result ≡ third c.args.s.now c.args.opening.end = rw (c.past-third.ensures, c.past-second_end.ensures, c.past-second.ensures, c.past-first_end.ensures) in
-    ascii_is c.args.s.now c.args.opening c.requires at-is c.look_through-rest.ensures.ascii_value ∙ c.if-rest.false
+    ascii_is c.args.s.now c.args.opening c.requires at-is c.look_through-rest.ensures.ascii_value ∙ not-true _ c.if-not-rest.true

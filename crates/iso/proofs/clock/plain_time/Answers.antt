@@ -1,36 +1,27 @@
 -- `iso::clock::plain_time` meets its contract.
-use borrow.Author.Tests.{eq-eqb, ne_eqb}
+use native.Mathlib.Omega.{arith}
+use borrow.Author.Tests.{ne_eqb}
+use lib.ListN.{length}
 use Rattle.iso.specs.Clock.{plain_time}
 use Rattle.iso.proofs.clock.plain_time.Goals as goal
 
 -- HH
-pub returns-then-t-eq2 : goal.returns-then-t-eq2
+pub returns-in-2-clause-is : goal.returns-in-2-clause-is
 unfolding plain_time
-returns-then-t-eq2 c = record {
-  is = rw (c.clock.ensures.is, c.two.ensures, eq-eqb _ _ c.if-t-eq2.true);
-  range = c.clock.ensures.range;
-}
+returns-in-2-clause-is c = rw (c.clock.ensures.is, c.two.ensures, c.in-2.is)
 
 -- HHMM
-pub returns-then-t-eq4 : goal.returns-then-t-eq4
+pub returns-in-4-clause-is : goal.returns-in-4-clause-is
 unfolding plain_time
-returns-then-t-eq4 c = record {
-  is = rw (c.clock-then-t-eq4.ensures.is, c.two-then-t-eq4-2.ensures, c.two-then-t-eq4.ensures, ne_eqb _ _ c.if-t-eq2.false, eq-eqb _ _ c.if-t-eq4.true);
-  range = c.clock-then-t-eq4.ensures.range;
-}
+returns-in-4-clause-is c = rw (c.clock-in-4.ensures.is, c.two-in-4-2.ensures, c.two-in-4.ensures, c.in-4.is)
 
 -- HHMMSS
-pub returns-then-t-eq6 : goal.returns-then-t-eq6
+pub returns-in-6-clause-is : goal.returns-in-6-clause-is
 unfolding plain_time
-returns-then-t-eq6 c = record {
-  is = rw (c.clock-then-t-eq6.ensures.is, c.two-then-t-eq6-3.ensures, c.two-then-t-eq6-2.ensures, c.two-then-t-eq6.ensures, ne_eqb _ _ c.if-t-eq2.false, ne_eqb _ _ c.if-t-eq4.false, eq-eqb _ _ c.if-t-eq6.true);
-  range = c.clock-then-t-eq6.ensures.range;
-}
+returns-in-6-clause-is c = rw (c.clock-in-6.ensures.is, c.two-in-6-3.ensures, c.two-in-6-2.ensures, c.two-in-6.ensures, c.in-6.is)
 
 -- any other length
-pub returns : goal.returns
+pub returns-in_default-clause-is : goal.returns-in_default-clause-is
 unfolding plain_time
-returns c = record {
-  is = rw (ne_eqb _ _ c.if-t-eq2.false, ne_eqb _ _ c.if-t-eq4.false, ne_eqb _ _ c.if-t-eq6.false);
-  range = tt;
-}
+returns-in_default-clause-is c =
+    rw (ne_eqb (length c.args.t.now) 2 (λ e. omega (arith, e)), ne_eqb (length c.args.t.now) 4 (λ e. omega (arith, e)), ne_eqb (length c.args.t.now) 6 (λ e. omega (arith, e)))

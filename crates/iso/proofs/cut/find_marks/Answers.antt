@@ -1,5 +1,5 @@
 -- `iso::cut::find_marks` meets its contract. The invariant: from e on there is no space, no sign has a digit after it, and `digit`
--- says whether a digit is at e. The measure is e.
+-- says whether a digit is at e.
 use mathlib.Core.Path.{◌≡◌, sym}
 use mathlib.Core.Bool.{false}
 use mathlib.Core.List.{List}
@@ -22,9 +22,6 @@ no_digit s = rw (drop_of_length-le s (le_refl (length s)))
 
 pub loop-e-init : goal.loop-e-init
 loop-e-init c = let s = c.args.s.now in (none_at_end (opens_with 32) s, none_at_end is_offset s, no_digit s)
-
-pub bounds-s-e : goal.bounds-s-e
-bounds-s-e c = omega (arith, c.loop-e.invariant.0.0)
 
 -- a space is neither sign nor digit
 pub last_sign-requires : goal.last_sign-requires
@@ -75,6 +72,3 @@ returns c =
       space = sym (rw e at v.0.1);
       sign = sym (rw e at v.1.1);
     }
-
-pub loop-e-smaller : goal.loop-e-smaller
-loop-e-smaller c = omega arith

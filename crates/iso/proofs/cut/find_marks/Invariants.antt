@@ -8,6 +8,3 @@ use Rattle.iso.proofs.cut.find_marks.Given as goal
 
 abbrev pub invariant-loop-e : goal.invariant-loop-e
 invariant-loop-e l = None (opens_with 32) l.s l.e × None is_offset l.s l.e × (is_digit (get_or (drop l.e l.s) 0 0) ≡ l.digit)
-
-abbrev pub decreases-loop-e : goal.decreases-loop-e
-decreases-loop-e l = l.e

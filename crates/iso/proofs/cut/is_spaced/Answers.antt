@@ -25,9 +25,9 @@ pub slice_bounds-trimmed-start : goal.slice_bounds-trimmed-start
 unfolding last_place
 slice_bounds-trimmed-start c = rw c.requires (last_where-le-length (opens_with 32) c.args.s.now)
 
-pub returns-then-rest-eq0 : goal.returns-then-rest-eq0
-returns-then-rest-eq0 c = sym (told (goal.at.returns-then-rest-eq0 c).After-trimmed-rest ∙ is_signed_of_length _ c.if-rest-eq0.true)
+pub returns-in_default : goal.returns-in_default
+returns-in_default c = sym (told (goal.at.returns-in_default c).After-trimmed-rest ∙ is_signed_of_length _ (omega (arith, c.in_default.len_below)))
 
 pub returns : goal.returns
 returns c =
-    c.is_sign.ensures ∙ sym (told (goal.at.returns c).After-trimmed-rest ∙ is_signed_of_lt _ (omega (arith, c.if-rest-eq0.false)))
+    c.is_sign.ensures ∙ sym (told (goal.at.returns c).After-trimmed-rest ∙ is_signed_of_lt _ (omega (arith, c.in-len1-up.len_at_least)))

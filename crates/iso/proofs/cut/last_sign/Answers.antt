@@ -1,16 +1,9 @@
 -- `iso::cut::last_sign` meets its contract. The invariant: from e on no sign has a digit after it, and `digit` says whether a digit
--- is at e. The measure is e.
-use mathlib.Core.Path.{◌≡◌, sym}
-use native.Mathlib.Omega.{arith}
+-- is at e.
+use mathlib.Core.Path.{sym}
 use Rattle.text.proofs.Lists.{drop-sub-one}
 use Rattle.iso.proofs.Marks.{sign_here, sign_before}
 use Rattle.iso.proofs.cut.last_sign.Goals as goal
-
-pub loop-e-init : goal.loop-e-init
-loop-e-init c = let q = c.requires in ((q.0, q.1), q.2)
-
-pub bounds-s-e : goal.bounds-s-e
-bounds-s-e c = omega (arith, c.loop-e.invariant.0.0)
 
 -- a sign with a digit after it
 pub returns-then-is_sign-digit : goal.returns-then-is_sign-digit
@@ -24,10 +17,3 @@ loop-e-preserved c =
     let v = c.loop-e.invariant in
     let p = c.loop-e-test.true in
     (sign_before _ p v.0 v.1 (rw (← c.is_sign.ensures) c.if-is_sign-digit.false), rw (drop-sub-one _ _ p v.0.0) (sym c.is_digit-digit.ensures))
-
--- the front
-pub returns : goal.returns
-returns c = let e : c.loop-e.e ≡ 0 = omega arith in sym (rw e at c.loop-e.invariant.0.1)
-
-pub loop-e-smaller : goal.loop-e-smaller
-loop-e-smaller c = omega arith

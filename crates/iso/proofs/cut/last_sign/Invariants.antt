@@ -7,6 +7,3 @@ use Rattle.iso.proofs.cut.last_sign.Given as goal
 
 abbrev pub invariant-loop-e : goal.invariant-loop-e
 invariant-loop-e l = None is_offset l.s l.e × (is_digit (get_or (drop l.e l.s) 0 0) ≡ l.digit)
-
-abbrev pub decreases-loop-e : goal.decreases-loop-e
-decreases-loop-e l = l.e

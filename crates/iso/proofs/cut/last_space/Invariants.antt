@@ -4,6 +4,3 @@ use Rattle.iso.proofs.cut.last_space.Given as goal
 
 abbrev pub invariant-loop-e : goal.invariant-loop-e
 invariant-loop-e l = None (opens_with 32) l.s l.e
-
-abbrev pub decreases-loop-e : goal.decreases-loop-e
-decreases-loop-e l = l.e

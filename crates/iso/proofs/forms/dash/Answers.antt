@@ -7,6 +7,6 @@ pub returns-then-b-eq46 : goal.returns-then-b-eq46
 unfolding dash_of
 returns-then-b-eq46 c = rw (eq-eqb _ _ c.if-b-eq46.true)
 
-pub returns : goal.returns
+pub returns-else-b-eq46 : goal.returns-else-b-eq46
 unfolding dash_of
-returns c = rw (ne_eqb _ _ c.if-b-eq46.false)
+returns-else-b-eq46 c = rw (ne_eqb _ _ c.if-b-eq46.false)

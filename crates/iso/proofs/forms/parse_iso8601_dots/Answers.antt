@@ -3,38 +3,21 @@ use mathlib.Core.Path.{sym}
 use lib.Seq.{length-take-le}
 use Rattle.iso.proofs.FormFields.{dotted_short, dotted_no, dotted_four, dotted_seven, is_dotted-yes}
 use Rattle.iso.proofs.forms.parse_iso8601_dots.Goals as goal
-
--- too short
-pub returns-then-s-lt11 : goal.returns-then-s-lt11
-returns-then-s-lt11 c = record {
-  is = dotted_short _ c.if-s-lt11.true;
-  range = tt;
-}
+use Rattle.iso.proofs.forms.parse_iso8601_dots.Goals.{then-s-lt11-via-then-s-lt11, then-s-lt11-via-else-s-lt11+then-first_place-ne10, then-s-lt11-via-else-s-lt11+else-first_place-ne10+then-s-ne46, then-s-lt11-via-else-s-lt11+else-first_place-ne10+else-s-ne46+then-s-ne46-2}
 
 pub slice_bounds-first_place-end : goal.slice_bounds-first_place-end
 slice_bounds-first_place-end c =
     sym (length-take-le 11 c.args.s.now c.if-s-lt11.false)
 
--- the first space elsewhere
-pub returns-then-first_place-ne10 : goal.returns-then-first_place-ne10
-returns-then-first_place-ne10 c = record {
-  is = dotted_no _ _ c.first_place.ensures.0 c.if-first_place-ne10.true;
-  range = tt;
-}
-
--- no dot at place 4
-pub returns-then-s-ne46 : goal.returns-then-s-ne46
-returns-then-s-ne46 c = record {
-  is = dotted_four _ c.if-s-ne46.true;
-  range = tt;
-}
-
--- no dot at place 7
-pub returns-then-s-ne46-2 : goal.returns-then-s-ne46-2
-returns-then-s-ne46-2 c = record {
-  is = dotted_seven _ c.if-s-ne46.false c.if-s-ne46-2.true;
-  range = tt;
-}
+-- too short, the first space elsewhere, no dot at place 4 or 7
+pub returns-then-s-lt11-clause-is : goal.returns-then-s-lt11-clause-is
+returns-then-s-lt11-clause-is c =
+    elim c.then-s-lt11.branch [
+      | then-s-lt11-via-then-s-lt11 w ↦ dotted_short _ w.if-s-lt11.true
+      | then-s-lt11-via-else-s-lt11+then-first_place-ne10 w ↦ dotted_no _ _ w.first_place.ensures.0 w.if-first_place-ne10.true
+      | then-s-lt11-via-else-s-lt11+else-first_place-ne10+then-s-ne46 w ↦ dotted_four _ w.if-s-ne46.true
+      | then-s-lt11-via-else-s-lt11+else-first_place-ne10+else-s-ne46+then-s-ne46-2 w ↦ dotted_seven _ w.if-s-ne46.false w.if-s-ne46-2.true
+    ]
 
 pub dashed-requires : goal.dashed-requires
 dashed-requires c = record {

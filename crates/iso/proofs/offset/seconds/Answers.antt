@@ -1,48 +1,27 @@
 -- `iso::offset::seconds` meets its contract: no sum of a field's hours and minutes overflows.
+use Rattle.std.specs.Prelude.{Some}
 use mathlib.Core.Path.{ap, ◌∙◌}
-use lib.IntN.{pos, negsuc}
 use mir.Syntax.{w64}
-use mir.Val.{to_z, of_z}
-use Rattle.ints.proofs.Machine.{In_of_At, At, known, times, add, read, fits}
-use Rattle.text.specs.declared.number.Integer.TheVariants.{Is}
+use Rattle.ints.proofs.Machine.{In_of_At, known, times, add, read}
 use Rattle.iso.proofs.Offsets.{In_of_Within, offset_seconds-not-hours, offset_seconds-not-minutes, offset_seconds-value}
 use Rattle.iso.proofs.offset.seconds.Goals as goal
 
-hours : (c : goal.In-Is-m) → At (negsuc 98) (pos 99) c.in-Is.hours (to_z w64 (of_z w64 c.in-Is.hours))
-hours c =
-    known w64 tt (In_of_Within {k = 99} c.in-Is.is c.requires.0)
-
-minutes : (c : goal.In-Is-m) → At (negsuc 98) (pos 99) c.in-Is-m.minutes (to_z w64 (of_z w64 c.in-Is-m.minutes))
-minutes c =
-    known w64 tt (In_of_Within {k = 99} c.in-Is-m.is c.requires.1)
-
 -- no hours
-pub returns-in_default : goal.returns-in_default
-returns-in_default c = record {
-  is = offset_seconds-not-hours _ c.in_default.is;
-  range = tt;
-}
+pub returns-in_err-h-clause-is : goal.returns-in_err-h-clause-is
+returns-in_err-h-clause-is c =
+    c.from_residual.ensures ∙ offset_seconds-not-hours _ c.in_err-h.was
 
 -- no minutes
-pub returns-in_default-m : goal.returns-in_default-m
-returns-in_default-m c = record {
-  is = offset_seconds-not-minutes c.in-Is.is c.in_default-m.is;
-  range = tt;
-}
-
-pub overflow_mul-result : goal.overflow_mul-result
-overflow_mul-result c = fits w64 tt (times 3600 (hours c))
-
-pub overflow_mul-result-2 : goal.overflow_mul-result-2
-overflow_mul-result-2 c = fits w64 tt (times 60 (minutes c))
-
-pub overflow_add-result : goal.overflow_add-result
-overflow_add-result c = fits w64 tt (add (read w64 tt (times 3600 (hours c))) (read w64 tt (times 60 (minutes c))))
+pub returns-in_err-m-clause-is : goal.returns-in_err-m-clause-is
+returns-in_err-m-clause-is c =
+    c.from_residual-in_err-m.ensures ∙ offset_seconds-not-minutes c.in_ok-h.was c.in_err-m.was
 
 -- both
 pub returns : goal.returns
 returns c =
-    let z = read w64 tt (add (read w64 tt (times 3600 (hours c))) (read w64 tt (times 60 (minutes c)))) in record {
-      is = ap Is z.is ∙ offset_seconds-value c.in-Is.is c.in-Is-m.is;
+    let h = known w64 tt (In_of_Within {k = 99} c.in_ok-h.was c.requires.0) in
+    let m = known w64 tt (In_of_Within {k = 99} c.in_ok-m.was c.requires.1) in
+    let z = read w64 tt (add (read w64 tt (times 3600 h)) (read w64 tt (times 60 m))) in record {
+      is = ap Some z.is ∙ offset_seconds-value c.in_ok-h.was c.in_ok-m.was;
       range = In_of_At z;
     }

@@ -14,7 +14,6 @@ returns-then-rest-e c =
 
 pub answer_at-n-requires : goal.answer_at-n-requires
 answer_at-n-requires c = record {
-  months = c.requires;
   at_in_bounds = omega (arith, c.loop-rest.invariant.within, c.loop-rest.invariant.size);
 }
 

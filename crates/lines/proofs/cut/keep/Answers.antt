@@ -1,26 +1,32 @@
--- `lines::cut::keep` meets its contract. The invariant: the first n bytes are those from `from` on, all others are as they were. The
--- measure is what is left up to `end`.
+-- `lines::cut::keep` meets its contract: as many bytes are moved as are kept.
+use mathlib.Core.Path.{◌≡◌, ◌∙◌}
+use mathlib.Core.List.{◌++◌}
+use Prim.Native.Nat.{◌+◌, ◌-◌}
 use native.Mathlib.Omega.{arith}
-use Rattle.lines.proofs.Keeping.{moved_start, moved_again, kept_at_end, kept_at_length, kept_at_most}
+use lib.ListN.{length, take, drop}
+use Rattle.lines.specs.Lines.{held_part, kept}
+use Rattle.lines.proofs.Keeping.{length-kept, kept_is}
 use Rattle.lines.proofs.cut.keep.Goals as goal
 
-pub loop-at-init : goal.loop-at-init
-loop-at-init c = moved_start c.args.from c.args.end c.args.buffer.now
-
-pub returns-then-buffer-at : goal.returns-then-buffer-at
-returns-then-buffer-at c =
-    let all = kept_at_length c.loop-at.invariant c.if-buffer-at.true in record { value = all.0; buffer_after = all.1.0; upper_bound = all.1.1 }
-
-pub returns-then-n-ge-MAX_KEPT : goal.returns-then-n-ge-MAX_KEPT
-returns-then-n-ge-MAX_KEPT c =
-    let all = kept_at_most c.loop-at.invariant c.if-n-ge-MAX_KEPT.true in record { value = all.0; buffer_after = all.1.0; upper_bound = all.1.1 }
-
-pub bounds-buffer-n : goal.bounds-buffer-n
-bounds-buffer-n c = omega (arith, c.loop-at.invariant.place)
-
-pub loop-at-preserved : goal.loop-at-preserved
-loop-at-preserved c = moved_again c.loop-at.invariant c.loop-at-test.true c.if-buffer-at.false c.if-n-ge-MAX_KEPT.false
+-- nothing is held
+pub returns-then-end-from : goal.returns-then-end-from
+returns-then-end-from c =
+    let e : 0 ≡ length (kept (held_part c.args.buffer.now c.args.from c.args.end)) = omega (arith, length-kept c.args.from c.args.end c.args.buffer.now, c.min-end.ensures, c.if-end-from.true) in record {
+      value = e;
+      buffer_after = kept_is c.args.from c.args.end c.args.buffer.now e;
+      upper_bound = (omega arith, omega arith);
+    }
 
 pub returns : goal.returns
 returns c =
-    let all = kept_at_end c.loop-at.invariant c.loop-at-test.false in record { value = all.0; buffer_after = all.1.0; upper_bound = all.1.1 }
+    let was = c.args.buffer.now in
+    let from = c.args.from in
+    let end = c.args.end in
+    let n = c.min-n.result in
+    let e : n ≡ length (kept (held_part was from end)) = omega (arith, length-kept from end was, c.min-end.ensures, c.min-n.ensures, c.if-end-from.false) in
+    let m : from + n - from ≡ n = omega arith in
+    let z : 0 + (from + n - from) ≡ n = omega arith in record {
+      value = e;
+      buffer_after = c.copy_within.ensures.after ∙ (λ i. take (m i) (drop from was) ++ drop (z i) was) ∙ kept_is from end was e;
+      upper_bound = (omega (arith, c.min-n.ensures), omega (arith, c.min-n.ensures, c.min-end.ensures, c.if-end-from.false));
+    }

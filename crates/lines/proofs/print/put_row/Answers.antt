@@ -29,21 +29,21 @@ put_byte-requires c = (omega (arith, c.requires.0, length-row_bytes c.args.row),
 pub put_signed-offset_at-requires : goal.put_signed-offset_at-requires
 put_signed-offset_at-requires c =
     let row = c.args.row in
-    let o : to_z w64 (of_z w64 c.as_i64.result) ≡ row.offset = back w64 c.as_i64.result (omega arith) ∙ c.as_i64.ensures ∙ back w32 row.offset (omega arith) in
+    let o : to_z w64 (of_z w64 c.from.result) ≡ row.offset = back w64 c.from.result (omega arith) ∙ c.from.ensures ∙ back w32 row.offset (omega arith) in
     let k : c.args.end - 1 ≤ length c.args.out.now = omega (arith, c.requires.1) in
     (omega (arith, ap (λ (z : ℤ). length (signed z)) o, c.requires.0, length-row_bytes row), search rules)
 
 pub put_byte-requires-2 : goal.put_byte-requires-2
 put_byte-requires-2 c =
     let row = c.args.row in
-    let o : to_z w64 (of_z w64 c.as_i64.result) ≡ row.offset = back w64 c.as_i64.result (omega arith) ∙ c.as_i64.ensures ∙ back w32 row.offset (omega arith) in
+    let o : to_z w64 (of_z w64 c.from.result) ≡ row.offset = back w64 c.from.result (omega arith) ∙ c.from.ensures ∙ back w32 row.offset (omega arith) in
     let k : c.put_signed-offset_at.result ≤ length c.args.out.now = omega (arith, c.put_signed-offset_at.ensures.value, c.requires.1) in
     (omega (arith, offset_at row _ c.args.end _ o c.requires.0 c.put_signed-offset_at.ensures.value), search rules)
 
 pub put_signed-seconds_at-requires : goal.put_signed-seconds_at-requires
 put_signed-seconds_at-requires c =
     let row = c.args.row in
-    let o : to_z w64 (of_z w64 c.as_i64.result) ≡ row.offset = back w64 c.as_i64.result (omega arith) ∙ c.as_i64.ensures ∙ back w32 row.offset (omega arith) in
+    let o : to_z w64 (of_z w64 c.from.result) ≡ row.offset = back w64 c.from.result (omega arith) ∙ c.from.ensures ∙ back w32 row.offset (omega arith) in
     let s : to_z w64 (of_z w64 row.seconds) ≡ row.seconds = back w64 row.seconds (omega arith) in
     let k : c.put_signed-offset_at.result - 1 ≤ length c.args.out.now = omega (arith, c.put_signed-offset_at.ensures.value, c.requires.1) in
     (omega (arith, offset_at row _ c.args.end _ o c.requires.0 c.put_signed-offset_at.ensures.value, ap (λ (z : ℤ). length (signed z)) s), search rules)
@@ -51,7 +51,7 @@ put_signed-seconds_at-requires c =
 pub put_byte-requires-3 : goal.put_byte-requires-3
 put_byte-requires-3 c =
     let row = c.args.row in
-    let o : to_z w64 (of_z w64 c.as_i64.result) ≡ row.offset = back w64 c.as_i64.result (omega arith) ∙ c.as_i64.ensures ∙ back w32 row.offset (omega arith) in
+    let o : to_z w64 (of_z w64 c.from.result) ≡ row.offset = back w64 c.from.result (omega arith) ∙ c.from.ensures ∙ back w32 row.offset (omega arith) in
     let s : to_z w64 (of_z w64 row.seconds) ≡ row.seconds = back w64 row.seconds (omega arith) in
     let k : c.put_signed-seconds_at.result ≤ length c.args.out.now = omega (arith, c.put_signed-seconds_at.ensures.value, c.put_signed-offset_at.ensures.value, c.requires.1) in
     (omega (arith, seconds_at row _ _ c.args.end _ _ o s c.requires.0 c.put_signed-offset_at.ensures.value c.put_signed-seconds_at.ensures.value), search rules)
@@ -59,7 +59,7 @@ put_byte-requires-3 c =
 pub put_decimal-requires : goal.put_decimal-requires
 put_decimal-requires c =
     let row = c.args.row in
-    let o : to_z w64 (of_z w64 c.as_i64.result) ≡ row.offset = back w64 c.as_i64.result (omega arith) ∙ c.as_i64.ensures ∙ back w32 row.offset (omega arith) in
+    let o : to_z w64 (of_z w64 c.from.result) ≡ row.offset = back w64 c.from.result (omega arith) ∙ c.from.ensures ∙ back w32 row.offset (omega arith) in
     let s : to_z w64 (of_z w64 row.seconds) ≡ row.seconds = back w64 row.seconds (omega arith) in
     let k : c.put_signed-seconds_at.result - 1 ≤ length c.args.out.now = omega (arith, c.put_signed-seconds_at.ensures.value, c.put_signed-offset_at.ensures.value, c.requires.1) in
     (omega (arith, seconds_at row _ _ c.args.end _ _ o s c.requires.0 c.put_signed-offset_at.ensures.value c.put_signed-seconds_at.ensures.value), search rules)
@@ -67,7 +67,7 @@ put_decimal-requires c =
 pub returns : goal.returns
 returns c =
     let row = c.args.row in
-    let o : to_z w64 (of_z w64 c.as_i64.result) ≡ row.offset = back w64 c.as_i64.result (omega arith) ∙ c.as_i64.ensures ∙ back w32 row.offset (omega arith) in
+    let o : to_z w64 (of_z w64 c.from.result) ≡ row.offset = back w64 c.from.result (omega arith) ∙ c.from.ensures ∙ back w32 row.offset (omega arith) in
     let s : to_z w64 (of_z w64 row.seconds) ≡ row.seconds = back w64 row.seconds (omega arith) in
     row_put row c.args.out.now _ _ _ _ _ _ _ _ c.args.end _ _ s o c.requires.0 c.requires.1
     c.put_byte.ensures c.put_signed-offset_at.ensures.value c.put_signed-offset_at.ensures.room_after c.put_byte-2.ensures

@@ -14,7 +14,7 @@ pub returns : goal.returns
 returns c =
     let row = c.args.row in
     let s : to_z w64 (of_z w64 row.seconds) ≡ row.seconds = back w64 row.seconds (omega arith) in
-    let o : to_z w64 (of_z w64 c.as_i64.result) ≡ row.offset = back w64 c.as_i64.result (omega arith) ∙ c.as_i64.ensures ∙ back w32 row.offset (omega arith) in (
+    let o : to_z w64 (of_z w64 c.from.result) ≡ row.offset = back w64 c.from.result (omega arith) ∙ c.from.ensures ∙ back w32 row.offset (omega arith) in (
       omega (arith, length-row_bytes row, c.count_digits-number.ensures.0, c.signed_width-seconds.ensures.0, c.signed_width-offset.ensures.0, ap (λ (z : ℤ). length (signed z)) s, ap (λ (z : ℤ). length (signed z)) o),
       omega arith,
       omega (arith, c.count_digits-number.ensures.2, c.signed_width-seconds.ensures.2, c.signed_width-offset.ensures.2),

@@ -16,8 +16,8 @@ returns-then-out-n c = let n = c.row_width-n.ensures in
       upper_bound = (omega arith, λ h. absurd (omega (arith, h, n.2, c.if-out-n.true)));
     }
 
-pub returns : goal.returns
-returns c = let n = c.row_width-n.ensures in
+pub returns-else-out-n : goal.returns-else-out-n
+returns-else-out-n c = let n = c.row_width-n.ensures in
     let bytes = row_bytes c.args.row in
     let room = c.args.out.now in
     let e = le-leb (length bytes) (length room) (omega (arith, n.0, c.if-out-n.false)) in record {

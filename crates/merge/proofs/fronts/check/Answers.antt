@@ -1,21 +1,21 @@
 -- `merge::fronts::check` meets its contract: the first machine's front line before the second's.
+use Rattle.std.specs.Prelude.{Err}
+use Rattle.std.proofs.lemmas.Result.{err_from_is_err_and}
 use mathlib.Core.Path.{ap, ◌∙◌}
-use Rattle.relative.specs.Relative.{max_pairs}
-use Rattle.merge.specs.Lists.{or_else}
-use Rattle.merge.specs.Fronts.{front_of, front_fault, fronts_of}
+use Rattle.merge.specs.Fronts.{front_fault, fronts_of}
 use Rattle.merge.specs.declared.lists.Machine.TheVariants.{First, Second}
-use Rattle.merge.specs.declared.lists.Verdict.{Verdict}
+use Rattle.merge.proofs.Checked.{or_else_refused, or_else_passed}
 use Rattle.merge.proofs.fronts.check.Goals as goal
 
--- the first machine's is not bad: the answer is the second's
-pub returns-in-Good : goal.returns-in-Good
+-- the first machine's is bad
+pub returns-in_err-check_front : goal.returns-in_err-check_front
 unfolding fronts_of
-returns-in-Good c =
-    c.check_front.ensures ∙ ap (front_fault Second) c.front_of-in-Good.ensures
-    ∙ ap (λ (v : Verdict). or_else v (front_fault Second (front_of max_pairs c.args.second.now))) (c.in-Good.ensures ∙ ap (front_fault First) c.front_of.ensures)
+returns-in_err-check_front c =
+    let p = err_from_is_err_and c.from_residual.result c.from_residual.ensures.1 in
+    p.1 ∙ ap Err p.2 ∙ or_else_refused _ _ _ (c.in_err-check_front.ensures ∙ ap (front_fault First) c.front_of.ensures)
 
--- it is
-pub returns-in-Faulty : goal.returns-in-Faulty
+-- it is not: the answer is the second's
+pub returns : goal.returns
 unfolding fronts_of
-returns-in-Faulty c =
-    ap (λ (v : Verdict). or_else v (front_fault Second (front_of max_pairs c.args.second.now))) (c.in-Faulty.ensures ∙ ap (front_fault First) c.front_of.ensures)
+returns c =
+    or_else_passed _ _ _ (c.in_ok-check_front.ensures ∙ ap (front_fault First) c.front_of.ensures) (c.check_front-2.ensures ∙ ap (front_fault Second) c.front_of-2.ensures)

@@ -1,27 +1,33 @@
 -- `merge::lists::check` meets its contract: both lengths first, then the lines of the first machine, then those of the second.
-use mathlib.Core.Path.{sym, ap, ◌∙◌}
-use Rattle.relative.specs.Relative.{max_pairs}
-use Rattle.merge.specs.Lists.{lines_fault, or_else}
-use Rattle.merge.specs.declared.lists.Machine.TheVariants.{Second}
-use Rattle.merge.specs.declared.lists.Verdict.{Verdict}
-use Rattle.merge.proofs.ListLines.{first_too_long, second_too_long, lists_by_lines}
+use Rattle.std.specs.Prelude.{Err}
+use Rattle.std.proofs.lemmas.Result.{err_from_is_err_and}
+use mathlib.Core.Path.{ap, ◌∙◌}
+use Rattle.merge.specs.Lists.{lists_of}
+use Rattle.merge.proofs.Checked.{or_else_refused, or_else_passed}
 use Rattle.merge.proofs.lists.check.Goals as goal
 
-pub returns-then-first-gt-MAX_LIST : goal.returns-then-first-gt-MAX_LIST
-returns-then-first-gt-MAX_LIST c = first_too_long max_pairs c.args.first.now c.args.second.now c.if-first-gt-MAX_LIST.true
+pub returns-in_err-check_length : goal.returns-in_err-check_length
+unfolding lists_of
+returns-in_err-check_length c =
+    let p = err_from_is_err_and c.from_residual.result c.from_residual.ensures.1 in p.1 ∙ ap Err p.2 ∙ or_else_refused _ _ _ c.in_err-check_length.ensures
 
-pub returns-then-second-gt-MAX_LIST : goal.returns-then-second-gt-MAX_LIST
-returns-then-second-gt-MAX_LIST c =
-    second_too_long max_pairs c.args.first.now c.args.second.now c.if-first-gt-MAX_LIST.false c.if-second-gt-MAX_LIST.true
+pub returns-in_err-check_length-2 : goal.returns-in_err-check_length-2
+unfolding lists_of
+returns-in_err-check_length-2 c =
+    let p = err_from_is_err_and c.from_residual-in_err-check_length-2.result c.from_residual-in_err-check_length-2.ensures.1 in
+    or_else_passed _ _ _ c.in_ok-check_length.ensures (p.1 ∙ ap Err p.2 ∙ or_else_refused _ _ _ c.in_err-check_length-2.ensures)
 
--- the first list has no fault: the answer is the second's
-pub returns-in-Good : goal.returns-in-Good
-returns-in-Good c =
-    c.check_lines.ensures ∙ ap (λ (v : Verdict). or_else v (lines_fault max_pairs Second c.args.second.now)) (sym c.in-Good.is)
-    ∙ lists_by_lines max_pairs c.args.first.now c.args.second.now c.if-first-gt-MAX_LIST.false c.if-second-gt-MAX_LIST.false _ c.check_lines-lines.ensures
+-- the first list's lines
+pub returns-in_err-check_lines : goal.returns-in_err-check_lines
+unfolding lists_of
+returns-in_err-check_lines c =
+    let p = err_from_is_err_and c.from_residual-in_err-check_lines.result c.from_residual-in_err-check_lines.ensures.1 in
+    or_else_passed _ _ _ c.in_ok-check_length.ensures
+    (or_else_passed _ _ _ c.in_ok-check_length-2.ensures (p.1 ∙ ap Err p.2 ∙ or_else_refused _ _ _ c.in_err-check_lines.ensures))
 
--- it has one
-pub returns-in-Faulty : goal.returns-in-Faulty
-returns-in-Faulty c =
-    ap (λ (v : Verdict). or_else v (lines_fault max_pairs Second c.args.second.now)) (sym c.in-Faulty.is)
-    ∙ lists_by_lines max_pairs c.args.first.now c.args.second.now c.if-first-gt-MAX_LIST.false c.if-second-gt-MAX_LIST.false _ c.check_lines-lines.ensures
+-- and the second's
+pub returns : goal.returns
+unfolding lists_of
+returns c =
+    or_else_passed _ _ _ c.in_ok-check_length.ensures
+    (or_else_passed _ _ _ c.in_ok-check_length-2.ensures (or_else_passed _ _ _ c.in_ok-check_lines.ensures c.check_lines-2.ensures))

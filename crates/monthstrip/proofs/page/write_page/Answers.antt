@@ -18,15 +18,15 @@ returns-then-answered-ne0 c =
     let number : c.of_month-answered.result.number ≡ (strip_of c.args.year c.args.month).number = ap (λ (a : Answered). a.number) strip in
     let all = written_nothing c.args.year c.args.month c.args.room.now (λ e. c.if-answered-ne0.true (number ∙ e)) in record { value = all.0; room_after = all.1 }
 
-pub put_page-at-requires : goal.put_page-at-requires
-put_page-at-requires c =
+pub put_strip-requires-clause-month : goal.put_strip-requires-clause-month
+put_strip-requires-clause-month c =
     let strip : c.of_month-answered.result ≡ strip_of c.args.year c.args.month =
     rw (to_z-of_z {w = w64} c.ranges.year, to_z-of_z {w = w64} c.ranges.month) at c.of_month-answered.ensures in
     let number : c.of_month-answered.result.number ≡ (strip_of c.args.year c.args.month).number = ap (λ (a : Answered). a.number) strip in
     let month : c.magnitude.result ≡ nat_abs c.args.month = rw (to_z-of_z {w = w64} c.ranges.month) at c.magnitude.ensures in
-    (omega (arith, month, nat_abs-pos c.args.year c.args.month (sym number ∙ c.if-answered-ne0.false)), omega (arith, c.empty_page-page.ensures))
+    omega (arith, month, nat_abs-pos c.args.year c.args.month (sym number ∙ c.if-answered-ne0.false))
 
--- what the array holds from the page's place on is the page of the strip that the library answered
+-- what is written of the page is the page of the strip that the library answered
 pub returns : goal.returns
 unfolding page_bytes
 returns c =
@@ -34,6 +34,6 @@ returns c =
     rw (to_z-of_z {w = w64} c.ranges.year, to_z-of_z {w = w64} c.ranges.month) at c.of_month-answered.ensures in
     let number : c.of_month-answered.result.number ≡ (strip_of c.args.year c.args.month).number = ap (λ (a : Answered). a.number) strip in
     let month : c.magnitude.result ≡ nat_abs c.args.month = rw (to_z-of_z {w = w64} c.ranges.month) at c.magnitude.ensures in
-    let page : c.from.result.now ≡ page_bytes c.args.year c.args.month =
-    c.from.ensures ∙ (rw (to_z-of_z {w = w64} c.ranges.year) at c.put_page-at.ensures) ∙ (λ i. page_of c.args.year (month i) (strip i).strip) in
+    let page : c.written.result.now ≡ page_bytes c.args.year c.args.month =
+    c.written.ensures ∙ (rw (to_z-of_z {w = w64} c.ranges.year) at c.put_strip.ensures) ∙ (λ i. page_of c.args.year (month i) (strip i).strip) in
     let all = written_page c.args.year c.args.month c.args.room.now _ _ _ (sym number ∙ c.if-answered-ne0.false) page c.write_whole.ensures.value c.write_whole.ensures.room_after in record { value = all.0; room_after = all.1 }

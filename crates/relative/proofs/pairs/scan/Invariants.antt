@@ -9,9 +9,9 @@ use Rattle.relative.specs.Held.{answer_of}
 use Rattle.relative.proofs.Scanning.{left, Scanned}
 use Rattle.relative.proofs.pairs.scan.Given as goal
 
-abbrev pub invariant-loop-x : goal.invariant-loop-x
-invariant-loop-x l =
-    (l.n ≤ l.w.at) × MovedInRange l.at × Scanned max_pairs l.s (answer_of l.fn.start) l.n l.known l.ago (answer_of l.at) (left l.s l.w.at)
+abbrev pub invariant-loop-span : goal.invariant-loop-span
+invariant-loop-span l =
+    (l.number ≤ l.reader.at) × MovedInRange l.landing × Scanned max_pairs l.s (answer_of l.fn.start) l.number l.known l.ago (answer_of l.landing) (left l.s l.reader.at)
 
-abbrev pub decreases-loop-x : goal.decreases-loop-x
-decreases-loop-x l = length l.s - l.w.at
+abbrev pub decreases-loop-span : goal.decreases-loop-span
+decreases-loop-span l = length l.s - l.reader.at

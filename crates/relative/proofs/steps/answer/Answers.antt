@@ -3,9 +3,7 @@ use mathlib.Core.Path.{◌∙◌}
 use Rattle.time.proofs.Ranges.{answer_at_of_InRange}
 use Rattle.relative.proofs.steps.answer.Goals as goal
 
-pub returns-in-In : goal.returns-in-In
-returns-in-In c =
-    rw c.in-In.is (c.time_of.ensures ∙ answer_at_of_InRange _ (rw c.in-In.is at c.requires))
-
-pub returns-in-Nothing : goal.returns-in-Nothing
-returns-in-Nothing c = rw c.in-Nothing.is
+pub returns : goal.returns
+returns c =
+    let is = c.in_ok-ok_or.ensures.ok_part in
+    rw is (c.time_of.ensures ∙ answer_at_of_InRange _ (rw is at c.requires))

@@ -1,31 +1,25 @@
 -- `relative::steps::seconds_back` meets its contract: where the difference would be below 0, the landing is below the range.
-use mathlib.Core.Path.{sym, ◌∙◌}
+use mathlib.Core.Path.{sym}
 use Prim.Native.Nat.{◌*◌, ◌≤◌}
 use native.Mathlib.Omega.{arith}
-use borrow.Author.Tests.{leb-true, leb-false}
 use Rattle.time.proofs.Ranges.{since1970-sub}
 use Rattle.relative.proofs.Landing.{seconds_far}
 use Rattle.relative.proofs.steps.seconds_back.Goals as goal
 
-pub overflow_mul-n : goal.overflow_mul-n
-overflow_mul-n c =
+-- a product of more than 64 bits
+pub returns-in_err-back-clause-is : goal.returns-in_err-back-clause-is
+returns-in_err-back-clause-is c =
     let a = c.args in
-    omega (arith, leb-true (a.n * a.k) a.i.seconds (sym c.product_within.ensures ∙ c.if-product_within.true))
+    rw c.from_residual.ensures (sym (seconds_far a.from.seconds (a.count * a.size) _ (omega (arith, c.in_err-back.ensures, c.requires.late))))
 
-pub overflow_sub-t : goal.overflow_sub-t
-overflow_sub-t c = leb-true _ _ (sym c.product_within.ensures ∙ c.if-product_within.true)
-
-pub returns-then-product_within : goal.returns-then-product_within
-returns-then-product_within c =
+-- a difference below 0
+pub returns-in_err-seconds-clause-is : goal.returns-in_err-seconds-clause-is
+returns-in_err-seconds-clause-is c =
     let a = c.args in
-    let le : a.n * a.k ≤ a.i.seconds = leb-true _ _ (sym c.product_within.ensures ∙ c.if-product_within.true) in record {
-      is = rw (← since1970-sub _ _ le) c.if_in_range.ensures.is;
-      range = c.if_in_range.ensures.range;
-    }
+    rw c.from_residual-in_err-seconds.ensures (sym (seconds_far a.from.seconds (a.count * a.size) _ (omega (arith, c.in_ok-back.ensures.1, c.in_err-seconds.ensures))))
 
-pub returns : goal.returns
-returns c =
-    let a = c.args in record {
-      is = sym (seconds_far a.i.seconds (a.n * a.k) _ (leb-false _ _ (sym c.product_within.ensures ∙ c.if-product_within.false)));
-      range = tt;
-    }
+pub returns-clause-is : goal.returns-clause-is
+returns-clause-is c =
+    let a = c.args in
+    let le : a.count * a.size ≤ a.from.seconds = omega (arith, c.in_ok-back.ensures.1, c.in_ok-seconds.ensures.0) in
+    rw (← since1970-sub _ _ le) (rw (c.in_ok-seconds.ensures.1, c.in_ok-back.ensures.1) at c.if_in_range.ensures.is)

@@ -1,36 +1,21 @@
--- `relative::words::unit_named` meets its contract. At each return the tests that failed before it, and the one that led there, compute
--- what the names give.
-use Rattle.relative.specs.Words.{unit_named}
+-- `relative::words::unit_named` meets its contract.
+use Rattle.std.specs.Prelude.{map}
+use Rattle.std.specs.Option.{unwrap_or}
+use Prim.Native.String.{String}
+use mathlib.Core.Path.{◌≡◌, refl}
+use mathlib.Core.List.{List, [], ◌∷◌}
+use Prim.Native.Nat.{ℕ}
+use Rattle.text.specs.Quote.{bytes}
+use Rattle.text.proofs.Lists.{by_test}
+use Rattle.relative.specs.Words.{is, value_among, unit_among, unit_names, unit_named}
+use Rattle.relative.specs.declared.pair.Unit.{Unit}
+use Rattle.relative.specs.declared.pair.Unit.TheVariants.{Unknown}
 use Rattle.relative.proofs.words.unit_named.Goals as goal
 
-pub returns-then-same_ignoring_case : goal.returns-then-same_ignoring_case
-unfolding unit_named
-returns-then-same_ignoring_case c = rw (← c.same_ignoring_case.ensures, c.if-same_ignoring_case.true)
-
-pub returns-then-same_ignoring_case-2 : goal.returns-then-same_ignoring_case-2
-unfolding unit_named
-returns-then-same_ignoring_case-2 c = rw (← c.same_ignoring_case.ensures, c.if-same_ignoring_case.false, ← c.same_ignoring_case-2.ensures, c.if-same_ignoring_case-2.true)
-
-pub returns-then-same_ignoring_case-3 : goal.returns-then-same_ignoring_case-3
-unfolding unit_named
-returns-then-same_ignoring_case-3 c = rw (← c.same_ignoring_case.ensures, c.if-same_ignoring_case.false, ← c.same_ignoring_case-2.ensures, c.if-same_ignoring_case-2.false, ← c.same_ignoring_case-3.ensures, c.if-same_ignoring_case-3.true)
-
-pub returns-then-same_ignoring_case-4 : goal.returns-then-same_ignoring_case-4
-unfolding unit_named
-returns-then-same_ignoring_case-4 c = rw (← c.same_ignoring_case.ensures, c.if-same_ignoring_case.false, ← c.same_ignoring_case-2.ensures, c.if-same_ignoring_case-2.false, ← c.same_ignoring_case-3.ensures, c.if-same_ignoring_case-3.false, ← c.same_ignoring_case-4.ensures, c.if-same_ignoring_case-4.true)
-
-pub returns-then-same_ignoring_case-5 : goal.returns-then-same_ignoring_case-5
-unfolding unit_named
-returns-then-same_ignoring_case-5 c = rw (← c.same_ignoring_case.ensures, c.if-same_ignoring_case.false, ← c.same_ignoring_case-2.ensures, c.if-same_ignoring_case-2.false, ← c.same_ignoring_case-3.ensures, c.if-same_ignoring_case-3.false, ← c.same_ignoring_case-4.ensures, c.if-same_ignoring_case-4.false, ← c.same_ignoring_case-5.ensures, c.if-same_ignoring_case-5.true)
-
-pub returns-then-same_ignoring_case-6 : goal.returns-then-same_ignoring_case-6
-unfolding unit_named
-returns-then-same_ignoring_case-6 c = rw (← c.same_ignoring_case.ensures, c.if-same_ignoring_case.false, ← c.same_ignoring_case-2.ensures, c.if-same_ignoring_case-2.false, ← c.same_ignoring_case-3.ensures, c.if-same_ignoring_case-3.false, ← c.same_ignoring_case-4.ensures, c.if-same_ignoring_case-4.false, ← c.same_ignoring_case-5.ensures, c.if-same_ignoring_case-5.false, ← c.same_ignoring_case-6.ensures, c.if-same_ignoring_case-6.true)
-
-pub returns-then-same_ignoring_case-7 : goal.returns-then-same_ignoring_case-7
-unfolding unit_named
-returns-then-same_ignoring_case-7 c = rw (← c.same_ignoring_case.ensures, c.if-same_ignoring_case.false, ← c.same_ignoring_case-2.ensures, c.if-same_ignoring_case-2.false, ← c.same_ignoring_case-3.ensures, c.if-same_ignoring_case-3.false, ← c.same_ignoring_case-4.ensures, c.if-same_ignoring_case-4.false, ← c.same_ignoring_case-5.ensures, c.if-same_ignoring_case-5.false, ← c.same_ignoring_case-6.ensures, c.if-same_ignoring_case-6.false, ← c.same_ignoring_case-7.ensures, c.if-same_ignoring_case-7.true)
+unit_among-value_among : (ns : List (String × Unit)) (w : List ℕ) → unwrap_or (value_among (map (λ n. (bytes n.0, n.1)) ns) w) Unknown ≡ unit_among ns w
+unit_among-value_among [] w = refl
+unit_among-value_among (n ∷ ns) w = by_test (is w n.0) (λ e. rw e) (λ e. rw e (unit_among-value_among ns w))
 
 pub returns : goal.returns
 unfolding unit_named
-returns c = rw (← c.same_ignoring_case.ensures, c.if-same_ignoring_case.false, ← c.same_ignoring_case-2.ensures, c.if-same_ignoring_case-2.false, ← c.same_ignoring_case-3.ensures, c.if-same_ignoring_case-3.false, ← c.same_ignoring_case-4.ensures, c.if-same_ignoring_case-4.false, ← c.same_ignoring_case-5.ensures, c.if-same_ignoring_case-5.false, ← c.same_ignoring_case-6.ensures, c.if-same_ignoring_case-6.false, ← c.same_ignoring_case-7.ensures, c.if-same_ignoring_case-7.false)
+returns c = rw (c.unwrap_or.ensures, c.value_of.ensures) (unit_among-value_among unit_names c.args.word.now)

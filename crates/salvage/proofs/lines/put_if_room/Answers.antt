@@ -10,8 +10,8 @@ returns-then-room-end c = record {
   room_after = put_none c.args.part.now c.args.room.now c.args.at c.if-room-end.true;
 }
 
-pub returns : goal.returns
-returns c = record {
+pub returns-else-room-end : goal.returns-else-room-end
+returns-else-room-end c = record {
   value = c.put_part.ensures.value;
   room_after = put_all c.args.part.now c.args.room.now _ c.args.at c.if-room-end.false c.put_part.ensures.room_after;
 }

@@ -25,6 +25,6 @@ put_text-requires c =
 pub returns : goal.returns
 returns c =
     let name : c.up_to.result.now ≡ take 4096 (name_of (bytes "standard input") c.path_of.result.now) = c.up_to.ensures ∙ ap (take 4096) c.name_of-name.ensures in
-    message_put c.args.machine c.args.fault c.args.first.now c.args.second.now _ _ _ _
+    message_put c.args.error.machine c.args.error.fault c.args.first.now c.args.second.now _ _ _ _
     (name ∙ ap (λ (p : List ℕ). take 4096 (name_of (bytes "standard input") p)) c.path_of.ensures) (drop-length c.args.room.now)
     c.put_fault-at.ensures.room_after c.put_text.ensures.room_after

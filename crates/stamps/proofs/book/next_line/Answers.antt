@@ -1,51 +1,37 @@
--- `stamps::book::next_line` meets its contract, by the kind of the line.
+-- `stamps::book::next_line` meets its contract: no good line, one without its newline, and one by its kind.
+use Rattle.std.specs.Prelude.{Some, None}
 use mathlib.Core.Path.{sym, ap, ◌∙◌}
+use mathlib.Core.Bool.{false}
 use mir.Syntax.{w64}
 use mir.Val.{SFits}
 use mir.ValLaws.{to_z-of_z}
-use lib.IntN.{ℤ}
+use Prim.Native.Nat.{◌+◌}
 use borrow.Author.Rules.{rules}
-use Rattle.text.specs.declared.number.Integer.TheVariants.{Is}
-use Rattle.stamps.specs.Lines.{is_good}
-use Rattle.stamps.specs.Listing.{is_at_or_after, is_listed, cut_off_in}
-use Rattle.stamps.proofs.Books.{next_size, next_none}
+use Rattle.relative.specs.Relative.{max_pairs}
+use Rattle.stamps.specs.Listing.{is_at_or_after}
+use Rattle.stamps.specs.Held.{next_at}
+use Rattle.stamps.specs.declared.line.Line.{Line}
+use Rattle.stamps.proofs.Books.{next_good, next_open}
 use Rattle.stamps.proofs.book.next_line.Goals as goal
+
+pub returns-then-s-first : goal.returns-then-s-first
+returns-then-s-first c = next_open max_pairs c.args.s.now c.args.cut_off c.in_ok-first.first (sym c.first_line.ensures ∙ c.in_ok-first.was) c.if-s-first.true
 
 -- a hull
 pub returns-in-Hull : goal.returns-in-Hull
 returns-in-Hull c =
-    let first = c.first_line-first.ensures in
-    let cut_off = c.args.cut_off in
-    let hull = c.in-Hull.is in
     let seconds : SFits w64 c.in-Hull.hull.time.seconds = search rules in
-    record {
-      size_is = next_size first _ (ap is_good hull) c.size_with_newline.ensures;
-      listed_is = c.is_at_or_after.ensures ∙ ap (λ (z : ℤ). is_at_or_after cut_off z) (to_z-of_z w64 _ seconds)
-          ∙ ap (is_listed cut_off) (sym hull ∙ first.line_is);
-      cut_off_is = ap cut_off_in (sym hull ∙ first.line_is);
-    }
+    let n = c.in_ok-first.first.length + 1 in
+    let listed = c.is_at_or_after.ensures ∙ ap (is_at_or_after c.args.cut_off) (to_z-of_z w64 _ seconds) in
+    (λ i. Some (record { size = n; listed = listed i; cut_off = None }))
+    ∙ ap (λ (l : Line). Some (next_at n c.args.cut_off (Some l))) (sym c.in-Hull.is)
+    ∙ next_good max_pairs c.args.s.now c.args.cut_off c.in_ok-first.first (sym c.first_line.ensures ∙ c.in_ok-first.was) c.if-s-first.false
 
--- a cut_off
+-- a cut-off
 pub returns-in-Since : goal.returns-in-Since
 returns-in-Since c =
-    let first = c.first_line-first.ensures in
-    let cut_off = c.args.cut_off in
-    let since = c.in-Since.is in
     let seconds : SFits w64 c.in-Since.since.cut_off.seconds = search rules in
-    record {
-      size_is = next_size first _ (ap is_good since) c.size_with_newline-in-Since.ensures;
-      listed_is = ap (is_listed cut_off) (sym since ∙ first.line_is);
-      cut_off_is = ap Is (to_z-of_z w64 _ seconds) ∙ ap cut_off_in (sym since ∙ first.line_is);
-    }
-
--- a bad line
-pub returns-in-Bad : goal.returns-in-Bad
-returns-in-Bad c =
-    let first = c.first_line-first.ensures in
-    let cut_off = c.args.cut_off in
-    let bad = c.in-Bad.is in
-    record {
-      size_is = next_none first bad;
-      listed_is = ap (is_listed cut_off) (sym bad ∙ first.line_is);
-      cut_off_is = ap cut_off_in (sym bad ∙ first.line_is);
-    }
+    let n = c.in_ok-first.first.length + 1 in
+    (λ i. Some (record { size = n; listed = false; cut_off = Some (to_z-of_z w64 _ seconds i) }))
+    ∙ ap (λ (l : Line). Some (next_at n c.args.cut_off (Some l))) (sym c.in-Since.is)
+    ∙ next_good max_pairs c.args.s.now c.args.cut_off c.in_ok-first.first (sym c.first_line.ensures ∙ c.in_ok-first.was) c.if-s-first.false

@@ -13,7 +13,7 @@ overflow_sub-path c = omega (arith, le-past is_path_byte c.args.s.now 5, c.past-
 
 -- a path that is empty or too long
 pub returns-then-path : goal.returns-then-path
-returns-then-path c = ends_bad c.bad.ensures (hull_no_path _ _ c.past-path_end.ensures c.if-path.true)
+returns-then-path c = ends_bad c.args.s.now 5 (hull_no_path _ _ c.past-path_end.ensures c.if-path.true)
 
 pub keyed_hull-requires : goal.keyed_hull-requires
 keyed_hull-requires c =
@@ -29,8 +29,8 @@ returns-then-is_at c =
     ends_behind (path_ends s _ c.past-path_end.ensures o) (hull_keyed s _ c.past-path_end.ensures o) c.keyed_hull.ensures
 
 -- a path that no tab follows
-pub returns : goal.returns
-returns c =
+pub returns-else-is_at : goal.returns-else-is_at
+returns-else-is_at c =
     let s = c.args.s.now in
     let o = opens_with-drop tab s c.past-path_end.result ∙ sym c.is_at.ensures ∙ c.if-is_at.false in
-    ends_bad c.bad-2.ensures (hull_no_tab s _ c.past-path_end.ensures o)
+    ends_bad c.args.s.now 5 (hull_no_tab s _ c.past-path_end.ensures o)

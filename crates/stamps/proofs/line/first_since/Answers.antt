@@ -12,7 +12,6 @@ pub dated_since-requires : goal.dated_since-requires
 dated_since-requires c =
     let s = c.args.s.now in
     let o = opens_with-drop tab s c.past-text_end.result ∙ sym c.is_at.ensures ∙ c.if-is_at.true in record {
-      months = c.requires;
       le_text_end = (omega (arith, le-past is_text_byte s 6, c.past-text_end.ensures), lt-length_of_opens_with tab s _ o);
     }
 
@@ -24,8 +23,8 @@ returns-then-is_at c =
     ends_behind (text_ends s _ c.past-text_end.ensures o) (since_dated s _ c.past-text_end.ensures o _) c.dated_since.ensures
 
 -- a text that no tab follows
-pub returns : goal.returns
-returns c =
+pub returns-else-is_at : goal.returns-else-is_at
+returns-else-is_at c =
     let s = c.args.s.now in
     let o = opens_with-drop tab s c.past-text_end.result ∙ sym c.is_at.ensures ∙ c.if-is_at.false in
-    ends_bad c.bad.ensures (since_no_tab s _ c.past-text_end.ensures _ o)
+    ends_bad c.args.s.now 6 (since_no_tab s _ c.past-text_end.ensures _ o)

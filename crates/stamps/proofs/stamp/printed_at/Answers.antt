@@ -4,4 +4,4 @@ use Rattle.stamps.proofs.stamp.printed_at.Goals as goal
 
 pub returns : goal.returns
 returns c =
-    OpensPrinted_of_width _ _ _ _ _ c.leading_integer-read.ensures (rw c.plain.ensures at c.if_width.ensures)
+    OpensPrinted_of_width _ _ _ _ _ c.leading_integer-read.ensures (rw c.ok.ensures.value at c.if_width.ensures)

@@ -31,8 +31,8 @@ returns-then-room-text-2 c =
     let t = c.args.current in
     let f : SFits w64 t.seconds = search rules in
     let g : SFits w32 t.offset = search rules in
-    let h : SFits w64 c.as_i64.result = search rules in
-    let w = width_is c.args.text.now t _ _ _ _ (to_z-of_z w64 t.seconds f) (to_z-of_z w64 c.as_i64.result h ∙ c.as_i64.ensures ∙ to_z-of_z w32 t.offset g)
+    let h : SFits w64 c.from.result = search rules in
+    let w = width_is c.args.text.now t _ _ _ _ (to_z-of_z w64 t.seconds f) (to_z-of_z w64 c.from.result h ∙ c.from.ensures ∙ to_z-of_z w32 t.offset g)
     c.signed_width.ensures.0 c.signed_width-2.ensures.0 in
     let all = wrote_too_short (since_line c.args.text.now c.args.current) c.args.room.now refl
     (omega (arith, c.if-room-text-2.true, c.if-room-text.false, w)) in record { value = all.0; room_after = all.1 }
@@ -42,8 +42,8 @@ put_since-requires c =
     let t = c.args.current in
     let f : SFits w64 t.seconds = search rules in
     let g : SFits w32 t.offset = search rules in
-    let h : SFits w64 c.as_i64.result = search rules in
-    let w = width_is c.args.text.now t _ _ _ _ (to_z-of_z w64 t.seconds f) (to_z-of_z w64 c.as_i64.result h ∙ c.as_i64.ensures ∙ to_z-of_z w32 t.offset g)
+    let h : SFits w64 c.from.result = search rules in
+    let w = width_is c.args.text.now t _ _ _ _ (to_z-of_z w64 t.seconds f) (to_z-of_z w64 c.from.result h ∙ c.from.ensures ∙ to_z-of_z w32 t.offset g)
     c.signed_width.ensures.0 c.signed_width-2.ensures.0 in
     omega (arith, c.if-room-text-2.false, c.if-room-text.false, w)
 
@@ -52,8 +52,8 @@ returns c =
     let t = c.args.current in
     let f : SFits w64 t.seconds = search rules in
     let g : SFits w32 t.offset = search rules in
-    let h : SFits w64 c.as_i64.result = search rules in
-    let w = width_is c.args.text.now t _ _ _ _ (to_z-of_z w64 t.seconds f) (to_z-of_z w64 c.as_i64.result h ∙ c.as_i64.ensures ∙ to_z-of_z w32 t.offset g)
+    let h : SFits w64 c.from.result = search rules in
+    let w = width_is c.args.text.now t _ _ _ _ (to_z-of_z w64 t.seconds f) (to_z-of_z w64 c.from.result h ∙ c.from.ensures ∙ to_z-of_z w32 t.offset g)
     c.signed_width.ensures.0 c.signed_width-2.ensures.0 in
     let all = wrote_line (since_line c.args.text.now c.args.current) c.args.room.now refl _ _
     (sym w) (omega (arith, c.if-room-text-2.false, c.if-room-text.false)) c.put_since.ensures in record { value = all.0; room_after = all.1 }

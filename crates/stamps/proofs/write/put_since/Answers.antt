@@ -50,9 +50,9 @@ put_number_field-at-requires-2 c =
     subst (λ (z : ℤ). Front (bytes "since" ++ tab ∷ a.text.now ++ tab ∷ signed z) a.room.now c.put_number_field-at.new.room c.put_number_field-at.result) z
     (front-append _ text c.put_number_field-at.ensures.room_after c.put_number_field-at.ensures.value) in
     let g : SFits w32 a.current.offset = search rules in
-    let h : SFits w64 c.as_i64.result = search rules in
-    let o = to_z-of_z w64 c.as_i64.result h ∙ c.as_i64.ensures ∙ to_z-of_z w32 a.current.offset g in
-    let w = tab ∷ signed (to_z w64 (of_z w64 c.as_i64.result)) in
+    let h : SFits w64 c.from.result = search rules in
+    let o = to_z-of_z w64 c.from.result h ∙ c.from.ensures ∙ to_z-of_z w32 a.current.offset g in
+    let w = tab ∷ signed (to_z w64 (of_z w64 c.from.result)) in
     let front = bytes "since" ++ tab ∷ a.text.now ++ tab ∷ signed a.current.seconds in
     front_room w seconds
     (omega (arith, c.requires, ap (λ (z : ℤ). length (signed z)) o, length-append front w, length-append front (tab ∷ signed a.current.offset), length-append (since_line a.text.now a.current) (newline ∷ [])))
@@ -69,8 +69,8 @@ put_part-requires c =
     subst (λ (z : ℤ). Front (bytes "since" ++ tab ∷ a.text.now ++ tab ∷ signed z) a.room.now c.put_number_field-at.new.room c.put_number_field-at.result) z
     (front-append _ text c.put_number_field-at.ensures.room_after c.put_number_field-at.ensures.value) in
     let g : SFits w32 a.current.offset = search rules in
-    let h : SFits w64 c.as_i64.result = search rules in
-    let o = to_z-of_z w64 c.as_i64.result h ∙ c.as_i64.ensures ∙ to_z-of_z w32 a.current.offset g in
+    let h : SFits w64 c.from.result = search rules in
+    let o = to_z-of_z w64 c.from.result h ∙ c.from.ensures ∙ to_z-of_z w32 a.current.offset g in
     let offset =
     subst (λ (z : ℤ). Front (bytes "since" ++ tab ∷ a.text.now ++ tab ∷ signed a.current.seconds ++ tab ∷ signed z) a.room.now c.put_number_field-at-2.new.room c.put_number_field-at-2.result) o
     (front-append _ seconds c.put_number_field-at-2.ensures.room_after c.put_number_field-at-2.ensures.value) in
@@ -88,8 +88,8 @@ returns c =
     subst (λ (z : ℤ). Front (bytes "since" ++ tab ∷ a.text.now ++ tab ∷ signed z) a.room.now c.put_number_field-at.new.room c.put_number_field-at.result) z
     (front-append _ text c.put_number_field-at.ensures.room_after c.put_number_field-at.ensures.value) in
     let g : SFits w32 a.current.offset = search rules in
-    let h : SFits w64 c.as_i64.result = search rules in
-    let o = to_z-of_z w64 c.as_i64.result h ∙ c.as_i64.ensures ∙ to_z-of_z w32 a.current.offset g in
+    let h : SFits w64 c.from.result = search rules in
+    let o = to_z-of_z w64 c.from.result h ∙ c.from.ensures ∙ to_z-of_z w32 a.current.offset g in
     let offset =
     subst (λ (z : ℤ). Front (bytes "since" ++ tab ∷ a.text.now ++ tab ∷ signed a.current.seconds ++ tab ∷ signed z) a.room.now c.put_number_field-at-2.new.room c.put_number_field-at-2.result) o
     (front-append _ seconds c.put_number_field-at-2.ensures.room_after c.put_number_field-at-2.ensures.value) in

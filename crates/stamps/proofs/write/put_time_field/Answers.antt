@@ -6,8 +6,6 @@ use Rattle.time.specs.Header.{header_bytes}
 use Rattle.text.proofs.Behind.{put_at-behind}
 use Rattle.stamps.proofs.write.put_time_field.Goals as goal
 
-pub returns : goal.returns
-returns c = record {
-  value = omega (arith, c.put_time.ensures.value, c.put_part-next.ensures.value);
-  room_after = put_at-behind (tab ∷ []) (header_bytes c.args.time) c.args.room.now _ _ c.args.at _ (omega arith) c.put_part-next.ensures.value c.put_part-next.ensures.room_after c.put_time.ensures.room_after;
-}
+pub returns-clause-room_after : goal.returns-clause-room_after
+returns-clause-room_after c =
+    put_at-behind (tab ∷ []) (header_bytes c.args.time) c.args.room.now _ _ c.args.at _ (omega arith) c.put_part-next.ensures.value c.put_part-next.ensures.room_after c.put_time.ensures.room_after

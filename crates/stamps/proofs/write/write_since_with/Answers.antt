@@ -12,7 +12,7 @@ returns-then-is_since c =
     let good : is_since max_pairs c.args.text.now c.args.current ≡ true = sym c.is_since.ensures ∙ c.if-is_since.true in
     record { value = rw good c.put_if_fits.ensures.value; room_after = rw good c.put_if_fits.ensures.room_after }
 
-pub returns : goal.returns
+pub returns-else-is_since : goal.returns-else-is_since
 unfolding since_written
-returns c =
+returns-else-is_since c =
     let all = wrote_nothing (since_line c.args.text.now c.args.current) c.args.room.now (sym c.is_since.ensures ∙ c.if-is_since.false) in record { value = all.0; room_after = all.1 }

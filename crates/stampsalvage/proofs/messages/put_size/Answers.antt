@@ -18,8 +18,8 @@ put_part-requires c =
     let words = size_words-one size _ c.same.ensures c.if-same.true in
     omega (arith, c.requires, c.put_part-next.ensures.value, ap length words, length-append size (bytes " byte dropped\n"))
 
-pub put_part-requires-2 : goal.put_part-requires-2
-put_part-requires-2 c =
+pub put_part-requires-else-same : goal.put_part-requires-else-same
+put_part-requires-else-same c =
     let size = c.args.size.now in
     let words = size_words-more size _ c.same.ensures c.if-same.false in
     omega (arith, c.requires, c.put_part-next.ensures.value, ap length words, length-append size (bytes " bytes dropped\n"))
@@ -31,9 +31,9 @@ returns-then-same c =
     let words-put = c.put_part.ensures in
     let all = size_put size (bytes " byte dropped\n") c.args.room.now _ _ c.args.at _ _ (omega (arith, c.requires)) (size_words-one size _ c.same.ensures c.if-same.true) put.value put.room_after words-put.value words-put.room_after in record { value = all.0; room_after = all.1 }
 
-pub returns : goal.returns
-returns c =
+pub returns-else-same : goal.returns-else-same
+returns-else-same c =
     let size = c.args.size.now in
     let put = c.put_part-next.ensures in
-    let words-put = c.put_part-2.ensures in
+    let words-put = c.put_part-else-same.ensures in
     let all = size_put size (bytes " bytes dropped\n") c.args.room.now _ _ c.args.at _ _ (omega (arith, c.requires)) (size_words-more size _ c.same.ensures c.if-same.false) put.value put.room_after words-put.value words-put.room_after in record { value = all.0; room_after = all.1 }

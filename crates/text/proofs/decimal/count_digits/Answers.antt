@@ -7,10 +7,10 @@ use native.Mathlib.Nat.{pow-suc, not-suc-le-zero}
 use native.Mathlib.Omega.{arith}
 use borrow.Author.Tests.{ltb-true, ltb-false}
 use lib.Bits.{bit_or, or_step, or_zero_r, or_lt}
-use lib.Count.{count_leading_zeros, leading_le, leading_length}
+use lib.Count.{count_leading_zeros, leading_length}
 use lib.Dec.{T, leb, ltb, leb→le}
 use lib.ListN.{length}
-use mir.Facts.{and_yes, Fits-below}
+use mir.Facts.{and_yes}
 use Rattle.text.specs.Decimal.{decimal}
 use Rattle.text.proofs.Decimals.{length-decimal_of_lt, length-decimal_of_le, length-decimal_between, length-decimal-pos}
 use Rattle.text.proofs.Lists.{by_test}
@@ -98,17 +98,11 @@ digits n h =
     let d = same_digits n (bit_or n 1) e in
     (λ l. s.0 l ∙ d, λ l. s.1 l ∙ d)
 
-pub overflow_cast-bits : goal.overflow_cast-bits
-overflow_cast-bits c = Fits-below {n = 64} tt (leading_le 64 _)
-
-pub overflow_sub-bits : goal.overflow_sub-bits
-overflow_sub-bits c = leading_le 64 _
-
 pub returns-then-v-pow10 : goal.returns-then-v-pow10
 returns-then-v-pow10 c =
     let d = (digits c.args.n c.ranges.n.fits).0 (omega arith) in
     (d, omega (arith, length-decimal-pos c.args.n), omega arith)
 
-pub returns : goal.returns
-returns c =
+pub returns-else-v-pow10 : goal.returns-else-v-pow10
+returns-else-v-pow10 c =
     ((digits c.args.n c.ranges.n.fits).1 (omega arith), omega arith, omega arith)

@@ -1,6 +1,6 @@
 -- `text::decimal::put_decimal` meets its contract. The invariant: writing the digits of v in front of place i gives what writing
 -- the digits of n in front of `end` gives. The measure: v.
-use mathlib.Core.Path.{◌≡◌, refl, sym, ap, ◌∙◌}
+use mathlib.Core.Path.{◌≡◌, sym, ap, ◌∙◌}
 use mathlib.Core.List.{◌∷◌, ◌++◌}
 use Prim.Native.Nat.{ℕ, ◌-◌, ◌/◌, ◌≤◌, ◌<◌}
 use native.Mathlib.Omega.{arith}
@@ -23,17 +23,8 @@ same_start v i a h k e = omega (arith, length-decimal-div 2 v h)
 less : (i n m : ℕ) → i ≤ n → m ≡ n → i - 2 ≤ m
 less i n m h e = omega arith
 
-pub loop-v-init : goal.loop-v-init
-loop-v-init c = (c.requires.0, c.requires.1, refl, refl, refl)
-
 pub put_two-requires : goal.put_two-requires
 put_two-requires c = let l = c.loop-v in (omega arith, two l.v l.i (omega arith) l.invariant.0, l.invariant.1)
-
-pub overflow_sub-i : goal.overflow_sub-i
-overflow_sub-i c = let l = c.loop-v in two l.v l.i (omega arith) l.invariant.0
-
-pub loop-v-smaller : goal.loop-v-smaller
-loop-v-smaller c = omega arith
 
 pub loop-v-preserved : goal.loop-v-preserved
 loop-v-preserved c =
@@ -51,9 +42,6 @@ loop-v-preserved c =
 pub put_two-requires-then-v-ge10 : goal.put_two-requires-then-v-ge10
 put_two-requires-then-v-ge10 c = let l = c.loop-v in (omega arith, two l.v l.i c.if-v-ge10.true l.invariant.0, l.invariant.1)
 
-pub overflow_sub-result : goal.overflow_sub-result
-overflow_sub-result c = let l = c.loop-v in two l.v l.i c.if-v-ge10.true l.invariant.0
-
 pub returns-then-v-ge10 : goal.returns-then-v-ge10
 returns-then-v-ge10 c =
     let l = c.loop-v in record {
@@ -64,11 +52,8 @@ returns-then-v-ge10 c =
 pub put_byte-requires : goal.put_byte-requires
 put_byte-requires c = let l = c.loop-v in (omega (arith, l.invariant.0, length-decimal-pos l.v), l.invariant.1)
 
-pub overflow_sub-result-2 : goal.overflow_sub-result-2
-overflow_sub-result-2 c = let l = c.loop-v in omega (arith, l.invariant.0, length-decimal-pos l.v)
-
-pub returns : goal.returns
-returns c =
+pub returns-else-v-ge10 : goal.returns-else-v-ge10
+returns-else-v-ge10 c =
     let l = c.loop-v in record {
       value = omega (arith, l.invariant.4, length-decimal_of_lt l.v (omega arith));
       room_after = c.put_byte.ensures

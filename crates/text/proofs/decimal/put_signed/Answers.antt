@@ -24,20 +24,14 @@ put_byte-requires c =
     let h : c.put_decimal-at.result ≤ length c.args.room.now = omega (arith, c.requires.1, c.put_decimal-at.ensures.value) in
     (omega (arith, e, ap (λ (m : ℕ). length (decimal m)) m, c.requires.0, c.put_decimal-at.ensures.value), search rules)
 
-pub overflow_sub-result : goal.overflow_sub-result
-overflow_sub-result c =
-    let m = c.magnitude.ensures ∙ ap nat_abs (param w64 c.ranges.z).is in
-    let e = length-signed_of_lt c.args.z (lt_yes (param w64 c.ranges.z) (lit (pos 0)) c.if-z-lt0.true) in
-    omega (arith, e, ap (λ (m : ℕ). length (decimal m)) m, c.requires.0, c.put_decimal-at.ensures.value)
-
 pub returns-then-z-lt0 : goal.returns-then-z-lt0
 returns-then-z-lt0 c =
     let m = c.magnitude.ensures ∙ ap nat_abs (param w64 c.ranges.z).is in
     let all = put_signed_of_lt c.args.room.now c.args.z _ c.args.end _ _ m c.put_decimal-at.ensures.value c.put_decimal-at.ensures.room_after
     _ (lt_yes (param w64 c.ranges.z) (lit (pos 0)) c.if-z-lt0.true) c.requires.0 c.requires.1 c.put_byte.ensures in record { value = all.0; room_after = all.1 }
 
-pub returns : goal.returns
-returns c =
+pub returns-else-z-lt0 : goal.returns-else-z-lt0
+returns-else-z-lt0 c =
     let m = c.magnitude.ensures ∙ ap nat_abs (param w64 c.ranges.z).is in
     let all = put_signed_of_le c.args.room.now c.args.z _ c.args.end _ _ m c.put_decimal-at.ensures.value c.put_decimal-at.ensures.room_after
     (lt_no (param w64 c.ranges.z) (lit (pos 0)) c.if-z-lt0.false) in record { value = all.0; room_after = all.1 }

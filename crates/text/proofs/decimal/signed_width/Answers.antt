@@ -17,8 +17,8 @@ returns-then-z-lt0 c =
     let most = length_signed_le c.args.z (nat_abs-le_of_SFits c.args.z c.ranges.z) in
     (omega (arith, e, n), omega arith, omega (arith, e, most, n))
 
-pub returns : goal.returns
-returns c =
+pub returns-else-z-lt0 : goal.returns-else-z-lt0
+returns-else-z-lt0 c =
     let n = c.count_digits-n.ensures.0 ∙ ap (λ (m : ℕ). length (decimal m)) (c.magnitude.ensures ∙ ap nat_abs (param w64 c.ranges.z).is) in
     let e = length-signed_of_le c.args.z (lt_no (param w64 c.ranges.z) (lit (pos 0)) c.if-z-lt0.false) in
     (omega (arith, e, n), c.count_digits-n.ensures.1, c.count_digits-n.ensures.2)

@@ -1,5 +1,6 @@
 -- `text::number::digits` meets its contract: with a byte after the digits there is no number, and digits up to the end are the
 -- whole.
+use Rattle.std.specs.Prelude.{None}
 use mathlib.Core.Path.{◌≡◌, ap, ◌∙◌}
 use mathlib.Core.List.{List}
 use Prim.Native.Nat.{ℕ, ◌<◌, ◌≤◌}
@@ -8,13 +9,13 @@ use lib.ListN.{length, drop, length-drop}
 use lib.Seq.{take_all}
 use Rattle.text.specs.Bytes.{is_digit}
 use Rattle.text.specs.Places.{run, leading, past}
-use Rattle.text.specs.Number.{digits_of, fit, plain_number}
-use Rattle.text.specs.declared.number.Number.TheVariants.{Nothing}
+use Rattle.text.specs.Number.{digits_of, fit}
+use Rattle.std.specs.Result.{result_ok}
 use Rattle.text.proofs.Numbers.{digits_of_of_run-lt}
 use Rattle.text.proofs.number.digits.Goals as goal
 
 module _ (s : List ℕ) (from : ℕ) where
-  digits_of_of_past-lt : past is_digit s from < length s → digits_of (drop from s) ≡ Nothing
+  digits_of_of_past-lt : past is_digit s from < length s → digits_of (drop from s) ≡ None
   unfolding past
   digits_of_of_past-lt h = digits_of_of_run-lt (drop from s) (omega (arith, length-drop from s))
 
@@ -28,9 +29,9 @@ pub returns-then-read-s : goal.returns-then-read-s
 unfolding fit
 returns-then-read-s c = rw (digits_of_of_past-lt _ _ (rw c.leading_number-read.ensures.end_value at c.if-read-s.true))
 
-pub returns : goal.returns
+pub returns-else-read-s : goal.returns-else-read-s
 unfolding fit
-returns c =
+returns-else-read-s c =
     let a = c.args in
-    c.plain_number.ensures ∙ ap plain_number c.leading_number-read.ensures.number_value
+    c.ok.ensures.value ∙ ap result_ok c.leading_number-read.ensures.number_value
     ∙ ap (λ (t : List ℕ). fit a.limit (digits_of t)) (leading-of-past-le _ a.from (rw c.leading_number-read.ensures.end_value at c.if-read-s.false))

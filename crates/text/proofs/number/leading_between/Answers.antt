@@ -1,9 +1,12 @@
 -- `text::number::leading_between` meets its contract: after the sign, if there is one, the digits decide.
-use mathlib.Core.Path.{◌≡◌, refl, ap, ◌∙◌}
+use Rattle.std.specs.Prelude.{Err, Result}
+use mathlib.Core.Path.{◌≡◌, refl, sym, ap, ◌∙◌}
 use mathlib.Core.Bool.{Bool, false, cond}
 use mathlib.Core.List.{List, ◌∷◌}
 use Prim.Native.Nat.{ℕ, ◌+◌, ◌≤◌, ◌<◌}
 use native.Mathlib.Omega.{arith}
+use borrow.Author.Tests.{ltb-true, ltb-false}
+use borrow.Author.Rules.{rules}
 use lib.Dec.{eqb}
 use lib.ListN.{length, drop, get_or, drop_of_length-le}
 use Rattle.text.specs.Bytes.{is_digit, is_sign}
@@ -11,14 +14,14 @@ use Rattle.text.specs.Places.{past, leading}
 use Rattle.text.specs.Number.{digits_of, signed_of, fitted, numeral, LeadsWith}
 use Rattle.text.specs.Held.{signed_by}
 use Rattle.text.specs.declared.number.LeadingInteger.{LeadingInteger}
-use Rattle.text.specs.declared.number.Fitted.{Fitted}
-use Rattle.text.specs.declared.number.FittedInteger.TheVariants.{Nothing}
 use Rattle.text.proofs.Lists.{by_test, drop-cons-add-one}
-use Rattle.text.proofs.Numbers.{AtMost_of_fitted, signed_by-numeral}
+use Rattle.text.proofs.Numbers.{signed_by-numeral}
+use Rattle.text.specs.declared.number.NumberError.TheVariants.{NoNumber}
+use Rattle.text.specs.declared.number.NumberError.{NumberError}
 use Rattle.text.proofs.number.leading_between.Goals as goal
 
 -- nothing is left
-LeadsWith-nil : (half : ℕ) (s : List ℕ) (at : ℕ) → length s ≤ at → LeadsWith half (drop at s) at (record { number = Nothing; end = at; signed = false })
+LeadsWith-nil : (half : ℕ) (s : List ℕ) (at : ℕ) → length s ≤ at → LeadsWith half (drop at s) at (record { number = (Err NoNumber); end = at; signed = false })
 unfolding numeral signed_of is_sign
 LeadsWith-nil half s at h = rw (drop_of_length-le s h) (record { number_is = refl; end_is = omega arith; signed_is = refl })
 
@@ -37,7 +40,7 @@ module _ (s : List ℕ) (at : ℕ) (h : at < length s) where
   unfolding past numeral
   end = by_test (is_sign byte) (λ e. rw e (omega arith)) (λ e. rw (e, drop-cons-add-one s at h))
 
-  LeadsWith-cons : (half : ℕ) → 0 < half → (n : Fitted) → n ≡ fitted half (digits_of (leading is_digit (drop start s))) → (r : LeadingInteger)
+  LeadsWith-cons : (half : ℕ) → 0 < half → (n : Result ℕ NumberError) → n ≡ fitted half (digits_of (leading is_digit (drop start s))) → (r : LeadingInteger)
       → r.number ≡ signed_by half (eqb byte 45) n → r.end ≡ past is_digit s start → r.signed ≡ is_sign byte → LeadsWith half (drop at s) at r
   LeadsWith-cons half k n e r number_is end_is signed_is =
       rw (drop-cons-add-one s at h)
@@ -47,17 +50,14 @@ module _ (s : List ℕ) (at : ℕ) (h : at < length s) where
         signed_is = signed_is;
       })
 
-pub returns-then-s-from : goal.returns-then-s-from
-returns-then-s-from c = LeadsWith-nil _ _ _ c.if-s-from.true
-
-pub with_sign-number-requires : goal.with_sign-number-requires
-with_sign-number-requires c =
-    let digits = digits_of (leading is_digit (drop c.past_sign.result c.args.s.now)) in
-    (AtMost_of_fitted c.args.half digits _ c.leading_number-read.ensures.number_value, c.requires.0, c.requires.1)
+pub returns-in_default : goal.returns-in_default
+returns-in_default c = LeadsWith-nil _ _ _ (ltb-false _ _ (sym c.in_default.ensures.lookup.0))
 
 pub returns : goal.returns
 returns c =
     let a = c.args in
-    let from : c.past_sign.result ≡ start a.s.now a.from c.if-s-from.false =
-    c.past_sign.ensures ∙ ap (λ (b : Bool). cond b (a.from + 1) a.from) c.is_sign-signed.ensures in
-    LeadsWith-cons a.s.now a.from c.if-s-from.false a.half c.requires.0 _ (rw from at c.leading_number-read.ensures.number_value) _ c.with_sign-number.ensures (rw from at c.leading_number-read.ensures.end_value) c.is_sign-signed.ensures
+    let inside : a.from < length a.s.now = ltb-true _ _ (sym c.in-Some.ensures.lookup.0) in
+    let b : c.in-Some.field-0.now ≡ get_or a.s.now a.from 0 = search rules in
+    let signed = rw b at c.is_sign-signed.ensures in
+    let from : c.past_sign.result ≡ start a.s.now a.from inside = c.past_sign.ensures ∙ ap (λ (t : Bool). cond t (a.from + 1) a.from) signed in
+    LeadsWith-cons a.s.now a.from inside a.half c.requires.0 _ (rw from at c.leading_number-read.ensures.number_value) _ (rw b at c.with_sign.ensures) (rw from at c.leading_number-read.ensures.end_value) signed

@@ -1,7 +1,7 @@
 use mathlib.Core.Path.{◌≡◌}
 use mathlib.Core.List.{List}
-use Prim.Native.Nat.{ℕ, ◌≤◌, ◌-◌}
-use lib.ListN.{length, drop}
+use Prim.Native.Nat.{ℕ, ◌≤◌}
+use lib.ListN.{drop}
 use Rattle.text.specs.Bytes.{is_digit}
 use Rattle.text.specs.Places.{leading, past}
 use Rattle.text.specs.Number.{read_from, fitted}
@@ -13,6 +13,3 @@ On s from limit v i = fitted limit (read_from 0 (leading is_digit (drop from s))
 
 abbrev pub invariant-loop-i : goal.invariant-loop-i
 invariant-loop-i l = (l.v ≤ l.limit) × (past is_digit l.s l.from ≡ past is_digit l.s l.i) × On l.s l.from l.limit l.v l.i
-
-abbrev pub decreases-loop-i : goal.decreases-loop-i
-decreases-loop-i l = length l.s - l.i

@@ -6,7 +6,8 @@ use Prim.Native.Nat.{ℕ, ◌≤◌, ◌<◌}
 use native.Mathlib.Omega.{arith}
 use lib.ListN.{length}
 use lib.Seq.{take_all}
-use Rattle.text.specs.Number.{signed_of, fit_signed, plain, half_of, numeral}
+use Rattle.text.specs.Number.{signed_of, fit_signed, half_of, numeral}
+use Rattle.std.specs.Result.{result_ok}
 use Rattle.text.proofs.Numbers.{signed_of_of_numeral-lt}
 use Rattle.text.proofs.number.signed_number.Goals as goal
 
@@ -17,9 +18,9 @@ returns-then-read-s c =
     let h : numeral s < length s = omega (arith, c.leading_integer-read.ensures.end_is, c.if-read-s.true) in
     rw (signed_of_of_numeral-lt s h)
 
-pub returns : goal.returns
+pub returns-else-read-s : goal.returns-else-read-s
 unfolding fit_signed
-returns c =
+returns-else-read-s c =
     let a = c.args in
     let h : length a.s.now ≤ numeral a.s.now = omega (arith, c.leading_integer-read.ensures.end_is, c.if-read-s.false) in
-    c.plain.ensures ∙ ap plain c.leading_integer-read.ensures.number_is ∙ ap (λ (t : List ℕ). fit_signed (half_of a.width) (signed_of t)) (take_all _ _ h)
+    c.ok.ensures.value ∙ ap result_ok c.leading_integer-read.ensures.number_is ∙ ap (λ (t : List ℕ). fit_signed (half_of a.width) (signed_of t)) (take_all _ _ h)

@@ -1,26 +1,26 @@
--- `text::places::first_place` meets its contract. The invariant: i and the first place in what is left make the first place in the
--- whole.
-use native.Mathlib.Omega.{arith}
-use borrow.Author.Tests.{eq-eqb, ne_eqb}
-use lib.ListN.{drop_of_length-le}
-use Rattle.text.specs.Places.{first_place, run}
-use Rattle.text.proofs.Lists.{drop-cons-add-one}
+-- `text::places::first_place` meets its contract: `position` finds the first place, and the length stands for none.
+use Rattle.std.proofs.Common.{◌≡◌, ◌≤◌, ℕ, length, rules, tests, ap, ◌∙◌, cond, arith}
+use Rattle.std.specs.Prelude.{Some, None, nat_eq}
+use Rattle.std.specs.Option.{unwrap_or}
+use Rattle.std.specs.List.{position_or_len}
+use Rattle.std.proofs.lemmas.Iterator.{YieldsList-from_slice}
+use Rattle.std.proofs.lemmas.Iterator.Search.{position_from_yields_List}
+use borrow.Author.Tests.{ltb-false}
+use lib.Dec.{ltb}
+use Rattle.text.specs.Places.{first_place}
+use Rattle.text.proofs.Lists.{by_test}
+use Rattle.text.proofs.Library.{first_place_is, first_place_le}
 use Rattle.text.proofs.places.first_place.Goals as goal
 
-pub loop-i-init : goal.loop-i-init
-loop-i-init c = (omega arith, omega arith)
-
-pub returns-then-s-i : goal.returns-then-s-i
-unfolding first_place run
-returns-then-s-i c = (omega (arith, rw (drop-cons-add-one _ _ c.loop-i-test.true, eq-eqb _ _ c.if-s-i.true) at c.loop-i.invariant.0), c.loop-i.invariant.1)
-
-pub loop-i-smaller : goal.loop-i-smaller
-loop-i-smaller c = omega arith
-
-pub loop-i-preserved : goal.loop-i-preserved
-unfolding first_place run
-loop-i-preserved c = (omega (arith, rw (drop-cons-add-one _ _ c.loop-i-test.true, ne_eqb _ _ c.if-s-i.false) at c.loop-i.invariant.0), omega arith)
+or_length : (m n : ℕ) → m ≤ n → unwrap_or (cond (ltb m n) (Some m) None) n ≡ m
+or_length m n h = by_test (ltb m n) (λ e. rw e) (λ e. rw e (omega (arith, ltb-false m n e)))
 
 pub returns : goal.returns
-unfolding first_place run
-returns c = (omega (arith, rw (drop_of_length-le _ c.loop-i-test.false) at c.loop-i.invariant.0), c.loop-i.invariant.1)
+returns c =
+    let b = c.args.b in
+    let s = c.args.s.now in
+    let found : c.position.result ≡ cond (ltb (position_or_len (λ x. nat_eq x b) s) (length s)) (Some (position_or_len (λ x. nat_eq x b) s)) None =
+    position_from_yields_List (λ x. nat_eq x b) _ _ c.position.result c.position.ensures.ran (YieldsList-from_slice s c.iter.ensures.rest) (λ x b q k. search (rules, tests)) in
+    let e : c.unwrap_or.result ≡ first_place b s =
+    c.unwrap_or.ensures ∙ ap (λ r. unwrap_or r (length s)) found ∙ or_length _ _ (rw (first_place_is b s) (first_place_le b s)) ∙ first_place_is b s in
+    (e, rw e (first_place_le b s))

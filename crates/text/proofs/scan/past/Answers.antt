@@ -1,18 +1,15 @@
 -- `text::scan::past` meets its contract. The invariant: the place past the run from i on is the place past the run from `at` on.
-use mathlib.Core.Path.{refl, sym, ◌∙◌}
-use Rattle.text.proofs.Runs.{past_of-true, past_of-false, past_of-length-le}
+use Rattle.std.proofs.Common.{sym, ◌∙◌}
+use Rattle.text.proofs.Runs.{past_of-true, past_of-false, past_of-max}
 use Rattle.text.proofs.scan.past.Goals as goal
 
 pub loop-i-preserved : goal.loop-i-preserved
-loop-i-preserved c =
-    c.loop-i.invariant ∙ past_of-true _ _ _ c.loop-i-test.true (sym c.is_of.ensures ∙ c.if-is_of.true)
+loop-i-preserved g c =
+    c.loop-i.invariant ∙ past_of-true _ _ _ c.loop-i-test.true (sym c.has.ensures ∙ c.if-not-has.false)
 
-pub returns-else-is_of : goal.returns-else-is_of
-returns-else-is_of c =
-    sym (c.loop-i.invariant ∙ past_of-false _ _ _ c.loop-i-test.true (sym c.is_of.ensures ∙ c.if-is_of.false))
+pub returns-then-not-has : goal.returns-then-not-has
+returns-then-not-has g c =
+    sym (c.loop-i.invariant ∙ past_of-false _ _ _ c.loop-i-test.true (sym c.has.ensures ∙ c.if-not-has.true))
 
 pub returns : goal.returns
-returns c = sym (c.loop-i.invariant ∙ past_of-length-le _ _ _ c.loop-i-test.false)
-
-pub loop-i-init : goal.loop-i-init
-loop-i-init c = refl
+returns g c = c.max.ensures ∙ past_of-max _ _ _ _ c.loop-i.invariant c.loop-i-test.false c.loop-i.auto.i-end

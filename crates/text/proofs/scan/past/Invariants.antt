@@ -1,12 +1,6 @@
+use Rattle.std.proofs.Common.{◌≡◌}
 use Rattle.text.specs.Places.{past}
-use mathlib.Core.Path.{◌≡◌}
-use Prim.Native.Nat.{◌-◌}
-use lib.ListN.{length}
-use Rattle.text.specs.Scan.{is_of}
 use Rattle.text.proofs.scan.past.Given as goal
 
 abbrev pub invariant-loop-i : goal.invariant-loop-i
-invariant-loop-i l = past (is_of l.class) l.s l.at ≡ past (is_of l.class) l.s l.i
-
-abbrev pub decreases-loop-i : goal.decreases-loop-i
-decreases-loop-i l = length l.s - l.i
+invariant-loop-i g l = past g.C.Class.holds l.s l.at ≡ past g.C.Class.holds l.s l.i

@@ -15,10 +15,10 @@ within : (s : List ℕ) {i : ℕ} → i ≡ past is_space s 0 → i ≤ length s
 within s e = rw e (past-le-length is_space s 0 (omega arith))
 
 pub slice_bounds-result-start : goal.slice_bounds-result-start
-slice_bounds-result-start c = within c.args.s.now c.past-i.ensures
+slice_bounds-result-start c = within c.args.s.now c.past.ensures
 
 pub slice_bounds-result-count : goal.slice_bounds-result-count
-slice_bounds-result-count c = within c.args.s.now c.past-i.ensures
+slice_bounds-result-count c = within c.args.s.now c.past.ensures
 
 pub returns : goal.returns
-returns c = rw (take-length-sub-drop _ _, c.past-i.ensures, trim_start-past)
+returns c = rw (take-length-sub-drop _ _, c.past.ensures, trim_start-past)

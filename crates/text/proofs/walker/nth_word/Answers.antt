@@ -4,10 +4,10 @@ use Rattle.text.proofs.walker.nth_word.Goals as goal
 
 -- no word is left past n words
 pub returns-in_default : goal.returns-in_default
-returns-in_default c =
-    rw (get_or-words _ _ _ _ _ _ c.after_words-rest.ensures c.new.ensures c.take-t.ensures, c.in_default.is)
+returns-in_default g c =
+    rw (get_or-words _ _ _ _ _ _ c.after_words-rest.ensures c.new.ensures c.take.ensures, c.in_default.is)
 
 -- the first word past them
 pub returns : goal.returns
-returns c =
-    rw (c.within.ensures, get_or-words _ _ _ _ _ _ c.after_words-rest.ensures c.new.ensures c.take-t.ensures, c.in-Word.is)
+returns g c =
+    rw (c.within.ensures, get_or-words _ _ _ _ _ _ c.after_words-rest.ensures c.new.ensures c.take.ensures, c.in-Some.is)

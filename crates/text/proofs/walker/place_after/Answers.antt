@@ -1,29 +1,25 @@
--- `text::walker::place_after` meets its contract. The invariant: the place past n words from `at` is the place past k words from
--- i. The measure: k.
-use mathlib.Core.Path.{refl, sym, ◌∙◌}
-use native.Mathlib.Omega.{arith}
-use Rattle.text.proofs.Walking.{passed_of_le-zero, passed_of_Nothing, passed_of_Word}
+-- `text::walker::place_after` meets its contract. The invariant: the place past n words from `at` is the place past the words that
+-- are left to pass from i.
+use Rattle.std.proofs.Common.{◌≡◌, ◌≤◌, ◌<◌, ◌-◌, ◌+◌, sym, ◌∙◌, ap, ℕ, arith}
+use Rattle.text.specs.Walk.{passed}
+use Rattle.text.proofs.Walking.{passed_of_le-zero, passed_of_None, passed_of_Some}
 use Rattle.text.proofs.walker.place_after.Goals as goal
 
 -- no word is left: the place stays the same
 pub returns-in_default : goal.returns-in_default
-returns-in_default c =
-    sym (c.loop-k.invariant ∙ passed_of_Nothing _ _ _ _ (sym c.take-t.ensures ∙ c.in_default.is))
+returns-in_default g c =
+    sym (c.loop.invariant ∙ passed_of_None _ _ _ _ (sym c.take.ensures ∙ c.in_default.is))
 
 -- a word: one fewer to pass
-pub loop-k-preserved : goal.loop-k-preserved
-loop-k-preserved c =
-    c.loop-k.invariant ∙ passed_of_Word _ _ _ _ _ _ c.loop-k-test.true (sym c.take-t.ensures ∙ c.in-Word.is)
+pub loop-preserved : goal.loop-preserved
+loop-preserved g c =
+    let some : 0 < c.args.n - c.loop.counter = omega arith in
+    let fewer : c.args.n - c.loop.counter - 1 ≡ c.args.n - (c.loop.counter + 1) = omega arith in
+    c.loop.invariant ∙ passed_of_Some _ _ _ _ _ _ some (sym c.take.ensures ∙ c.in-Some.is)
+    ∙ ap (λ (k : ℕ). passed g.C.Class.holds k c.args.text.now c.in-Some.past.at) fewer
 
 -- none to pass
 pub returns : goal.returns
-returns c = sym (c.loop-k.invariant ∙ passed_of_le-zero _ _ _ _ c.loop-k-test.false)
-
-pub loop-k-init : goal.loop-k-init
-loop-k-init c = refl
-
-pub overflow_sub-k : goal.overflow_sub-k
-overflow_sub-k c = omega arith
-
-pub loop-k-smaller : goal.loop-k-smaller
-loop-k-smaller c = omega arith
+returns g c =
+    let none : c.args.n - c.loop.counter ≤ 0 = omega arith in
+    sym (c.loop.invariant ∙ passed_of_le-zero _ _ _ _ none)

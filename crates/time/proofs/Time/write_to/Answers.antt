@@ -7,7 +7,6 @@ use mir.Syntax.{w32, w64}
 use mir.Val.{SFits, to_z, of_z}
 use mir.ValLaws.{to_z-of_z}
 use Rattle.time.proofs.Headers.{wrote_too_wide, wrote_too_short, wrote_whole}
-use borrow.Author.Rules.{rules}
 use Rattle.time.proofs.Time.write_to.Goals as goal
 
 -- the size of the offset, as it was measured
@@ -27,10 +26,6 @@ returns-then-room-n c =
     let wide = wide_is t.offset (record { sfits = omega arith }) c.offset_size-wide.ensures in
     let all = wrote_too_short t c.args.room.now (omega (arith, c.if-wide-ge-OFFSET_LIMIT.false)) (omega (arith, c.size-n.ensures.0, c.if-room-n.true)) in
     record { value = all.0; room_after = all.1 }
-
-pub put_header-requires : goal.put_header-requires
-put_header-requires c =
-    rw (to_z-of_z w64 c.args.self.seconds (record { sfits = omega arith })) (search rules, c.size-n.ensures.0, search rules)
 
 pub returns : goal.returns
 returns c =

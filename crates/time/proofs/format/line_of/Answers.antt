@@ -1,5 +1,7 @@
 -- `time::format::line_of` meets its contract: an offset under a day is in range, so that the move to numbers from 0 depends on the
 -- seconds alone.
+use Rattle.std.specs.Prelude.{Option}
+use Rattle.std.specs.Option.{ok_or}
 use mathlib.Core.Path.{◌≡◌, sym, ap, ◌∙◌}
 use mathlib.Core.Bool.{Bool, ◌||◌}
 use native.Mathlib.Omega.{arith}
@@ -10,7 +12,9 @@ use lib.Signed.{le_z}
 use mir.Syntax.{w32}
 use mir.Val.{SFits, to_z, of_z}
 use mir.ValLaws.{to_z-of_z}
-use Rattle.time.proofs.Isos.{wide_of_tests, line_instant_of_wide, line_from, line_instant_of_narrow}
+use Rattle.time.proofs.Isos.{wide_of_tests, line_instant_of_wide, line_instant_of_narrow}
+use Rattle.time.specs.declared.Refusal.TheVariants.{Range}
+use Rattle.time.specs.declared.range.Instant.{Instant}
 use Rattle.time.proofs.format.line_of.Goals as goal
 
 -- the two tests of the offset, as the machine made them
@@ -19,24 +23,11 @@ wide_is : (o : ℤ) {t : Bool} → SFits w32 o
 wide_is o f e =
     sym (wide_of_tests o) ∙ sym (ap (λ (z : ℤ). le_z z (negsuc 86399) || le_z (pos 86400) z) (to_z-of_z w32 o f)) ∙ e
 
-pub returns-then-offset : goal.returns-then-offset
-returns-then-offset c = record {
-  is = line_instant_of_wide _ (leb-true 86400 _ (wide_is c.args.t.offset (record { sfits = omega arith }) c.if-offset.true));
-  range = tt;
-}
+pub returns-then-t-clause-is : goal.returns-then-t-clause-is
+returns-then-t-clause-is c = line_instant_of_wide _ (leb-true 86400 _ (wide_is c.args.t.offset (record { sfits = omega arith }) c.if-t.true))
 
-pub returns-in_default : goal.returns-in_default
-returns-in_default c =
+pub returns-clause-is : goal.returns-clause-is
+returns-clause-is c =
     let t = c.args.t in
-    let narrow = leb-false 86400 _ (wide_is t.offset (record { sfits = omega arith }) c.if-offset.false) in record {
-      is = ap line_from (sym c.in_default.is ∙ c.instant_of-moved.ensures.value) ∙ line_instant_of_narrow t narrow;
-      range = tt;
-    }
-
-pub returns : goal.returns
-returns c =
-    let t = c.args.t in
-    let narrow = leb-false 86400 _ (wide_is t.offset (record { sfits = omega arith }) c.if-offset.false) in record {
-      is = ap line_from (sym c.in-In.is ∙ c.instant_of-moved.ensures.value) ∙ line_instant_of_narrow t narrow;
-      range = rw c.in-In.is at c.instant_of-moved.ensures.ranges;
-    }
+    let narrow = leb-false 86400 _ (wide_is t.offset (record { sfits = omega arith }) c.if-t.false) in
+    c.ok_or.ensures.value ∙ ap (λ (m : Option Instant). ok_or m Range) c.instant_of.ensures.value ∙ line_instant_of_narrow t narrow

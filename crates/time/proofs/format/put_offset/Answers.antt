@@ -11,16 +11,11 @@ use Rattle.ints.proofs.Machine.{param}
 use Rattle.text.proofs.Putting.{put_put}
 use Rattle.time.specs.Header.{sign_byte, whole_minutes}
 use Rattle.time.specs.Iso.{field_before}
-use borrow.Author.Rules.{rules}
 use Rattle.time.proofs.format.put_offset.Goals as goal
 
 -- the size of the offset, as it was measured
 size_is : {n : ℕ} {o : ℤ} → SFits w32 o → n ≡ nat_abs (to_z w32 (of_z w32 o)) → n ≡ nat_abs o
 size_is f e = e ∙ ap nat_abs (param w32 f).is
-
-pub put_field-requires-2 : goal.put_field-requires-2
-put_field-requires-2 c =
-    let size = size_is c.ranges.offset c.offset_size-minutes.ensures in (omega arith, omega arith, search rules)
 
 pub returns : goal.returns
 unfolding whole_minutes

@@ -1,4 +1,5 @@
 -- `time::range::instant_of` meets its contract: in range, neither sum wraps.
+use Rattle.std.specs.Prelude.{None, Some}
 use mathlib.Core.Path.{◌≡◌, sym, ap, ◌∙◌}
 use mathlib.Core.Bool.{Bool, true, false, ◌&&◌}
 use native.Mathlib.Omega.{arith}
@@ -10,7 +11,6 @@ use Rattle.ints.specs.Range.{In}
 use Rattle.ints.proofs.Machine.{At, lit, known, add, fits, read, unsign, size-le, size-ge}
 use Rattle.time.specs.Range.{least_seconds, most_seconds, seconds_in_range, least_offset, most_offset, offset_in_range, instant_of, moved_of}
 use Rattle.time.specs.declared.Time.{Time}
-use Rattle.time.specs.declared.range.Moved.TheVariants.{In as Inside, Nothing}
 use Rattle.time.proofs.Ranges.{seconds_of_test, offset_of_test, moved_of_in, moved_of-out}
 use Rattle.time.proofs.range.instant_of.Goals as goal
 
@@ -23,10 +23,10 @@ module _ (t : Time) {p q : Bool} (f : SFits w64 t.seconds) (g : SFits w32 t.offs
   offset-test : q ≡ offset_in_range t.offset
   offset-test = h ∙ ap offset_in_range (to_z-of_z w32 t.offset g)
 
-  is_moved : (p && q) ≡ true → moved_of t ≡ Inside (instant_of t)
+  is_moved : (p && q) ≡ true → moved_of t ≡ Some (instant_of t)
   is_moved b = moved_of_in t seconds-test offset-test b
 
-  is_not_moved : (p && q) ≡ false → moved_of t ≡ Nothing
+  is_not_moved : (p && q) ≡ false → moved_of t ≡ None
   is_not_moved b = moved_of-out t seconds-test offset-test b
 
   seconds_in_bounds : (p && q) ≡ true → In least_seconds most_seconds t.seconds
@@ -75,14 +75,14 @@ returns-then-seconds_in_range-offset_in_range c =
     let g : SFits w32 c.args.t.offset = record { sfits = omega arith } in
     let s = read w64 tt (seconds_moved (seconds_in_bounds c.args.t f g c.seconds_in_range.ensures c.offset_in_range.ensures c.if-seconds_in_range-offset_in_range.true)) in
     let o = read w32 tt (offset_moved (offset_in_bounds c.args.t f g c.seconds_in_range.ensures c.offset_in_range.ensures c.if-seconds_in_range-offset_in_range.true)) in record {
-      value = (λ i. Inside (record { seconds = nat_abs (s.is i); offset = nat_abs (o.is i) }))
+      value = (λ i. Some (record { seconds = nat_abs (s.is i); offset = nat_abs (o.is i) }))
           ∙ sym (is_moved c.args.t f g c.seconds_in_range.ensures c.offset_in_range.ensures c.if-seconds_in_range-offset_in_range.true);
       ranges = record { early = size-ge tt s; late = size-le tt s; west = size-ge tt o; east = size-le tt o };
     }
 
 -- out of it
-pub returns : goal.returns
-returns c =
+pub returns-else-seconds_in_range-offset_in_range-clause-value : goal.returns-else-seconds_in_range-offset_in_range-clause-value
+returns-else-seconds_in_range-offset_in_range-clause-value c =
     let f : SFits w64 c.args.t.seconds = record { sfits = omega arith } in
     let g : SFits w32 c.args.t.offset = record { sfits = omega arith } in
-    let e = is_not_moved c.args.t f g c.seconds_in_range.ensures c.offset_in_range.ensures c.if-seconds_in_range-offset_in_range.false in record { value = sym e; ranges = tt }
+    sym (is_not_moved c.args.t f g c.seconds_in_range.ensures c.offset_in_range.ensures c.if-seconds_in_range-offset_in_range.false)

@@ -16,15 +16,15 @@ use Rattle.time.proofs.write.header_sign.Goals as goal
 test-is : (t : Time) → SFits w32 t.offset → (t.mark && eqb (of_z w32 t.offset) (of_z w32 (pos 0))) ≡ is_minus_zero t
 test-is t f = ap (λ (b : Bool). t.mark && b) (eqb-of_z w32 t.offset (pos 0) f (record { sfits = omega arith }))
 
-pub returns-then-mark-offset : goal.returns-then-mark-offset
+pub returns-then-t : goal.returns-then-t
 unfolding header_sign
-returns-then-mark-offset c =
+returns-then-t c =
     let t = c.args.t in
-    rw (sym (test-is t (record { sfits = omega arith })) ∙ c.if-mark-offset.true)
+    rw (sym (test-is t (record { sfits = omega arith })) ∙ c.if-t.true)
 
-pub returns : goal.returns
+pub returns-else-t : goal.returns-else-t
 unfolding header_sign
-returns c =
+returns-else-t c =
     let t = c.args.t in
     let f : SFits w32 t.offset = record { sfits = omega arith } in
-    rw (sym (test-is t f) ∙ c.if-mark-offset.false) (c.sign_byte.ensures ∙ ap sign_byte (to_z-of_z w32 t.offset f))
+    rw (sym (test-is t f) ∙ c.if-t.false) (c.sign_byte.ensures ∙ ap sign_byte (to_z-of_z w32 t.offset f))
