@@ -62,71 +62,26 @@ typedef struct answer call(const struct side *, const struct input *);
 
 #define TEXT_OF(x) (const uint8_t *)(x)->text, (x)->length
 
-static struct answer header(const struct side *s, const struct input *x) {
-    struct answer a = {0};
-    int32_t o = 0;
-    a.number = s->header(TEXT_OF(x), &a.seconds, &o);
-    a.offset = o;
-    return a;
-}
+/* A reader: its call stores the seconds and the offset o, and the mark m if it gives one. */
+#define READER(name, reads)                                                        \
+    static struct answer name(const struct side *s, const struct input *x) {       \
+        struct answer a = {0};                                                     \
+        int32_t o = 0;                                                             \
+        uint8_t m = 0;                                                             \
+        a.number = reads;                                                          \
+        a.offset = o;                                                              \
+        a.mark = m;                                                                \
+        return a;                                                                  \
+    }
 
-static struct answer header_marked(const struct side *s, const struct input *x) {
-    struct answer a = {0};
-    int32_t o = 0;
-    uint8_t m = 0;
-    a.number = s->header_marked(TEXT_OF(x), &a.seconds, &o, &m);
-    a.offset = o;
-    a.mark = m;
-    return a;
-}
-
-static struct answer raw(const struct side *s, const struct input *x) {
-    struct answer a = {0};
-    int32_t o = 0;
-    a.number = s->raw(TEXT_OF(x), &a.seconds, &o);
-    a.offset = o;
-    return a;
-}
-
-static struct answer raw_2(const struct side *s, const struct input *x) {
-    struct answer a = {0};
-    int32_t o = 0;
-    a.number = s->raw_by(2, TEXT_OF(x), &a.seconds, &o);
-    a.offset = o;
-    return a;
-}
-
-static struct answer iso(const struct side *s, const struct input *x) {
-    struct answer a = {0};
-    int32_t o = 0;
-    a.number = s->iso(TEXT_OF(x), &a.seconds, &o);
-    a.offset = o;
-    return a;
-}
-
-static struct answer relative(const struct side *s, const struct input *x) {
-    struct answer a = {0};
-    int32_t o = 0;
-    a.number = s->relative(TEXT_OF(x), 1, NOW, ZONE, &a.seconds, &o);
-    a.offset = o;
-    return a;
-}
-
-static struct answer turns(const struct side *s, const struct input *x) {
-    struct answer a = {0};
-    int32_t o = 0;
-    a.number = s->turns(TEXT_OF(x), 1, NOW, ZONE, &a.seconds, &o);
-    a.offset = o;
-    return a;
-}
-
-static struct answer any(const struct side *s, const struct input *x) {
-    struct answer a = {0};
-    int32_t o = 0;
-    a.number = s->any(TEXT_OF(x), 1, NOW, ZONE, &a.seconds, &o);
-    a.offset = o;
-    return a;
-}
+READER(header, s->header(TEXT_OF(x), &a.seconds, &o))
+READER(header_marked, s->header_marked(TEXT_OF(x), &a.seconds, &o, &m))
+READER(raw, s->raw(TEXT_OF(x), &a.seconds, &o))
+READER(raw_2, s->raw_by(2, TEXT_OF(x), &a.seconds, &o))
+READER(iso, s->iso(TEXT_OF(x), &a.seconds, &o))
+READER(relative, s->relative(TEXT_OF(x), 1, NOW, ZONE, &a.seconds, &o))
+READER(turns, s->turns(TEXT_OF(x), 1, NOW, ZONE, &a.seconds, &o))
+READER(any, s->any(TEXT_OF(x), 1, NOW, ZONE, &a.seconds, &o))
 
 static struct answer size(const struct side *s, const struct input *x) {
     struct answer a = {0};
