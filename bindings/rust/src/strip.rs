@@ -45,7 +45,7 @@ pub struct Strip {
 }
 
 impl Strip {
-    /// The strip of a month. A call uses some 20 KB of stack, for the table of months that it builds.
+    /// The strip of a month. A call reads the table of 4,800 months, which stands in the archive once.
     ///
     /// # Errors
     /// [`Refusal::Range`] if the year is not -9999 to 9999 or the month is not 1 to 12.

@@ -9,6 +9,7 @@ use mathlib.Core.List.{List}
 use Prim.Native.Nat.{ℕ}
 use lib.IntN.{ℤ}
 use Rattle.calendar.proofs.Walk.{IsMonths-unique}
+pub use Rattle.calendar.proofs.WholeTable.{month_table_whole_unique}
 use Rattle.dates.specs.OneAnswer.{OneAnswer, OneAnswerAnd}
 use Rattle.dates.proofs.Contracts.{one_answer}
 use Rattle.chowderbell.specs.Entries.{HandedOut, HandedMarked, HandedLength, HandedCheck, HandedCopy}
@@ -399,7 +400,7 @@ chowderbell_lists_merge_unique κ a r s e f p q = (
 pub months_unique : OneAnswer months.Post
 months_unique κ a r s e f p q = IsMonths-unique (one_answer p.1 q.1) p.0 q.0
 
--- a table of months is fixed by its entries
+-- a table of months is fixed by its entries; *month_table_whole_unique* is the calendar's own
 pub month_table_none_unique : (κ : _) (a : _) (r s : _) (e f : _) → month-table-none.Post κ a r e → month-table-none.Post κ a s f → r.table.now ≡ s.table.now
 month_table_none_unique κ a r s e f = one_answer
 

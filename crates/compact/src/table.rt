@@ -120,7 +120,9 @@ pub fn is_overtaken(book: &[u8], path: &[u8], first: u16, links: &[u16], places:
     0 < path.len() && 0 < find_in_chain(book, path, first, links, places)
 }
 
-// The number of the first line with this path in the chain that begins with number `first`, or 0.
+// The number of the first line with this path in the chain that begins with number `first`, or 0. It is
+// put into both callers: as a call it costs a fifth of a compaction of short paths (docs/LOOK-BACK.md).
+#[inline(always)]
 fn find_in_chain(book: &[u8], path: &[u8], first: u16, links: &[u16], places: &[u16]) -> usize
     requires { (first ≤ length links.now) × (length links.now ≡ length places.now) × ((k : ℕ) → k < first → get_or links.now k 0 ≤ k) }
     ensures { result ≡ number_in book.now links.now places.now path.now first first }

@@ -24,9 +24,11 @@ pub trait Field {
 }
 
 // In a header a field is a signed number, so `-5` is one.
+#[derive(Clone, Copy)]
 pub struct Signed;
 
 // In a raw date it is an unsigned 8-bit number, so `+5` is one and `-5` is not.
+#[derive(Clone, Copy)]
 pub struct Byte;
 
 impl Field for Signed {

@@ -7,19 +7,17 @@ use mathlib.Core.Bool.{Bool, true, false, ◌&&◌, ◌||◌, false≢true}
 use mathlib.Core.List.{List, [], ◌∷◌}
 use Prim.Native.Nat.{ℕ, ◌≤◌, ◌<◌}
 use native.Mathlib.Nat.{not-suc-le-zero}
-use native.Mathlib.Omega.{arith}
-use borrow.Author.Tests.{le-leb, lt-leb, lt-ltb, eqb-true}
+use borrow.Author.Tests.{le-leb, lt-ltb, eqb-true}
 use lib.Dec.{eqb}
 use lib.ListN.{length}
-use Rattle.text.specs.Bytes.{is_space, is_alphanumeric, lower_of, ascii, same_letters}
+use Rattle.text.specs.Bytes.{is_alphanumeric, lower_of, ascii, same_letters}
 use Rattle.text.specs.Quote.{bytes}
 use Rattle.text.specs.Trim.{trim}
 use Rattle.text.specs.Words.{pieces, full, words}
 use Rattle.text.specs.Places.{no}
 use Rattle.text.proofs.Lists.{by_test, both}
-use Rattle.text.proofs.Digits.{space_range}
 use Rattle.text.proofs.LowerCase.{is_alphanumeric-lower_of}
-use Rattle.text.proofs.Trimming.{words_trim}
+use Rattle.text.proofs.Trimming.{words_trim_by_marks}
 use Rattle.relative.specs.Words.{words_of}
 use Rattle.relative.specs.Pairs.{pairs_from, pairs_of, known, ago_in}
 use Rattle.relative.specs.Relative.{from, named_of, by_pairs, relative_of}
@@ -51,18 +49,11 @@ same-one (x ∷ s) (y ∷ t) e h =
     let w : is_alphanumeric x ≡ true = sym (is_alphanumeric-lower_of x) ∙ ap is_alphanumeric (eqb-true _ _ k.0) ∙ is_alphanumeric-lower_of y ∙ j.0 in
     rw w (same-one s t k.1 j.1)
 
--- white space is neither
-is_space-separates : (b : ℕ) → is_space b ≡ true → no is_alphanumeric b ≡ true
-unfolding is_alphanumeric
-is_space-separates b h =
-    let l : b < 48 = omega (arith, space_range b h) in
-    rw (lt-leb 48 b l, lt-leb 65 b (omega arith), lt-leb 97 b (omega arith))
-
 not-same_of_pair : (s t : List ℕ) → one t ≡ true → 0 < length (pairs_of s) → same_letters (trim s) t ≡ false
 unfolding words_of
 not-same_of_pair s t o h =
     by_test (same_letters (trim s) t)
-    (λ e. absurd (not-suc-le-zero (rw (← words_trim (no is_alphanumeric) is_space-separates s, no_pair (trim s) (same-one (trim s) t e o)) at h)))
+    (λ e. absurd (not-suc-le-zero (rw (← words_trim_by_marks s, no_pair (trim s) (same-one (trim s) t e o)) at h)))
     (λ e. e)
 
 pub named_of_of_pair : (s : List ℕ) → 0 < length (pairs_of s) → named_of s ≡ None

@@ -12,12 +12,15 @@ const FIRST_PATH_BYTE: u8 = b' ';
 const LAST_PATH_BYTE: u8 = b'~';
 
 // The bytes of a path: 32 to 126.
+#[derive(Clone, Copy)]
 pub struct Path;
 
 // The bytes of a key: lower-case hexadecimal digits.
+#[derive(Clone, Copy)]
 pub struct Hex;
 
 // The bytes of the text in a `since` line: any but tab and newline.
+#[derive(Clone, Copy)]
 pub struct Text;
 
 impl Class for Path {

@@ -12,9 +12,9 @@
 // std closes a file where it is dropped, and does not say how that went. The bytes of a new file are on
 // the device by then; for a device or a pipe, a close that fails is not noticed.
 ghost use Rattle.std.specs.Prelude.{◌≤◌, length};
-ghost use Rattle.std.specs.Result.{IfOk};
+ghost use Rattle.std.specs.Result.{IfOk, IfErr};
 
-use crate::{Reported, Tool};
+use crate::{Reported, Tool, Unread};
 use std::fs::{File, Metadata, OpenOptions, Permissions};
 use std::io::ErrorKind;
 use std::os::unix::fs::{MetadataExt, OpenOptionsExt, PermissionsExt, fchown};
@@ -64,8 +64,9 @@ enum Kind {
 impl<'a> Tool<'a> {
     // Reads a file that `replace_file` can replace, to its end or until `room` is full, and returns how
     // many bytes were read. What is not a regular file is refused, and so is a symbolic link.
-    pub fn read_regular(&self, path: &[u8], room: &mut [u8]) -> Result<usize, Reported>
-        ensures { IfOk result (λ n. n ≤ length room.new) }
+    pub fn read_regular(&self, path: &[u8], room: &mut [u8]) -> Result<usize, Unread>
+        ensures read { IfOk result (λ n. n ≤ length room.new) }
+        ensures unread { IfErr result (λ e. e.length ≤ length room.new) }
     {
         let text = self.text_of(path)?;
         let mut file = fs::open(self.rt, text).map_err(|error| self.fail(path, &error))?;

@@ -11,7 +11,7 @@ pub mod files;
 
 ghost use Rattle.std.specs.Prelude.{◌≤◌, ◌≡◌, length};
 ghost use Rattle.std.specs.Option.{IfSome};
-ghost use Rattle.std.specs.Result.{IfOk};
+ghost use Rattle.std.specs.Result.{IfOk, IfErr};
 ghost use Rattle.streams.specs.Names.{name_of, is_standard, is_option, is_common_option};
 
 use std::env::FillError;
@@ -31,9 +31,32 @@ const REASON: usize = 256;
 // programs: but for the name of a new file, nothing is on the heap.
 pub const MAX_ARGUMENT: usize = 4096;
 
+// The longest message of a program about its arguments: its name and its words, and one argument.
+const MAX_MESSAGE: usize = MAX_ARGUMENT + 256;
+
 // A failure whose message is on standard error already.
 #[derive(Clone, Copy)]
 pub struct Reported;
+
+// A read that failed, which is reported too: how many bytes were at the front of the room by then.
+#[derive(Clone, Copy)]
+pub struct Unread {
+    pub length: usize,
+}
+
+impl From<Unread> for Reported {
+    fn from(_: Unread) -> Reported {
+        Reported
+    }
+}
+
+impl From<Reported> for Unread {
+    ghost from_gives = { λ _ u. u.length ≡ 0 };
+
+    fn from(_: Reported) -> Unread {
+        Unread { length: 0 }
+    }
+}
 
 // A program: the runtime that it runs by, and its name, which a message opens with.
 #[derive(Clone, Copy)]
@@ -109,8 +132,9 @@ impl<'a> Tool<'a> {
 
     // Reads a file to its end, or until `room` is full, and returns how many bytes were read: they are
     // at the front of `room`.
-    pub fn read_file(&self, path: &[u8], room: &mut [u8]) -> Result<usize, Reported>
-        ensures { IfOk result (λ n. n ≤ length room.new) }
+    pub fn read_file(&self, path: &[u8], room: &mut [u8]) -> Result<usize, Unread>
+        ensures read { IfOk result (λ n. n ≤ length room.new) }
+        ensures unread { IfErr result (λ e. e.length ≤ length room.new) }
     {
         let text = self.text_of(path)?;
         let mut file = fs::open(self.rt, text).map_err(|error| self.fail(path, &error))?;
@@ -118,16 +142,18 @@ impl<'a> Tool<'a> {
     }
 
     // Reads standard input in the same way.
-    pub fn read_input(&self, room: &mut [u8]) -> Result<usize, Reported>
-        ensures { IfOk result (λ n. n ≤ length room.new) }
+    pub fn read_input(&self, room: &mut [u8]) -> Result<usize, Unread>
+        ensures read { IfOk result (λ n. n ≤ length room.new) }
+        ensures unread { IfErr result (λ e. e.length ≤ length room.new) }
     {
         let mut input = self.rt.stdin();
         self.read_whole(b"standard input", &mut input, room)
     }
 
     // Reads a file in the same way, or standard input if the path is `-`.
-    pub fn read(&self, path: &[u8], room: &mut [u8]) -> Result<usize, Reported>
-        ensures { IfOk result (λ n. n ≤ length room.new) }
+    pub fn read(&self, path: &[u8], room: &mut [u8]) -> Result<usize, Unread>
+        ensures read { IfOk result (λ n. n ≤ length room.new) }
+        ensures unread { IfErr result (λ e. e.length ≤ length room.new) }
     {
         if is_standard(path) {
             self.read_input(room)
@@ -153,21 +179,23 @@ impl<'a> Tool<'a> {
         name: &[u8],
         input: &mut I,
         room: &mut [u8],
-    ) -> Result<usize, Reported>
-        ensures { IfOk result (λ n. n ≤ length room.new) }
+    ) -> Result<usize, Unread>
+        ensures read { IfOk result (λ n. n ≤ length room.new) }
+        ensures unread { IfErr result (λ e. e.length ≤ length room.new) }
     {
         let mut held: usize = 0;
         for _ in 0..u64::MAX {
             if room.len() <= held {
                 return Ok(held);
             }
-            match self.read_part(name, input, &mut room[held..])? {
-                Some(0) => return Ok(held),
-                Some(n) => held += n,
-                None => {}
+            match self.read_part(name, input, &mut room[held..]) {
+                Ok(Some(0)) => return Ok(held),
+                Ok(Some(n)) => held += n,
+                Ok(None) => {}
+                Err(Reported) => return Err(Unread { length: held }),
             }
         }
-        Err(Reported)
+        Err(Unread { length: held })
     }
 
     // Makes one read of what `name` names; `None` if it has to be made again.
@@ -269,27 +297,19 @@ impl<'a> Tool<'a> {
 
     // Writes `PROGRAM: what; try --help`: what is wrong with the arguments.
     pub fn complain(&self, what: &[u8]) -> Reported {
-        self.say_name();
-        self.say(what);
-        self.say(b"; try --help\n");
+        self.say_line(&[what, b"; try --help\n"]);
         Reported
     }
 
     // Writes `PROGRAM: what 'WORD'; try --help`: what is wrong with one argument.
     pub fn complain_of(&self, what: &[u8], word: &[u8]) -> Reported {
-        self.say_name();
-        self.say(what);
-        self.say(b" '");
-        self.say(word);
-        self.say(b"'; try --help\n");
+        self.say_line(&[what, b" '", word, b"'; try --help\n"]);
         Reported
     }
 
     // Writes `PROGRAM: what`: why the program stops.
     pub fn report(&self, what: &[u8]) -> Reported {
-        self.say_name();
-        self.say(what);
-        self.say(b"\n");
+        self.say_line(&[what, b"\n"]);
         Reported
     }
 
@@ -327,8 +347,20 @@ impl<'a> Tool<'a> {
 
     // Writes the start of a message: the program's name, a colon and a blank.
     pub fn say_name(&self) {
-        self.say(self.name);
-        self.say(b": ");
+        self.say_line(&[]);
+    }
+
+    // Writes the start of a message and these parts, in one write, so that what another program writes to
+    // the same place does not come between them.
+    fn say_line(&self, parts: &[&[u8]]) {
+        let mut line = Cursor::new([0u8; MAX_MESSAGE]);
+        let _ = line.write_all(self.name);
+        let _ = line.write_all(b": ");
+        for part in parts {
+            let _ = line.write_all(part);
+        }
+        let n = line.position() as usize;
+        self.say(places::up_to(line.get_ref(), n));
     }
 
     // Writes the end of a message: a colon and the reason of a failure.

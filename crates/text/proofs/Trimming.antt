@@ -5,14 +5,16 @@
 use mathlib.Core.Path.{◌≡◌, refl, sym, ap, ◌∙◌}
 use mathlib.Core.Bool.{Bool, true, false, cond}
 use mathlib.Core.List.{List, [], ◌∷◌, ◌++◌, reverse, reverse-append, reverse-cons, reverse-reverse}
-use Prim.Native.Nat.{ℕ, ◌≤◌}
+use Prim.Native.Nat.{ℕ, ◌≤◌, ◌<◌}
 use native.Mathlib.Nat.{le_refl, zero-add}
 use native.Mathlib.Omega.{arith}
+use borrow.Author.Tests.{lt-leb}
 use lib.ListN.{length, drop}
-use Rattle.text.specs.Bytes.{is_space}
-use Rattle.text.specs.Places.{run, past}
+use Rattle.text.specs.Bytes.{is_space, is_alphanumeric}
+use Rattle.text.specs.Places.{no, run, past}
 use Rattle.text.specs.Trim.{trim_start, trim_end, trim}
 use Rattle.text.specs.Words.{words}
+use Rattle.text.proofs.Digits.{space_range}
 use Rattle.text.proofs.Taking.{words-cons-separator, words-snoc-separator}
 use Rattle.text.proofs.Lists.{by_test}
 
@@ -94,3 +96,16 @@ module _ (p : ℕ → Bool) (spaces : (b : ℕ) → is_space b ≡ true → p b 
   pub words_trim : (s : List ℕ) → words p (trim s) ≡ words p s
   unfolding trim trim_end
   words_trim s = words-reverse-trim_start (reverse (trim_start s)) ∙ ap (words p) (reverse-reverse (trim_start s)) ∙ words-trim_start s
+
+-- the two classes that separate words are such: white space, and what is no letter or digit
+pub is_space-separates : (b : ℕ) → is_space b ≡ true → no is_alphanumeric b ≡ true
+unfolding is_alphanumeric
+is_space-separates b h =
+    let l : b < 48 = omega (arith, space_range b h) in
+    rw (lt-leb 48 b l, lt-leb 65 b (omega arith), lt-leb 97 b (omega arith))
+
+pub words_trim_by_space : (s : List ℕ) → words is_space (trim s) ≡ words is_space s
+words_trim_by_space = words_trim is_space (λ b h. h)
+
+pub words_trim_by_marks : (s : List ℕ) → words (no is_alphanumeric) (trim s) ≡ words (no is_alphanumeric) s
+words_trim_by_marks = words_trim (no is_alphanumeric) is_space-separates

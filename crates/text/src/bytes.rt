@@ -72,9 +72,20 @@ pub fn same(s: &[u8], t: &[u8]) -> bool
     s == t
 }
 
-// Whether two texts are the same but for the case of their letters.
+// Whether two texts are the same but for the case of their letters. It is put into its callers, most of
+// which give it a name: then the compiler turns the name into small letters once, and not at each call
+// (docs/LOOK-BACK.md).
+#[inline(always)]
 pub fn same_ignoring_case(s: &[u8], t: &[u8]) -> bool
     ensures { result ≡ same_letters s.now t.now }
 {
-    s.eq_ignore_ascii_case(t)
+    if s.len() != t.len() {
+        return false;
+    }
+    for i in 0..t.len() {
+        if lower(s[i]) != lower(t[i]) {
+            return false;
+        }
+    }
+    true
 }

@@ -13,9 +13,12 @@ pub fn put_part(part: &[u8], at: usize, room: &mut [u8]) -> usize
     ensures value { result ≡ at + length part.now }
     ensures room_after { room.new ≡ put_at part.now at room.old }
 {
-    let end = at + part.len();
-    room[at..end].copy_from_slice(part);
-    end
+    // No `copy_from_slice`: that is a call of `memmove`, which the archive for C would then need from
+    // outside (docs/LOOK-BACK.md).
+    for i in 0..part.len() {
+        room[at + i] = part[i];
+    }
+    at + part.len()
 }
 
 // Puts a tab and the bytes of `part` from place `at` on, and returns the place past them.

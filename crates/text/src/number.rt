@@ -62,10 +62,10 @@ pub fn signed_number(s: &[u8], width: Width) -> Option<i64>
     ensures { result ≡ fit_signed (half_of width) (signed_of s.now) }
 {
     let read = leading_integer(s, 0, width);
-    if read.end < s.len() {
-        None
-    } else {
-        read.number.ok()
+    // The place is asked for a number alone: then digits that are too large are not passed to find it.
+    match read.number {
+        Ok(_) if s.len() <= read.end => read.number.ok(),
+        _ => None,
     }
 }
 
@@ -74,10 +74,10 @@ pub fn digits(s: &[u8], from: usize, limit: u64) -> Option<u64>
     ensures { result ≡ fit limit (digits_of (drop from s.now)) }
 {
     let read = leading_number(s, from, limit);
-    if read.end < s.len() {
-        None
-    } else {
-        read.number.ok()
+    // The place is asked for a number alone: then digits that are too large are not passed to find it.
+    match read.number {
+        Ok(_) if s.len() <= read.end => read.number.ok(),
+        _ => None,
     }
 }
 

@@ -16,18 +16,23 @@ pub trait Class {
 }
 
 // White space.
+#[derive(Clone, Copy)]
 pub struct Space;
 
 // A digit.
+#[derive(Clone, Copy)]
 pub struct Digit;
 
 // An ASCII letter or digit.
+#[derive(Clone, Copy)]
 pub struct Alphanumeric;
 
 // No white space, no `:`, and ASCII.
+#[derive(Clone, Copy)]
 pub struct Plain;
 
 // Any byte that is not of the class C.
+#[derive(Clone, Copy)]
 pub struct Not<C> {
     pub class: C,
 }
@@ -76,10 +81,12 @@ impl<C: Class> Class for Not<C> {
 pub fn past<C: Class>(s: &[u8], at: usize) -> usize
     ensures { result ≡ past_of C.holds s.now at }
 {
-    for i in at..s.len() {
+    let mut i = at;
+    while i < s.len() {
         if !C::has(s[i]) {
             return i;
         }
+        i += 1;
     }
-    at.max(s.len())
+    i
 }

@@ -1,16 +1,19 @@
 -- `text::number::digits` meets its contract: with a byte after the digits there is no number, and digits up to the end are the
--- whole.
+-- whole. Digits that are no number, or too large, are none of the two ways: then the whole is none either.
 use Rattle.std.specs.Prelude.{None}
-use mathlib.Core.Path.{◌≡◌, ap, ◌∙◌}
+use mathlib.Core.Path.{◌≡◌, sym, ap, ◌∙◌}
 use mathlib.Core.List.{List}
 use Prim.Native.Nat.{ℕ, ◌<◌, ◌≤◌}
 use native.Mathlib.Omega.{arith}
+use borrow.Author.Tests.{ltb-true, ltb-false}
+use lib.Dec.{ltb}
 use lib.ListN.{length, drop, length-drop}
 use lib.Seq.{take_all}
 use Rattle.text.specs.Bytes.{is_digit}
 use Rattle.text.specs.Places.{run, leading, past}
 use Rattle.text.specs.Number.{digits_of, fit}
 use Rattle.std.specs.Result.{result_ok}
+use Rattle.text.proofs.Lists.{by_test}
 use Rattle.text.proofs.Numbers.{digits_of_of_run-lt}
 use Rattle.text.proofs.number.digits.Goals as goal
 
@@ -25,13 +28,21 @@ module _ (s : List ℕ) (from : ℕ) where
       let k : length (drop from s) ≤ run is_digit (drop from s) = omega (arith, length-drop from s) in
       take_all _ _ k
 
-pub returns-then-read-s : goal.returns-then-read-s
+pub returns-in-Ok : goal.returns-in-Ok
 unfolding fit
-returns-then-read-s c = rw (digits_of_of_past-lt _ _ (rw c.leading_number-read.ensures.end_value at c.if-read-s.true))
-
-pub returns-else-read-s : goal.returns-else-read-s
-unfolding fit
-returns-else-read-s c =
+returns-in-Ok c =
     let a = c.args in
     c.ok.ensures.value ∙ ap result_ok c.leading_number-read.ensures.number_value
-    ∙ ap (λ (t : List ℕ). fit a.limit (digits_of t)) (leading-of-past-le _ a.from (rw c.leading_number-read.ensures.end_value at c.if-read-s.false))
+    ∙ ap (λ (t : List ℕ). fit a.limit (digits_of t)) (leading-of-past-le _ a.from (rw c.leading_number-read.ensures.end_value at c.if-s-read.true))
+
+pub returns-in_default : goal.returns-in_default
+unfolding fit
+returns-in_default c = rw (digits_of_of_past-lt _ _ (rw c.leading_number-read.ensures.end_value at c.if-s-read.false))
+
+pub returns-in_default-2 : goal.returns-in_default-2
+unfolding fit
+returns-in_default-2 c =
+    let a = c.args in
+    by_test (ltb (past is_digit a.s.now a.from) (length a.s.now)) (λ t. rw (digits_of_of_past-lt a.s.now a.from (ltb-true _ _ t)))
+    (λ t. sym (ap result_ok c.in_default.is) ∙ ap result_ok c.leading_number-read.ensures.number_value
+    ∙ ap (λ (t : List ℕ). fit a.limit (digits_of t)) (leading-of-past-le _ a.from (ltb-false _ _ t)))

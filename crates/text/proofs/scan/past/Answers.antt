@@ -1,6 +1,6 @@
 -- `text::scan::past` meets its contract. The invariant: the place past the run from i on is the place past the run from `at` on.
 use Rattle.std.proofs.Common.{sym, ◌∙◌}
-use Rattle.text.proofs.Runs.{past_of-true, past_of-false, past_of-max}
+use Rattle.text.proofs.Runs.{past_of-true, past_of-false, past_of-length-le}
 use Rattle.text.proofs.scan.past.Goals as goal
 
 pub loop-i-preserved : goal.loop-i-preserved
@@ -12,4 +12,4 @@ returns-then-not-has g c =
     sym (c.loop-i.invariant ∙ past_of-false _ _ _ c.loop-i-test.true (sym c.has.ensures ∙ c.if-not-has.true))
 
 pub returns : goal.returns
-returns g c = c.max.ensures ∙ past_of-max _ _ _ _ c.loop-i.invariant c.loop-i-test.false c.loop-i.auto.i-end
+returns g c = sym (c.loop-i.invariant ∙ past_of-length-le _ _ _ c.loop-i-test.false)
