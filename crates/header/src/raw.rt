@@ -102,12 +102,15 @@ fn raw_time(rule: Rule, n: Result<i64, NumberError>, p: Option<Fields>) -> Resul
     requires { AllSmall p }
     ensures { result ≡ raw_time (limits_of rule) n p }
 {
-    let z = n.map_err(refusal_of)?;
-    let f = p.ok_or(Refusal::Form)?;
-    if !allows(rule, f) {
-        return Err(Refusal::Form);
+    // One `match`, and no `?`: behind a `?` the answer goes through memory once more, also the bytes of a
+    // time that no field uses, and waits there (docs/LOOK-BACK.md).
+    match n {
+        Ok(z) => match p {
+            Some(f) if allows(rule, f) => Ok(offset::read_time(z, f)),
+            _ => Err(Refusal::Form),
+        },
+        Err(e) => Err(refusal_of(e)),
     }
-    Ok(offset::read_time(z, f))
 }
 
 // Rule 1: hours are at most 14, and minutes are 0, 15, 30 or 45. Rule 2: hours are below 24, and
