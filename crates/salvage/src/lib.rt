@@ -21,7 +21,7 @@ use time::Refusal;
 pub const REPORT_PER_BYTE: usize = 8;
 
 // What a salvage wrote: how many bytes to the room and to the report, and the number, from 1, of the last
-// bad line. It is 0 if there is none, as the definition `last_bad` says and as C is told.
+// bad line. If no line is bad the number is 0: the definition `last_bad` has 0 then, and C gets it.
 #[derive(Clone, Copy)]
 pub struct Salvaged {
     pub length: usize,
