@@ -11,8 +11,9 @@ pub mod files;
 
 ghost use Rattle.std.specs.Prelude.{◌≤◌, ◌≡◌, length};
 ghost use Rattle.std.specs.Option.{IfSome};
-ghost use Rattle.std.specs.Result.{IfOk, IfErr};
-ghost use Rattle.streams.specs.Names.{name_of, is_standard, is_option, is_common_option};
+ghost use Rattle.std.specs.Result.{IfOk, IfErr, OnOk};
+ghost use Rattle.std.specs.Io.KnownBytes.{Appends};
+ghost use Rattle.streams.specs.Names.{name_of, is_standard, is_option, is_common_option, message_of};
 
 use std::env::FillError;
 use std::io::{Cursor, ErrorKind, Read, Write};
@@ -350,17 +351,35 @@ impl<'a> Tool<'a> {
         self.say_line(&[]);
     }
 
-    // Writes the start of a message and these parts, in one write, so that what another program writes to
-    // the same place does not come between them.
+    // Writes the start of a message and these parts to standard error.
     fn say_line(&self, parts: &[&[u8]]) {
+        let _ = self.put_message(&mut io::writer(&self.rt.stderr()), parts);
+    }
+
+    // Writes the start of a message and these parts to `out`, in one write, so that what another program
+    // writes to the same place does not come between them. A message that is longer than the room for it is
+    // written part by part.
+    fn put_message<O: Write>(&self, out: &mut O, parts: &[&[u8]]) -> io::Result<()> {
         let mut line = Cursor::new([0u8; MAX_MESSAGE]);
-        let _ = line.write_all(self.name);
-        let _ = line.write_all(b": ");
-        for part in parts {
-            let _ = line.write_all(part);
+        if self.put_parts(&mut line, parts).is_ok() {
+            let n = line.position() as usize;
+            out.write_all(places::up_to(line.get_ref(), n))
+        } else {
+            self.put_parts(out, parts)
         }
-        let n = line.position() as usize;
-        self.say(places::up_to(line.get_ref(), n));
+    }
+
+    // Writes the start of a message and these parts to `out`, each in its turn. It is an error if `out` does
+    // not take one of them whole.
+    fn put_parts<O: Write>(&self, out: &mut O, parts: &[&[u8]]) -> io::Result<()>
+        ensures { OnOk result (Appends (O.contents out.old) (O.contents out.new) (message_of self.now.name.now parts.now)) }
+    {
+        out.write_all(self.name)?;
+        out.write_all(b": ")?;
+        for part in parts {
+            out.write_all(part)?;
+        }
+        Ok(())
     }
 
     // Writes the end of a message: a colon and the reason of a failure.
@@ -387,5 +406,38 @@ fn system_words(said: &[u8]) -> &[u8] {
     match text.split_once(" (os error ") {
         Some((words, _)) => words.as_bytes(),
         None => said,
+    }
+}
+
+#[cfg(test)]
+mod tests {
+    use super::*;
+
+    // Whether a message of `n` dots and an exclamation mark is written, each byte of it and no other.
+    fn is_written(tool: &Tool, n: usize) -> bool {
+        let dots = [b'.'; MAX_MESSAGE];
+        let dots = places::up_to(&dots, n);
+        let mut out = Cursor::new([0u8; MAX_MESSAGE + 8]);
+        let wrote = tool.put_message(&mut out, &[dots, b"!"]).is_ok();
+        let written = places::up_to(out.get_ref(), out.position() as usize);
+        wrote
+            & (written.len() == dots.len() + 7)
+            & bytes::same(places::up_to(written, 6), b"tool: ")
+            & bytes::same(places::before(places::from(written, 6), b'!'), dots)
+    }
+
+    // Messages that fit in the room for them, the longest among them, and longer ones. And the calls that
+    // write a long one to standard error, of which no test sees the bytes.
+    #[test]
+    fn writes_long_messages(rt: HostRuntime) {
+        let tool = Tool::new(&rt, b"tool");
+        for n in [1, MAX_MESSAGE - 7, MAX_MESSAGE - 6, MAX_MESSAGE] {
+            assert!(rt; is_written(&tool, n), "at {n}");
+        }
+        let long = [b'.'; MAX_MESSAGE];
+        let Reported = tool.complain(&long);
+        let Reported = tool.complain_of(b"word", &long);
+        let Reported = tool.report(&long);
+        Tool::new(&rt, &long).say_name();
     }
 }

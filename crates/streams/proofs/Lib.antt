@@ -1,0 +1,3 @@
+-- The laws of `streams`. Messages: a message that is put together step by step.
+-- Assumes nothing.
+mod Messages
