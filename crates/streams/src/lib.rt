@@ -1,8 +1,8 @@
 // What the programs share: a whole input read, standard output written, messages on standard error, and
 // arguments. Each program has one `Tool`, made in its `main`.
 //
-// No contract can say which bytes are read or written: what is proved here is that every call is safe
-// and ends. A read or a write that a signal interrupts is made again, and so is one on a descriptor
+// No contract can say which bytes the system reads or writes: what is proved here is that every call is
+// safe and ends. A read or a write that a signal interrupts is made again, and so is one on a descriptor
 // that does not block and is not ready. The programs end with the exit status 0, and every failure is
 // reported by a message.
 #![tactic(auto)]
@@ -32,7 +32,8 @@ const REASON: usize = 256;
 // programs: but for the name of a new file, nothing is on the heap.
 pub const MAX_ARGUMENT: usize = 4096;
 
-// The longest message of a program about its arguments: its name and its words, and one argument.
+// Room for a message that is written at once. No message of a program about its arguments is longer: its
+// name and its words, and one argument.
 const MAX_MESSAGE: usize = MAX_ARGUMENT + 256;
 
 // A failure whose message is on standard error already.
