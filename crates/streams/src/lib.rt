@@ -414,26 +414,52 @@ fn system_words(said: &[u8]) -> &[u8] {
 mod tests {
     use super::*;
 
-    // Whether a message of `n` dots and an exclamation mark is written, each byte of it and no other.
-    fn is_written(tool: &Tool, n: usize) -> bool {
+    // What was written, and by how many writes.
+    #[derive(Drop)]
+    struct Writes {
+        bytes: Cursor<[u8; MAX_MESSAGE + 8]>,
+        number: usize,
+    }
+
+    impl Write for Writes {
+        fn write(&mut self, buf: &[u8]) -> io::Result<usize> {
+            self.number = self.number.saturating_add(1);
+            self.bytes.write(buf)
+        }
+
+        fn flush(&mut self) -> io::Result<()> {
+            Ok(())
+        }
+    }
+
+    // Whether a message of `n` dots and an exclamation mark is written by so many writes, each byte of it
+    // and no other.
+    fn is_written(tool: &Tool, n: usize, writes: usize) -> bool {
         let dots = [b'.'; MAX_MESSAGE];
         let dots = places::up_to(&dots, n);
-        let mut out = Cursor::new([0u8; MAX_MESSAGE + 8]);
+        let mut out = Writes {
+            bytes: Cursor::new([0u8; MAX_MESSAGE + 8]),
+            number: 0,
+        };
         let wrote = tool.put_message(&mut out, &[dots, b"!"]).is_ok();
-        let written = places::up_to(out.get_ref(), out.position() as usize);
+        let written = places::up_to(out.bytes.get_ref(), out.bytes.position() as usize);
         wrote
+            & (out.number == writes)
             & (written.len() == dots.len() + 7)
             & bytes::same(places::up_to(written, 6), b"tool: ")
             & bytes::same(places::before(places::from(written, 6), b'!'), dots)
     }
 
-    // Messages that fit in the room for them, the longest among them, and longer ones. And the calls that
-    // write a long one to standard error, of which no test sees the bytes.
+    // Messages that fit in the room for them, the longest among them, are one write, and longer ones one for
+    // each part. And the calls that write a long one to standard error, of which no test sees the bytes.
     #[test]
     fn writes_long_messages(rt: HostRuntime) {
         let tool = Tool::new(&rt, b"tool");
-        for n in [1, MAX_MESSAGE - 7, MAX_MESSAGE - 6, MAX_MESSAGE] {
-            assert!(rt; is_written(&tool, n), "at {n}");
+        for n in [1, MAX_MESSAGE - 7] {
+            assert!(rt; is_written(&tool, n, 1), "at {n}");
+        }
+        for n in [MAX_MESSAGE - 6, MAX_MESSAGE] {
+            assert!(rt; is_written(&tool, n, 4), "at {n}");
         }
         let long = [b'.'; MAX_MESSAGE];
         let Reported = tool.complain(&long);

@@ -136,8 +136,8 @@ fn read_up_to(from: usize, end: usize, v: u64) -> Leading
     Leading { number, end }
 }
 
-// The number that an optional sign and the digits after it are, the place past them, and whether
-// the sign is there. `signed` is told also where there is no number, so it is no part of the Result
+// The number that an optional sign and the digits after it are, the place past them, and whether the
+// sign is there. A text may have a sign and no number, so `signed` stands beside the Result and not in it
 // (`LeadsWith`).
 #[derive(Clone, Copy)]
 pub struct LeadingInteger {

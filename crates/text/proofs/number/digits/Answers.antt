@@ -1,5 +1,5 @@
--- `text::number::digits` meets its contract: with a byte after the digits there is no number, and digits up to the end are the
--- whole. Digits that are no number, or too large, are none of the two ways: then the whole is none either.
+-- `text::number::digits` meets its contract. Digits up to the end of the text are the whole of it; with a byte after them the whole is
+-- no number. Where the digits are no number, or one that is too large, the whole is no number either.
 use Rattle.std.specs.Prelude.{None}
 use mathlib.Core.Path.{◌≡◌, sym, ap, ◌∙◌}
 use mathlib.Core.List.{List}

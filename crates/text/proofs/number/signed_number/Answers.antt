@@ -1,5 +1,5 @@
--- `text::number::signed_number` meets its contract: with a byte after sign and digits there is no number, and sign and digits up
--- to the end are the whole. Where these are no number, or one that is too large, the whole is none either.
+-- `text::number::signed_number` meets its contract. Sign and digits up to the end of the text are the whole of it; with a byte after
+-- them the whole is no number. Where they are no number, or one that is too large, the whole is no number either.
 use mathlib.Core.Path.{sym, ap, ◌∙◌}
 use mathlib.Core.List.{List}
 use Prim.Native.Nat.{ℕ, ◌≤◌, ◌<◌}
